@@ -1,13 +1,43 @@
 -- The wire as contracts see it.
-use Rattle.std.specs.Prelude.{ℕ, Option, None}
-use Rattle.wires.specs.Wire.{Told}
+use Rattle.std.specs.Prelude.{ℕ, Bool, List, [], Option, Some, None, Result, Ok, Err, map}
+use Rattle.std.specs.declared.alloc.AllocError.{AllocError}
+use Rattle.step_values.specs.declared.action.Action.{Action}
+use Rattle.step_values.specs.Values.{action_of}
+use Rattle.wires.specs.declared.wire.Arrival.{Arrival as OwnedArrival}
+use Rattle.wires.specs.declared.wire.Arrival.TheVariants.{Nothing}
+use Rattle.wires.specs.Wire.{Arrival, Put, Told, ◌then◌, arrival_of, arrived}
 
--- The number of faults that it counted, and the time, in ms, for which a question on a connection
--- may wait for its reply.
+-- The arrivals, puts, moments and words that it gave and took so far; the number of faults that it
+-- counted; and the time, in ms, for which a question on a connection may wait for its reply.
 pub record SeenWire : Type 0 where
+  pub told : Told
   pub faults : ℕ
   pub deadline : ℕ
 
--- the report of a wire over sockets: none, so no run over it claims anything of what came and went
-abbrev pub told_of_sockets : Option Told
-told_of_sockets = None
+-- the arrival that a turn gave, unless memory for it ran out
+abbrev pub came_of : {A : Type 0} → Result (OwnedArrival A) AllocError → Option Arrival
+came_of (Ok arrival) = Some (arrival_of arrival)
+came_of (Err refusal) = None
+
+-- the report after a turn's first try: as before where nothing came, since the wire tries once more
+abbrev pub told_at_once : {A : Type 0} → Told → Result (OwnedArrival A) AllocError → Told
+told_at_once told (Ok Nothing) = told
+told_at_once told came = told then arrived (came_of came)
+
+-- an action that was put, and whether it was done, as plain values
+abbrev pub put_of : {A : Type 0} → Action A × Bool → Put
+put_of put = record { action = action_of put.0; sent = put.1 }
+
+-- the report of these calls
+abbrev pub report_of : {A : Type 0} → List (Result (OwnedArrival A) AllocError × Unit {0}) → List (Action A × Bool)
+    → List (List ℕ × Unit {0}) → Told
+report_of arrivals puts words = record {
+  arrivals = map (λ call. came_of call.0) arrivals;
+  puts = map put_of puts;
+  moments = [];
+  words = map (λ call. call.0) words;
+}
+
+-- the report with the moments that were given
+abbrev pub with_moments : Told → List (ℕ × Unit {0}) → Told
+with_moments told given = record told { moments = map (λ call. call.0) given }

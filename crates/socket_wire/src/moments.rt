@@ -1,8 +1,9 @@
 //! Moments that never fall.
 
-ghost use Rattle.std.specs.Prelude.{◌≡◌, ◌≤◌, max, true, false, IfOk, OnErr};
+ghost use Rattle.std.specs.Prelude.{◌≡◌, ◌≤◌, ◌∷◌, ◌++◌, [], max, true, false, IfOk, OnErr};
 ghost use Rattle.socket_wire.specs.Moments.{moment_of};
 
+use call_log::CallLog;
 use std::io;
 use std::rt::Clock;
 use std::time::{Duration, Instant};
@@ -17,6 +18,8 @@ pub(crate) struct Moments<'a, R: Clock> {
     pub last: u64,
     /// Whether the last moment is returned again.
     is_read: bool,
+    /// The moments that were given to steps, for proofs alone.
+    given: CallLog<u64, ()>,
 }
 
 /// Returns the whole ms of a time, at most 2^64 - 1.
@@ -29,14 +32,26 @@ fn moment_of(spent: Duration) -> u64
 impl<'a, R: Clock> Moments<'a, R> {
     /// Starts with no moment returned yet. `Err` where the clock fails.
     pub fn new(rt: &'a R) -> io::Result<Moments<'a, R>>
-        ensures { IfOk result (λ moments. moments.last ≡ 0) }
+        ensures { IfOk result (λ moments. (moments.last ≡ 0) × (moments.given.calls ≡ [])) }
     {
         Ok(Moments {
             rt,
             started: Instant::now(rt)?,
             last: 0,
             is_read: false,
+            given: CallLog::new(),
         })
+    }
+
+    /// Gives a step its moment, in ms, and notes it.
+    pub fn give(&mut self) -> u64
+        ensures told { result ≡ self.new.last }
+        ensures rises { self.old.last ≤ self.new.last }
+        ensures notes { self.new.given.calls ≡ self.old.given.calls ++ (result, tt) ∷ [] }
+    {
+        let now = self.now();
+        self.given = self.given.and(&now, &());
+        now
     }
 
     /// Has the clock read again for the next moment.
@@ -53,6 +68,7 @@ impl<'a, R: Clock> Moments<'a, R> {
         ensures rises { self.old.last ≤ self.new.last }
         ensures once { self.old.is_read ≡ true → self.new ≡ self.old }
         ensures read { self.new.is_read ≡ true }
+        ensures given { self.new.given ≡ self.old.given }
     {
         if self.is_read {
             return self.last;

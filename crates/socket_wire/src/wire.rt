@@ -1,10 +1,11 @@
 //! The wire.
 
-ghost use Rattle.std.specs.Prelude.{◌≡◌, IfOk};
-ghost use Rattle.socket_wire.specs.Seen.{told_of_sockets};
+ghost use Rattle.std.specs.Prelude.{◌≡◌, ◌+◌, Some, IfOk, OnErr, OnOk};
+ghost use Rattle.wires.specs.Wire.{silence};
 
 use crate::answers::kept_if;
 use crate::moments::Moments;
+use crate::noted::Noted;
 use crate::sockets::Sockets;
 use crate::words::Words;
 use plain_values::Octets;
@@ -19,21 +20,25 @@ use suffix_routes::{Limits, Peer};
 use wires::{Arrival, Wire, WireFault};
 
 /// A wire over sockets. It listens at one address by UDP and TCP, asks from a socket of its own for
-/// each ask, and waits for none of them. Contracts see the number of faults it counted, and how
-/// long a question on a connection may wait.
+/// each ask, and waits for none of them. Contracts see what its calls gave and took, the number of
+/// faults it counted, and how long a question on a connection may wait.
 #[derive(Drop)]
 pub struct MioWire<'a, R: Net + Clock, A: Allocator = Global> {
-    sockets: Sockets<'a, R, A>,
+    sockets: Noted<'a, R, A>,
     moments: Moments<'a, R>,
     faults: u64,
 }
 
 impl<'a, R: Net + Clock, A: Allocator> Model for MioWire<'a, R, A> {
-    ghost use Rattle.socket_wire.specs.Seen.{SeenWire};
+    ghost use Rattle.socket_wire.specs.Seen.{SeenWire, with_moments};
 
     ghost Value = { SeenWire };
 
-    ghost view = { λ w. record { faults = w.faults; deadline = w.sockets.deadline } };
+    ghost view = { λ w. record {
+      told = with_moments w.sockets.log w.moments.given.calls;
+      faults = w.faults;
+      deadline = w.sockets.sockets.deadline;
+    } };
 }
 
 impl<'a, R: Net + Clock + RandomSource, A: Allocator + Copy> MioWire<'a, R, A> {
@@ -41,6 +46,7 @@ impl<'a, R: Net + Clock + RandomSource, A: Allocator + Copy> MioWire<'a, R, A> {
     /// connection waits for its reply for as long as the limits let it. `Err` where the system
     /// refuses, gives no random octets or no time, or memory ran out.
     pub fn new(rt: &'a R, alloc: A, listen: Peer, limits: &Limits) -> io::Result<MioWire<'a, R, A>>
+        ensures told { IfOk result (λ wire. wire.told ≡ silence) }
         ensures faults { IfOk result (λ wire. wire.faults ≡ 0) }
         ensures deadline { IfOk result (λ wire. wire.deadline ≡ limits.now.deadline_ms) }
     {
@@ -48,7 +54,7 @@ impl<'a, R: Net + Clock + RandomSource, A: Allocator + Copy> MioWire<'a, R, A> {
         let filled = rt.fill_bytes(&mut seed);
         let words = Words::new(kept_if(seed, filled)?);
         Ok(MioWire {
-            sockets: Sockets::new(rt, alloc, listen, limits, words)?,
+            sockets: Noted::new(Sockets::new(rt, alloc, listen, limits, words)?),
             moments: Moments::new(rt)?,
             faults: 0,
         })
@@ -56,23 +62,18 @@ impl<'a, R: Net + Clock + RandomSource, A: Allocator + Copy> MioWire<'a, R, A> {
 }
 
 impl<R: Net + Clock, A: Allocator + Copy> Wire<A> for MioWire<'_, R, A> {
-    ghost told = { λ _. told_of_sockets };
+    ghost told = { λ wire. Some wire.told };
 
     ghost fault_count = { λ wire. wire.faults };
 
     fn arrival(&mut self) -> Result<Arrival<A>, WireFault> {
         if self.faults == u64::MAX {
+            self.sockets.stay_silent(self.faults);
             return Ok(Arrival::Nothing);
         }
-        self.moments.read_again();
-        let now = self.moments.now();
-        let came = match self.sockets.arrival(now) {
-            Ok(Arrival::Nothing) => {
-                // What came during the wait has the moment after it.
-                self.moments.read_again();
-                let now = self.moments.now();
-                self.sockets.reported(now)
-            }
+        let came = match self.sockets.arrival(&mut self.moments) {
+            // What came during the wait has the moment after it.
+            Ok(Arrival::Nothing) => self.sockets.reported(&mut self.moments),
             came => came,
         };
         match came {
@@ -91,9 +92,10 @@ impl<R: Net + Clock, A: Allocator + Copy> Wire<A> for MioWire<'_, R, A> {
 
     fn put(&mut self, action: &Action<A>) -> Result<(), WireFault> {
         if self.faults == u64::MAX {
+            self.sockets.leave_out(action, self.faults);
             return Ok(());
         }
-        match self.sockets.put(action, self.moments.last) {
+        match self.sockets.put(action, &self.moments) {
             Ok(()) => Ok(()),
             Err(_) => {
                 self.faults += 1;
@@ -103,14 +105,14 @@ impl<R: Net + Clock, A: Allocator + Copy> Wire<A> for MioWire<'_, R, A> {
     }
 
     fn take_back(&mut self, octets: &mut Octets<A>)
-        ensures tells { told_of_sockets ≡ told_of_sockets }
+        ensures tells { Some self.new.told ≡ Some self.old.told }
         ensures faults { self.new.faults ≡ self.old.faults }
     {
         self.sockets.take_back(octets);
     }
 
     fn moment(&mut self) -> u64 {
-        self.moments.now()
+        self.moments.give()
     }
 
     fn words(&mut self) -> [u32; 8] {
