@@ -2,12 +2,13 @@
 import os
 import pathlib
 import re
+import shutil
 import signal
 import subprocess
 import tempfile
 
 from .messages import expect
-from .running import MAIN, TOP, Forwarder, Server, case, run_of
+from .running import MAIN, TOP, Forwarder, NotHere, Server, case, free_port, run_of
 
 # Why the reader of TOML stops where there is no value.
 NO_VALUE = "invalid value, expected a string, number, boolean, date-time, array or inline table"
@@ -236,6 +237,44 @@ def statuses_where_a_standard_stream_fails(program):
                     expect((words, run_of(program, *words, **more, **broken)[2]), (words, status))
                 for broken in ({"out": full}, {"out": None, "closed": 1}):
                     expect((words, *run_of(program, *words, **more, **broken)[1:]), (words, *(instead or (errors, status))))
+
+
+def interrupted(program, words, given, interrupted_file=None):
+    """A run's standard output and standard error, and its status, if a signal interrupts each second
+    read or write of its standard streams and of a file."""
+    with tempfile.NamedTemporaryFile() as standard_input, tempfile.NamedTemporaryFile() as output:
+        standard_input.write(given)
+        standard_input.flush()
+        files = [standard_input.name, output.name] + ([interrupted_file] if interrupted_file else [])
+        paths = [word for file in files for word in ("-P", file)]
+        calls = ["-e", "trace=read,write", "-e", "inject=read,write:error=EINTR:when=1+2"]
+        with open(standard_input.name, "rb") as read:
+            ended = subprocess.run(
+                ["strace", "-qq", "-o", os.devnull, *paths, *calls, program, *words], stdin=read, stdout=output,
+                stderr=subprocess.PIPE)
+        return pathlib.Path(output.name).read_bytes(), ended.stderr, ended.returncode
+
+
+@case
+def commands_that_signals_interrupt(program):
+    """A configuration, a script and what is printed are read and written to their ends."""
+    if not shutil.which("strace"):
+        raise NotHere("it wants strace")
+    said = interrupted("true", [], b"")[1]
+    if said:
+        raise NotHere(said.decode().strip())
+    office = str(TOP / "examples" / "office.toml")
+    script, printed = (pathlib.Path(MAIN / part).read_bytes() for part in ("stdin", "stdout"))
+    expect(interrupted(program, ["check", office], b"", office), (b"ok 3\n", b"", 0))
+    expect(interrupted(program, ["replay"], script), (printed, b"", 0))
+    with tempfile.NamedTemporaryFile("w") as served, tempfile.NamedTemporaryFile() as large:
+        smallest = (TOP / "examples" / "smallest.toml").read_text()
+        served.write(smallest.replace("version = 1", f'version = 1\nlisten = "127.0.0.1:{free_port()}"'))
+        served.flush()
+        expect(interrupted(program, ["serve", served.name, "1"], b"", served.name), (b"turns 1 lost 0\n", b"", 0))
+        large.truncate(2**24 + 1)
+        said = f"{large.name}: more than 16777216 octets\n".encode()
+        expect(interrupted(program, ["check", large.name], b"", large.name), (said, b"device\n", 5))
 
 
 @case

@@ -10,7 +10,8 @@ use crate::files::Opened;
 use crate::refused::say_refused;
 use crate::saying::{say, say_unread, unopened};
 use crate::serving::serve_config;
-use replay_script::{ReplayFault, config_in, decimal, read_limited, replay_run};
+use crate::wanted_turns::Turns;
+use replay_script::{ReplayFault, config_in, read_limited, replay_run};
 use std::io;
 use std::io::{BufWriter, Write};
 use std::net::Net;
@@ -112,9 +113,9 @@ fn named_config<R: Env + Print + AllocGlobal>(rt: &R) -> Result<Config, ReplayFa
 }
 
 /// The number of turns that the third argument says; `None` where it says none.
-pub fn turns<R: Env>(rt: &R) -> Option<u64> {
+pub fn turns<R: Env>(rt: &R) -> Option<Turns> {
     let mut room = [0u8; MOST_DIGITS];
-    decimal(text(rt, 3, &mut room)?)
+    Turns::of(text(rt, 3, &mut room)?)
 }
 
 /// Serves as many turns as the third argument says by the configuration that the second one names,

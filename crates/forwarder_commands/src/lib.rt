@@ -10,8 +10,10 @@ mod files;
 mod refused;
 mod saying;
 mod serving;
+mod wanted_turns;
 
 pub use arguments::{LONGEST, argument, count, text};
 pub use commands::{Command, command_of, load, run, turns};
 pub use fault::Fault;
 pub use serving::serve_config;
+pub use wanted_turns::Turns;

@@ -6,10 +6,12 @@ ghost use Rattle.wires.specs.Wire.{telling};
 ghost use Rattle.replay_script.specs.Configs.{IsOfStream};
 ghost use Rattle.forwarder_commands.specs.Commands.{IsFaultOfStream};
 ghost use Rattle.forwarder_commands.specs.Service.{IsWireOf, ServesAndTells, ServesFrom, StopsServing};
+ghost use Rattle.forwarder_commands.specs.Service.{telling_of};
 
 use crate::counted::Counted;
 use crate::fault::Fault;
 use crate::saying::unlistened;
+use crate::wanted_turns::Turns;
 use forwarder_core::Forwarder;
 use replay_script::ReplayFault;
 use serving_loop::serve;
@@ -85,7 +87,8 @@ where
     Ok(())
 }
 
-/// The same over a wire and with a forwarder that are of one configuration.
+/// Serves `turns` turns over sockets with a forwarder of one configuration with its wire. What the
+/// wire gave from then on is what the turns took, and what they put is what it was asked to do.
 fn serve_as_one<R: Net + Clock, A: Allocator + Copy, T: Write>(
     alloc: A,
     wire: &mut MioWire<'_, R, A>,
@@ -94,31 +97,35 @@ fn serve_as_one<R: Net + Clock, A: Allocator + Copy, T: Write>(
     writer: &mut T,
 ) -> Result<(), Fault>
     requires { wire.old.deadline ≡ forwarder.old.config.limits.deadline_ms }
-    ensures serves { OnOk result (ServesFrom forwarder.old turns (T.contents writer.old) (T.contents writer.new)) }
+    ensures stops { IfErr result (StopsServing forwarder.old (telling_of wire.old) turns forwarder.new
+        (telling_of wire.new) (T.contents writer.old) (T.contents writer.new)) }
+    ensures serves { OnOk result (ServesAndTells forwarder.old (telling_of wire.old) turns forwarder.new
+        (telling_of wire.new) (T.contents writer.old) (T.contents writer.new)) }
     ensures fault { IfErr result IsFaultOfStream }
 {
     serve_and_tell(alloc, wire, forwarder, turns, writer)
 }
 
-/// Serves `turns` turns by the configuration, at its address, under its limits, and writes a line
-/// with the counts. `Device` where the address can't be listened at, which standard output says
-/// with the system's reason, or the writer fails; `Memory` where memory ran out.
+/// Serves as many turns as were asked for by the configuration, at its address, under its limits,
+/// and writes a line with the counts. `Device` where the address can't be listened at, which
+/// standard output says with the system's reason, or the writer fails; `Memory` where memory ran
+/// out.
 pub fn serve_config<R, A, T>(
     rt: &R,
     alloc: A,
     config: Config<A>,
-    turns: u64,
+    turns: Turns,
     writer: &mut T,
 ) -> Result<(), Fault>
 where
     R: Print + Net + Clock + RandomSource,
     A: Allocator + Copy,
     T: Write,
-    ensures serves { OnOk result (ServesFrom (record { config = config; state = start config }) turns
+    ensures serves { OnOk result (ServesFrom (record { config = config; state = start config }) turns.number
         (T.contents writer.old) (T.contents writer.new)) }
     ensures fault { IfErr result IsFaultOfStream }
 {
     let mut wire = wire_of(rt, alloc, &config)?;
     let mut forwarder = forwarder_of(rt, alloc, config)?;
-    serve_as_one(alloc, &mut wire, &mut forwarder, turns, writer)
+    serve_as_one(alloc, &mut wire, &mut forwarder, turns.number(), writer)
 }

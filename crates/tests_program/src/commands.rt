@@ -1,7 +1,7 @@
 //! The commands, with arguments, input and output of a test's own.
 
 use crate::faults::{Arguments, CONFIG, COUNTED, PRINTED, SCRIPT, SERVED};
-use forwarder_commands::{Fault, run, turns};
+use forwarder_commands::{Fault, Turns, run, turns};
 use replay_script::ReplayFault;
 use std::alloc::{Allocator, Global};
 use std::cell::Cell;
@@ -214,7 +214,8 @@ const TURNS: [(&[u8], u64); 3] = [
 fn turns_are_read(rt: HostRuntime) {
     for (text, number) in &TURNS {
         let words = [b"forwarder".as_slice(), b"serve", b"absent", text];
-        assert_eq!(rt; turns(&Arguments(&words)), Some(*number));
+        let turns = turns(&Arguments(&words)).map(Turns::number);
+        assert_eq!(rt; turns, Some(*number));
     }
     let missing = [b"forwarder".as_slice(), b"serve", b"absent"];
     assert_eq!(rt; turns(&Arguments(&missing)), None);

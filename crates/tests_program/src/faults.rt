@@ -1,7 +1,7 @@
 //! Tests of what no script can express: readers, writers and files that fail, refused allocations,
 //! statuses and texts.
 
-use forwarder_commands::{Fault, LONGEST, argument, count, load, serve_config, text};
+use forwarder_commands::{Fault, LONGEST, Turns, argument, count, load, serve_config, text};
 use refusing_allocator::Refusing;
 use replay_script::{ReplayFault, read_config, replay_run};
 use std::alloc::{AllocError, Allocator, Global};
@@ -343,9 +343,12 @@ fn served_with(rt: &HostRuntime, heap: &Refusing<Global>, granted: u64) -> Serve
     let Ok(config) = read_config(rt.alloc(), heap, &mut input) else {
         return Served::Other;
     };
+    let Some(turns) = Turns::of("0") else {
+        return Served::Other;
+    };
     let mut printed = Vec::new(rt.alloc());
     heap.allow(granted);
-    let ended = serve_config(rt, heap, config, 0, &mut printed);
+    let ended = serve_config(rt, heap, config, turns, &mut printed);
     heap.allow(u64::MAX);
     served_of(&ended, printed.as_slice() == COUNTED)
 }
