@@ -58,3 +58,13 @@ walk_accepted c s past ask asked route octets m differ matches spells untruncate
   content = carried_exactly.is c m asked route differ;
   not_lame = ends_well (walk_of c m asked route).end fine;
 }
+
+-- and its question is the asked one
+pub walk_accepted-asked : (c : Config) (s : Step) (past : List Step) (ask : ShownAsk) (asked : Question) (route : ℕ)
+    (octets : List ℕ) (m : Message) (differ : AllDiffer c.routes) (matches : Matches c s past ask octets asked)
+    (spells : Spells octets m) (untruncated : m.header.tc ≡ false)
+    (rcode : (m.header.rcode ≡ 0) ⊎ (m.header.rcode ≡ 3)) (on : serving_route_of c asked.name ≡ Some route)
+    (fine : is_lame (walk_of c m asked route).end ≡ false)
+    → (walk_accepted c s past ask asked route octets m differ matches spells untruncated rcode on fine).asked ≡ asked
+unfolding walk_accepted
+walk_accepted-asked c s past ask asked route octets m differ matches spells untruncated rcode on fine = refl

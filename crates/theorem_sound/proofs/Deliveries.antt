@@ -36,7 +36,7 @@ use Rattle.step_history.specs.Causes.{NoneAsks, AcceptsFor}
 use Rattle.step_history.specs.Draws.{drawn}
 use Rattle.step_history.specs.Asked.{IsDrawn}
 use Rattle.step_history.specs.Replies.{failure_text}
-use Rattle.step_history.proofs.CallerLemmas.{moment_small, accepted_fine, accepted_pieces, walk_accepted}
+use Rattle.step_history.proofs.CallerLemmas.{moment_small, accepted_fine, accepted_pieces, walk_accepted, walk_accepted-asked}
 use Rattle.cache_laws.proofs.CallerLemmas.{serves_exactly}
 use Rattle.step_table.specs.State.{State, turn}
 use Rattle.waiting_questions.specs.Values.{Waiting, waits_for}
@@ -244,10 +244,15 @@ module _ (c : Config) (past : List Step) (w : List (List ℕ)) (s : State) (x : 
           (λ (e : ((header_in octets).rcode == 3) ≡ true). inr (ap (λ (h : Header). h.rcode) (sym header_is) ∙ eqb-true (header_in octets).rcode 3 e))
           (or_cases ((header_in octets).rcode == 0) ((header_in octets).rcode == 3) parts.2)
 
-      accepts : (actions : List Action) → Accepts c (told actions) past walk.pieces walk.authority
+      abbrev accepts : (actions : List Action) → Accepts c (told actions) past walk.pieces walk.authority
       accepts actions = walk_accepted c (told actions) past (shown a) a.question a.route octets m x.config.differ
           (matches_it live parts.0 actions) spelled (ap (λ (h : Header). h.tc) (sym header_is) ∙ parts.1) rcode
           tried_a.on_route fine
+
+      accepts_asked : (actions : List Action) → (accepts actions).asked ≡ a.question
+      accepts_asked actions = walk_accepted-asked c (told actions) past (shown a) a.question a.route octets m
+          x.config.differ (matches_it live parts.0 actions) spelled (ap (λ (h : Header). h.tc) (sym header_is) ∙ parts.1)
+          rcode tried_a.on_route fine
 
       pub carries : (actions : List Action) → Carries c (told actions) past (walk.pieces ++ walk.authority)
       carries actions = record { pieces = walk.pieces; servers = walk.authority; accepts = accepts actions; are = refl }
@@ -380,7 +385,7 @@ module _ (c : Config) (past : List Step) (w : List (List ℕ)) (s : State) (x : 
             begun true same = inr (record {
               pieces = walk.pieces ++ walk.authority;
               carries = record { pieces = walk.pieces; servers = walk.authority; accepts = accepts (done fate (Some next)); are = refl };
-              same = same;
+              same = subst (λ (z : Question). same_question z q ≡ true) (sym (accepts_asked (done fate (Some next)))) same;
             })
             begun false other = inl (subst (NoneAsks q) x.asks (none_asks c past q s.asks x.tried
                 (other_asks a.path q s.asks a x.asks_are.by_arrival on_own other (none_same q (without_path a.path s.asks) new.new))))
