@@ -33,7 +33,7 @@ FollowsAliases l q (o ∷ os) last =
     (q.kind ≢ 5) × Justified l q.name o × IsOf o.piece q.name q.class (Some 5)
     × (name : List (List ℕ)) × IsAliasTo o.piece name × FollowsAliases l (asked_at q name) os last
 
--- the piece is q's set, its NODATA (RFC 2308 2), or a name error at or above its name (RFC 8020 2)
+-- the piece is q's set, q's NODATA (RFC 2308 2), or a name error at or above q's name (RFC 8020 2)
 abbrev pub EndsChain : Question → Piece → Body → Type 0
 EndsChain q p (rows each) = IsOf p q.name q.class (Some q.kind)
 EndsChain q p (no_data soa) = IsOf p q.name q.class (Some q.kind)
@@ -44,7 +44,7 @@ pub record Leads (l : Look) (q : Question) (aliases : List Held) (last : Questio
   pub few : length aliases ≤ 8
   pub follows : FollowsAliases l q aliases last
 
--- such aliases (`Leads`), and a justified piece that ends them, answer q (RFC 1034 3.6.2)
+-- such aliases (`Leads`), and a justified piece at their end, answer q (RFC 1034 3.6.2)
 pub record Chain (l : Look) (q : Question) (aliases : List Held) (o : Held) : Type 0 where
   pub last : Question
   pub leads : Leads l q aliases last

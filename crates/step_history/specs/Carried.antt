@@ -1,4 +1,4 @@
--- The pieces that an era's replies carried, and those that still count.
+-- The pieces in an era's replies, and the pieces that still count.
 use Rattle.std.specs.Prelude.{◌≡◌, ℕ, ◌+◌, ◌*◌, ◌<◌, true, false, List, [], ◌∷◌, ◌++◌, ◌⊎◌}
 use Rattle.suffix_routes.specs.Values.{Config}
 use Rattle.trust_rank.specs.Values.{Piece}
@@ -9,7 +9,7 @@ use Rattle.cache_laws.specs.Serving.{IsServedBy}
 use Rattle.step_values.specs.Values.{Step}
 use Rattle.step_history.specs.History.{is_restart, moment_at, Look, Carries, NothingAccepted}
 
--- pieces that came at the moment t, put before those that were there, the newest first
+-- pieces from the moment t, put before the older pieces, the newest first
 abbrev pub then_carried : ℕ → List Piece → List Held → List Held
 then_carried t [] os = os
 then_carried t (p ∷ ps) os = then_carried t ps (record { piece = p; accepted = t } ∷ os)
@@ -29,8 +29,8 @@ abbrev pub NotReplaced : Held → List Held → Type 0
 NotReplaced o [] = ⊥
 NotReplaced o (x ∷ os) = (x ≡ o) ⊎ ((Replaces x.piece o.piece → ⊥) × NotReplaced o os)
 
--- o may serve this name: one reply on its route carried it whole. It was alive (RFC 1035 3.2.1) and
--- not replaced when the client asked, or came while the client waited.
+-- o may serve this name: one reply on the name's route carried o whole. It was alive (RFC 1035
+-- 3.2.1) and not replaced when the client asked, or came while the client waited.
 pub record Justified (l : Look) (name : List (List ℕ)) (o : Held) : Type 0 where
   pub old : List Held
   pub new : List Held

@@ -64,7 +64,7 @@ abbrev pub ClosesNow : Question → List Step → Type 0
 ClosesNow q [] = ⊥
 ClosesNow q (s ∷ past) = ClosesAsk q s past
 
--- none of these asks the question
+-- no ask of the list is for the question
 abbrev pub NoneAsks : Question → List ShownAsk → Type 0
 NoneAsks q asks = AllByRecursion (λ a. (own : Question) → Reads a.octets own → same_question own q ≡ false) asks
 
@@ -142,7 +142,7 @@ pub record HasNoRoute (l : Look) (octets : List ℕ) : Type 0 where
   pub none : IsUnderNone l.config.routes last.name
   pub at_once : aliases ≡ [] → l.now ≡ l.asked ∷ l.before
 
--- at once: opcode 0, and a type or class that is not served
+-- at once: opcode 0, and an unserved type or class
 pub record AsksUnserved (l : Look) (octets : List ℕ) : Type 0 where
   pub at_once : l.now ≡ l.asked ∷ l.before
   pub opcode : (header_in octets).opcode ≡ 0
@@ -189,8 +189,8 @@ pub record AnswerIsTooLarge (l : Look) (octets : List ℕ) : Type 0 where
   pub chain : Chain l question aliases end
   pub large : 65535 < length (answer_text (asked_in (header_in octets) (Some question)) aliases end (moment_at l.now))
 
--- all tries failed, there is a window, and the full answer with expired data exceeds that size (RFC
--- 8767)
+-- all tries failed, there is a window, and the full answer with expired data exceeds 65,535 octets
+-- (RFC 8767)
 pub record StaleAnswerIsTooLarge (l : Look) (octets : List ℕ) : Type 0 where
   pub tries : AllTriesFailed l octets
   pub window : 1 ≤ l.config.limits.stale_s
@@ -200,7 +200,7 @@ pub record StaleAnswerIsTooLarge (l : Look) (octets : List ℕ) : Type 0 where
   pub large : 65535 < length (full_text (asked_in (header_in octets) (Some tries.question))
       (stale_sections (moment_at l.now) tries.aliases past end))
 
--- the denial with the aliases to a name that the configuration denies exceeds that size
+-- the denial with the aliases to a denied name exceeds 65,535 octets
 pub record LocalAnswerIsTooLarge (l : Look) (octets : List ℕ) : Type 0 where
   pub question : Question
   pub reads : Reads octets question
@@ -210,7 +210,7 @@ pub record LocalAnswerIsTooLarge (l : Look) (octets : List ℕ) : Type 0 where
       (denied_sections (moment_at l.now) aliases))
 
 -- the history shows this reason; `waiting` counts the era's questions without a reply before this
--- one came
+-- question
 abbrev pub Cause : Look → Client → List ℕ → ℕ → Why → Type 0
 Cause l client octets waiting BadOpcode = (l.now ≡ l.asked ∷ l.before) × ((header_in octets).opcode ≢ 0)
 Cause l client octets waiting BadFormat = (l.now ≡ l.asked ∷ l.before) × ((header_in octets).opcode ≡ 0)

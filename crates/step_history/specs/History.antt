@@ -1,5 +1,5 @@
--- A history: the list of its steps, the newest first. A claim about a step is one about the list
--- that begins with it.
+-- A history: the list of its steps, the newest first. A claim about a step is a claim about the
+-- list from this step on.
 use Rattle.std.specs.Prelude.{◌≡◌, ◌≢◌, ℕ, ◌+◌, ◌^◌, ◌<◌, ◌≤◌, Bool, true, false, if◌then◌else◌, not, min, max, List, []}
 use Rattle.std.specs.Prelude.{◌∷◌, ◌++◌, length, filter, Option, Some, None, ◌⊎◌}
 use Rattle.std.specs.List.{find, list_any}
@@ -46,7 +46,7 @@ abbrev pub before_newest : List Step → List Step
 before_newest [] = []
 before_newest (s ∷ past) = past
 
--- a step that asked, the history before it, and the history up to now
+-- a question's step, the history before, and the history up to now
 pub record Look : Type 0 where
   pub config : Config
   pub asked : Step
@@ -55,7 +55,7 @@ pub record Look : Type 0 where
 
 -- ---- asks
 
--- an ask as its action shows it, and its moment
+-- an ask in the form of its action, and its moment
 pub record ShownAsk : Type 0 where
   pub path : Path
   pub server : Peer
@@ -76,7 +76,7 @@ abbrev pub with_sent : ℕ → Option SentAsk → List ShownAsk → List ShownAs
 with_sent t None asks = asks
 with_sent t (Some a) asks = asks ++ record { path = a.path; server = a.server; octets = a.octets; moment = t } ∷ []
 
--- an ask is listed from its action until its path is closed; t is the moment of the actions
+-- an ask is listed from its action until the close of its path; t is the moment of the actions
 abbrev pub asks_after : ℕ → List Action → List ShownAsk → List ShownAsk
 asks_after t [] asks = asks
 asks_after t (a ∷ more) asks = asks_after t more (with_sent t (ask_in a) (without_closed (closed_path_in a) asks))
@@ -86,7 +86,7 @@ abbrev pub listed : List Step → List ShownAsk
 listed [] = []
 listed (s ∷ past) = if is_restart s then [] else asks_after (moment_at (s ∷ past)) s.outcome.actions (listed past)
 
--- the listed ask on a path; by `AreApart` there is at most one
+-- the listed ask on a path, by `AreApart` at most one
 abbrev pub on_path : Path → List ShownAsk → Option ShownAsk
 on_path path asks = find (λ a. same_path a.path path) asks
 
@@ -125,7 +125,7 @@ abbrev pub Delivers : Event → Path → Peer → List ℕ → Type 0
 Delivers e path from octets = delivery_in e ≡ Some (record { path = path; from = from; octets = octets })
 
 -- Step s delivers 12 to 65,535 octets with QR set and opcode 0. They match a listed ask, sent less
--- than `ask_ms` ago, in server, path, identifier and their one question (RFC 5452 9.1).
+-- than `ask_ms` ago, in server, path, identifier and their only question (RFC 5452 9.1).
 pub record Matches (c : Config) (s : Step) (past : List Step) (ask : ShownAsk) (octets : List ℕ)
     (asked : Question) : Type 0 where
   pub delivered : Delivers s.handed.event ask.path ask.server octets
@@ -178,7 +178,7 @@ abbrev pub is_taken_request : Option Request → Bool
 is_taken_request None = false
 is_taken_request (Some r) = is_taken r.octets
 
--- the event is a client's message that is not dropped
+-- the event is a client's message, not dropped
 abbrev pub takes_question : Event → Bool
 takes_question e = is_taken_request (request_in e)
 

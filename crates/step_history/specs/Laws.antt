@@ -1,4 +1,4 @@
--- Statements that follow from the definitions.
+-- Consequences of the definitions.
 use Rattle.std.specs.Prelude.{◌≡◌, ℕ, ◌^◌, ◌≤◌, false, List, ◌∷◌, ◌++◌}
 use Rattle.suffix_routes.specs.Values.{Config, HasNeither}
 use Rattle.suffix_routes.specs.Routes.{IsRouteOf}
@@ -25,7 +25,7 @@ abbrev pub WhatWasCarriedStaysSo : Type 0
 WhatWasCarriedStaysSo = (c : Config) (upto now : List Step) (all : List Held) → InEra upto now → CarriedInEra c now all
     → (os : List Held) × (new : List Held) × CarriedInEra c upto os × (all ≡ new ++ os)
 
--- Where all tries of an inquiry failed, they are the last closed asks of the era for its question,
+-- If all tries of an inquiry failed, they are the last closed asks of the era for its question,
 -- none closed by an accepted reply, and the last one closed in the newest step.
 abbrev pub TriesAreTheLastOfTheEra : Type 0
 TriesAreTheLastOfTheEra = (l : Look) (octets : List ℕ) (h : AllTriesFailed l octets)
@@ -40,7 +40,7 @@ pub record AddsNothing (l : Look) (client : Client) (request octets : List ℕ) 
   pub routed : (name : List (List ℕ)) (place : ℕ) → IsRouteOf l.config.routes name place
       → IsServedBy l.config name place
 
--- Without a window and routes that deny, version 2 adds no right reply: `AddsNothing`.
+-- Without a window and denying routes, version 2 adds no right reply: `AddsNothing`.
 abbrev pub FirstVersionStandsAlone : Type 0
 FirstVersionStandsAlone = (l : Look) (client : Client) (request octets : List ℕ) (waiting : ℕ) → HasNeither l.config
     → AddsNothing l client request octets waiting

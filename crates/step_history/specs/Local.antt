@@ -11,7 +11,7 @@ use Rattle.step_history.specs.Answers.{Leads}
 use Rattle.step_history.specs.Replies.{full_text, short_text, denied_sections, sized_for, FitsTransport}
 use Rattle.answer_builder.specs.Values.{asked_in}
 
--- `Leads` from q to a name that the configuration denies; without aliases, the answer is at once
+-- `Leads` from q to a denied name; without aliases, the answer is at once
 pub record ChainToLocal (l : Look) (q : Question) (aliases : List Held) : Type 0 where
   pub last : Question
   pub leads : Leads l q aliases last

@@ -22,8 +22,8 @@ IsSet (no_data soa) = ⊥
 IsSet (denied soa) = ⊥
 
 -- o may serve this name although expired: a set with a lifetime, carried whole on the name's route
--- before the newest step. It is not replaced, and expired, if at all, less than the window ago (RFC
--- 8767 5).
+-- before the newest step, not replaced, and expired, if at all, less than the window ago (RFC 8767
+-- 5)
 pub record JustifiedPastItsEnd (l : Look) (name : List (List ℕ)) (o : Held) : Type 0 where
   pub old : List Held
   pub new : List Held
@@ -51,8 +51,8 @@ pub record ChainPastEnds (l : Look) (held : List Held) (q : Question) (past : Li
   pub justified : JustifiedPastItsEnd l last.name o
   pub slot : IsOf o.piece last.name last.class (Some last.kind)
 
--- the octets answer q with expired data, and can be read; the chain goes on from `asked`, where
--- `held` led
+-- the octets answer q with expired data, and can be read; the chain goes on from `asked`, at the
+-- end of `held`
 pub record StaleAnswers (l : Look) (client : Client) (h : Header) (q : Question) (held : List Held) (asked : Question)
     (octets : List ℕ) : Type 0 where
   pub past : List Held

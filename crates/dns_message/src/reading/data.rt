@@ -14,8 +14,8 @@ use dns_name::Name;
 use plain_values::ShortOctets;
 use std::alloc::{AllocError, Allocator};
 
-/// The data of `len` octets of a record of this type, names in it written out in full, and the
-/// place after it.
+/// The data of `len` octets of a record of this type, with its names written out in full, and the
+/// place after.
 #[tactic(auto, unfolding(crate::specs::Data::data_at))]
 pub(crate) fn read_data<A: Allocator>(
     alloc: A,
@@ -45,7 +45,7 @@ pub(crate) fn read_data<A: Allocator>(
     }
 }
 
-/// The parts from a place on, written out in full one after another. They must end at `stop`.
+/// The parts from a place on, written out in full in order. They must end at `stop`.
 #[tactic(auto, using(crate::proofs::reading::DataLaws::read_more, crate::proofs::reading::DataLaws::read_done, crate::proofs::reading::DataLaws::read_short))]
 fn read_parts<A: Allocator>(
     alloc: A,
@@ -71,7 +71,7 @@ fn read_parts<A: Allocator>(
     Ok((octets, at))
 }
 
-/// Appends a part of the data, written out in full; returns the place after it.
+/// Appends a part of the data, written out in full; returns the place after.
 fn read_part<A: Allocator>(
     octets: &mut Vec<u8, A>,
     bytes: &[u8],
@@ -92,7 +92,7 @@ fn read_part<A: Allocator>(
     }
 }
 
-/// Appends a name of the data, written out in full; returns the place after it.
+/// Appends a name of the data, written out in full; returns the place after.
 #[tactic(auto, using(crate::proofs::reading::DataLaws::written_name, crate::proofs::reading::DataLaws::written_fault))]
 fn expand_name<A: Allocator>(
     octets: &mut Vec<u8, A>,
@@ -219,8 +219,8 @@ fn plain_count(bytes: &[u8], stop: usize, part: Part, offset: usize) -> Result<O
     }
 }
 
-/// The name that is all of these octets, with the zero octet at their end. In octets of its own no
-/// pointer leads back, so none is followed. `Err` where memory ran out; only a name allocates.
+/// The name in these octets, whole and with the final zero. Octets of their own have no place for a
+/// pointer's target, so none is followed. Only a name allocates.
 #[tactic(auto, using(crate::proofs::reading::ShapeLaws::only_name, crate::proofs::reading::ShapeLaws::no_name))]
 pub fn read_only_name<A: Allocator>(alloc: A, octets: &[u8]) -> Result<Option<Name<A>>, AllocError>
     ensures name { IfOk result (λ name. name ≡ name_of_rdata octets.now) }

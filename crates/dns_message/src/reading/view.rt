@@ -1,4 +1,4 @@
-//! A message that is read in place. Nothing here allocates but what makes a value.
+//! A message, read in place. Only the calls that make values allocate.
 
 ghost use Rattle.std.specs.Prelude.{◌≡◌, ◌↔◌, IsTrue, IsOk, Ok, Err, Some, MatchResult, MatchOption, IfOk};
 ghost use Rattle.dns_message.specs.Reading.{Gives, behind};
@@ -45,9 +45,9 @@ impl<'a> Model for MessageRef<'a> {
 }
 
 impl<'a> MessageRef<'a> {
-    /// Views octets as a message, at most 65,535 of them. `Err` is the first fault from the front:
-    /// `Short` under 12 octets, `NoQuestion` where QDCOUNT is 0, otherwise the fault of the first
-    /// question. It does not allocate.
+    /// Views octets as a message, at most 65,535. `Err` is the first fault from the front: `Short`
+    /// under 12 octets, `NoQuestion` if QDCOUNT is 0, otherwise the fault of the first question.
+    /// Does not allocate.
     pub fn view(bytes: &'a [u8]) -> Result<MessageRef<'a>, Fault>
         ensures same { IfOk result (λ message. message ≡ bytes.now) }
         ensures exact { MatchResult result (λ _. IsOk (first_question bytes.now)) (λ fault. first_question bytes.now
@@ -60,7 +60,7 @@ impl<'a> MessageRef<'a> {
         })
     }
 
-    /// The header. It does not allocate.
+    /// The header.
     #[tactic(auto, unfolding(crate::specs::Header::header_of), using(crate::proofs::reading::MessageLaws::viewed_long))]
     pub fn header(&self) -> Header
         ensures exact { header_of self.now ≡ Some result }
@@ -72,21 +72,21 @@ impl<'a> MessageRef<'a> {
         header
     }
 
-    /// The type of the first question. It does not allocate.
+    /// The type of the first question.
     pub fn kind(&self) -> u16
         ensures { IfOk (first_question self.now) (λ question. result ≡ question.kind) }
     {
         number16(self.bytes, self.question_end - 4)
     }
 
-    /// The class of the first question. It does not allocate.
+    /// The class of the first question.
     pub fn class(&self) -> u16
         ensures { IfOk (first_question self.now) (λ question. result ≡ question.class) }
     {
         number16(self.bytes, self.question_end - 2)
     }
 
-    /// The key of the first question's name. It does not allocate.
+    /// The key of the first question's name.
     pub fn key(&self) -> NameKey
         ensures { IfOk (first_question self.now) (λ question. result ≡ lowered question.name) }
     {
@@ -96,8 +96,7 @@ impl<'a> MessageRef<'a> {
         }
     }
 
-    /// Whether the first question has this name, letter case aside, this type and this class. It
-    /// does not allocate.
+    /// Whether the first question has this name, letter case aside, this type and this class.
     pub fn question_is<A: Allocator>(&self, question: &Question<A>) -> bool
         ensures { IsTrue result ↔ QuestionIs (first_question self.now) question.now }
     {
@@ -113,8 +112,8 @@ impl<'a> MessageRef<'a> {
         Ok(question)
     }
 
-    /// The first question, in place, if its name has no pointer (RFC 1035 4.1.4); `None` exactly
-    /// where a part of the name is a pointer. It does not allocate.
+    /// The first question, in place, if its name has no pointer (RFC 1035 4.1.4); `None` exactly if
+    /// a part of the name is a pointer.
     pub fn question_ref(&self) -> Option<QuestionRef<'a>>
         ensures { MatchOption result (IfOk (first_question self.now)
             (λ question. IsUncompressed self.now 12 question.name → ⊥))
@@ -124,7 +123,7 @@ impl<'a> MessageRef<'a> {
         QuestionRef::at(self.bytes, 12, name_end, self.kind(), self.class())
     }
 
-    /// Whether header, counted questions and counted records can be read. It does not allocate.
+    /// Whether header, counted questions and counted records are readable.
     #[tactic(auto, using(crate::proofs::reading::WholeLaws::whole_where_read, crate::proofs::reading::WholeLaws::read_where_whole))]
     pub fn is_whole(&self) -> bool
         ensures { IsTrue result ↔ IsWhole self.now }
@@ -132,8 +131,8 @@ impl<'a> MessageRef<'a> {
         skip_message(self.bytes, self.question_end).is_ok()
     }
 
-    /// The spans of the records that can be read, in order. It does not allocate, and with all of
-    /// them takes about the time of `is_whole`, also where many pointers lead to one name.
+    /// The spans of the readable records, in order. All together take about the time of `is_whole`,
+    /// even if many pointers lead to one name.
     #[tactic(auto, using(crate::proofs::reading::MessageLaws::viewed_long))]
     pub fn records(&self) -> Records<'a>
         ensures { result ≡ spans_of self.now }
@@ -141,7 +140,7 @@ impl<'a> MessageRef<'a> {
         records_in(self.bytes)
     }
 
-    /// The message that the octets spell, all counted questions and records. `Err` is `Memory`, or
+    /// The message spelled by the octets, all counted questions and records. `Err` is `Memory`, or
     /// the first fault from the front.
     #[tactic(auto, using(crate::proofs::reading::ShapeLaws::read_shaped))]
     pub fn read_whole<A: Allocator + Copy>(&self, alloc: A) -> Result<Message<A>, Fault>
@@ -153,7 +152,7 @@ impl<'a> MessageRef<'a> {
     }
 }
 
-/// The place after the first question, where header and first question can be read.
+/// The place after the first question, if header and first question are readable.
 #[tactic(auto, unfolding(crate::specs::Messages::first_question), using(crate::proofs::reading::MessageLaws::question_read, crate::proofs::reading::MessageLaws::question_fault))]
 fn first_question_end(bytes: &[u8]) -> Result<usize, Fault>
     ensures first { MatchResult result (λ _. IsOk (first_question bytes.now)) (λ fault. first_question bytes.now
@@ -170,7 +169,7 @@ fn first_question_end(bytes: &[u8]) -> Result<usize, Fault>
     Ok(end)
 }
 
-/// Whether the first question is this one, letter case aside.
+/// Whether the first question is equal to `question`, letter case aside.
 #[tactic(auto, unfolding(crate::specs::Messages::first_question, crate::specs::Records::question_at, crate::specs::Records::octets_end))]
 fn first_question_is<A: Allocator>(bytes: &[u8], question: &Question<A>) -> bool
     requires { IsViewed bytes.now }
@@ -209,8 +208,8 @@ fn skip_large_message(bytes: &[u8], question_end: usize) -> Result<usize, Fault>
     skip_sections(bytes, &mut sizes, question_end)
 }
 
-/// The place after the last counted record, with the octets of the names that pointers lead to
-/// remembered in `sizes`. The first question was read before: reading begins after it.
+/// The place after the last counted record, with the sizes of pointers' target names remembered in
+/// `sizes`. The first question was read before: reading begins after it.
 #[tactic(auto, using(crate::proofs::reading::MessageLaws::message_behind, crate::proofs::reading::MessageLaws::others_behind, crate::proofs::reading::MessageLaws::viewed_long, crate::proofs::reading::MessageLaws::viewed_counts))]
 fn skip_sections(bytes: &[u8], sizes: &mut [u8], question_end: usize) -> Result<usize, Fault>
     requires viewed { IsViewedTo bytes.now question_end }
@@ -223,7 +222,7 @@ fn skip_sections(bytes: &[u8], sizes: &mut [u8], question_end: usize) -> Result<
     skip_records(bytes, sizes, at, number16(bytes, 10))
 }
 
-/// The message that the octets spell.
+/// The message spelled by the octets.
 #[tactic(auto, using(crate::proofs::names::ShortcutLaws::none_kept))]
 fn read_message<A: Allocator + Copy>(alloc: A, bytes: &[u8]) -> Result<Message<A>, Fault>
     ensures { Gives (λ m. m) result (message_of bytes.now) }
@@ -245,7 +244,7 @@ fn read_large_message<A: Allocator + Copy>(alloc: A, bytes: &[u8]) -> Result<Mes
     read_sections(alloc, bytes, &mut ends)
 }
 
-/// The message that the octets spell; the targets of pointers are remembered in `ends`.
+/// The message spelled by the octets; the targets of pointers are remembered in `ends`.
 #[tactic(auto, unfolding(crate::specs::Messages::message_at))]
 fn read_sections<A: Allocator + Copy>(
     alloc: A,

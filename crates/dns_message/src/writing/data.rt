@@ -1,4 +1,4 @@
-//! The data of records, written with pointers where its type allows them.
+//! The data of records, written with pointers if its type allows them.
 
 ghost use Rattle.std.specs.Prelude.{◌≡◌, ◌≤◌, ◌<◌, ◌+◌, ◌++◌, ◌∷◌, [], length, OnOk, take, drop, IsTrue, is_some};
 ghost use Rattle.std.specs.Prelude.{MatchOption, None, Ok, Err};
@@ -23,7 +23,7 @@ const NAME_MOST: usize = 255;
 /// The most octets of a label (RFC 1035 2.3.4).
 const LABEL_MOST: usize = 63;
 
-/// Writes the data of a record of this type after its length, as far as the limit lets it.
+/// Writes the data of a record of this type after its length, up to the limit.
 #[tactic(auto, unfolding(crate::specs::Writing::data_text))]
 pub(crate) fn put_with_length<'a, A: Allocator + Copy>(
     writer: &mut Writer<'a, A>,
@@ -43,7 +43,7 @@ pub(crate) fn put_with_length<'a, A: Allocator + Copy>(
     }
 }
 
-/// Whether the octets are these parts, one after another.
+/// Whether the octets are these parts, in order.
 fn are_parts(parts: &[Part], octets: &[u8]) -> bool
     ensures { result ≡ is_some (fields_of parts.now octets.now) }
 {
@@ -57,8 +57,7 @@ fn are_parts(parts: &[Part], octets: &[u8]) -> bool
     rest.is_empty()
 }
 
-/// Writes data of the shape of its type after its length, as far as the limit lets it. It is not
-/// checked before.
+/// Writes data with the shape of its type, unchecked, after its length, up to the limit.
 #[tactic(auto, unfolding(crate::specs::Writing::data_text))]
 pub(crate) fn put_shaped_with_length<'a, A: Allocator + Copy>(
     writer: &mut Writer<'a, A>,
@@ -102,7 +101,7 @@ fn put_parts_with_length<'a, A: Allocator + Copy>(
     Ok(())
 }
 
-/// Writes octets that are these parts: those after the last name at once.
+/// Writes octets that are these parts: all octets after the last name at once.
 fn put_parts<'a, A: Allocator + Copy>(
     writer: &mut Writer<'a, A>,
     parts: &[Part],
@@ -140,8 +139,8 @@ fn has_name(parts: &[Part]) -> bool
     false
 }
 
-/// `split_part` of octets that are this part and these others. The last name ends where they begin,
-/// so it is not walked along.
+/// `split_part` of octets that are this part followed by `others`. The last name ends before the
+/// others' octets, so no walk along its labels is needed.
 fn split_before<'a>(part: Part, others: &[Part], octets: &'a [u8]) -> Option<(&'a [u8], &'a [u8])>
     requires { IsTrue (is_some (fields_of (part ∷ others.now) octets.now)) }
     ensures { MatchOption result (first_field part octets.now ≡ None) (λ x. IsFirst part octets.now x.0.now x.1.now) }
@@ -152,7 +151,7 @@ fn split_before<'a>(part: Part, others: &[Part], octets: &'a [u8]) -> Option<(&'
     }
 }
 
-/// The number of octets of these parts, where it is the same in all data.
+/// The number of octets of these parts, if equal in all data.
 #[tactic(auto, unfolding(crate::specs::Fields::size_of_parts))]
 fn size_of_parts(parts: &[Part]) -> Option<usize>
     ensures { result ≡ size_of_parts parts.now }
@@ -164,7 +163,7 @@ fn size_of_parts(parts: &[Part]) -> Option<usize>
     }
 }
 
-/// The part in front of the octets, and what follows it; the zero octet of a name is left out.
+/// The part in front of the octets, and the octets after; a name without the final zero.
 #[tactic(auto, unfolding(crate::specs::Fields::first_field))]
 fn split_part(part: Part, octets: &[u8]) -> Option<(&[u8], &[u8])>
     ensures { MatchOption result (first_field part octets.now ≡ None) (λ x. IsFirst part octets.now x.0.now x.1.now) }
@@ -180,7 +179,7 @@ fn split_part(part: Part, octets: &[u8]) -> Option<(&[u8], &[u8])>
     }
 }
 
-/// The name in front of octets, whose end this is, its zero octet left out; and what follows it.
+/// The name in front of octets, up to this end, without the final zero; and the octets after.
 fn split_name(octets: &[u8], end: usize) -> (&[u8], &[u8])
     requires { Ok end ≡ behind (name_within octets.now (inside (length octets.now)) 0) }
     ensures { IsFirst Part.Name octets.now result.0.now result.1.now }
@@ -189,8 +188,7 @@ fn split_name(octets: &[u8], end: usize) -> (&[u8], &[u8])
     (&name[..end - 1], behind)
 }
 
-/// The place after the name in front of octets, in which no pointer can be. It ends after its zero
-/// octet.
+/// The place after the name in front of octets without pointers: after its zero octet.
 #[tactic(auto, unfolding(crate::specs::Fields::first_field))]
 fn name_end(octets: &[u8]) -> Option<usize>
     ensures { MatchOption result (first_field Part.Name octets.now ≡ None) (λ end. Ok end
@@ -211,7 +209,7 @@ fn name_end(octets: &[u8]) -> Option<usize>
     None
 }
 
-/// The first `count` octets, and what follows them.
+/// The first `count` octets, and the rest.
 fn split_octets(octets: &[u8], count: usize) -> Option<(&[u8], &[u8])>
     ensures { MatchOption result (length octets.now < count) (λ x. (x.0.now ≡ take count octets.now)
         × (x.1.now ≡ drop count octets.now) × (count ≤ length octets.now)) }
@@ -245,8 +243,7 @@ fn set_u16(octets: &mut [u8], offset: usize, number: u16)
     BigEndian::write_u16(&mut octets[offset..offset + 2], number);
 }
 
-/// Writes octets with no name in them after their length, nothing where the limit does not let
-/// them.
+/// Writes octets without names after their length; nothing if the limit forbids.
 fn put_plain_with_length<'a, A: Allocator + Copy>(
     writer: &mut Writer<'a, A>,
     octets: &[u8],

@@ -10,7 +10,7 @@ use byteorder::{BigEndian, ByteOrder};
 
 impl Header {
     /// The octets of the header, with these counts in place of its own. Opcode and response code
-    /// have 4 bits, `z` has 3. It does not allocate.
+    /// have 4 bits, `z` has 3.
     pub fn octets(&self, counts: [u16; 4]) -> [u8; 12]
         requires { FitsBits self.now }
         ensures octets { result ≡ header_octets self.now counts }
@@ -46,7 +46,7 @@ fn flags_of(header: &Header) -> u16
         + header.rcode as u16
 }
 
-/// The weight, where the bit is set.
+/// The weight, if the bit is set.
 fn bit(set: bool, weight: u16) -> u16
     ensures is { result ≡ bit set weight }
     ensures most { result ≤ weight }

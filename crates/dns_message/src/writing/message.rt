@@ -21,17 +21,17 @@ use plain_values::Octets;
 use std::alloc::{AllocError, Allocator};
 use std::mem;
 
-/// The greatest count that a header holds (RFC 1035 4.1.1).
+/// The greatest count of a header (RFC 1035 4.1.1).
 const LAST_COUNT: usize = 65535;
 
-/// The octets of a message, with the counts of its lists in the header; those in `header.counts`
-/// are not looked at.
+/// The octets of a message, with the counts of its lists in the header; the counts in
+/// `header.counts` are not looked at.
 ///
-/// In the names of questions and owners, and in the data of the types whose names may be pointers,
-/// the longest end of a name that began earlier in these octets is a pointer to where it began
-/// first (RFC 1035 4.1.4). `TooLarge` where these are more octets than `limit`, and at once where a
-/// list has more things than a header counts; `Memory` where an allocation was refused. The octets
-/// spell the message again, where its header counts the lists and its data is of its shapes.
+/// In the names of questions and owners, and in the data of types whose names may be pointers, the
+/// longest end of a name that began earlier in these octets is a pointer to its first place (RFC
+/// 1035 4.1.4). `TooLarge` if the octets are more than `limit`, and at once for a list longer than
+/// a header counts; `Memory` if memory ran out. The octets spell the message again, if its header
+/// counts the lists and its data has its shapes.
 pub fn write<A: Allocator + Copy>(
     alloc: A,
     message: &Message<A>,
@@ -69,7 +69,7 @@ fn can_be_counted<A: Allocator>(message: &Message<A>) -> bool
     message.questions.as_slice().len().max(records) <= LAST_COUNT
 }
 
-/// Writes a message, as far as the limit lets it.
+/// Writes a message, up to the limit.
 fn put_message<'a, A: Allocator + Copy>(
     writer: &mut Writer<'a, A>,
     message: &'a Message<A>,
@@ -100,11 +100,10 @@ fn put_message<'a, A: Allocator + Copy>(
     Ok(())
 }
 
-/// The octets that `write` gives of the message with these parts, put into a vector in place of
-/// what it has.
+/// The octets of `write` for the message with these parts, in place of the vector's content.
 ///
-/// A vector with room for them is not made larger; apart from it, only more than 16 names in the
-/// octets allocate. `TooLarge` and `Memory` as in `write`; then the vector has some octets or none.
+/// A vector with room for them is not enlarged; otherwise, only more than 16 names in the octets
+/// allocate. `TooLarge` and `Memory` as in `write`; then the vector has some octets or none.
 pub fn write_parts<A: Allocator + Copy>(
     alloc: A,
     octets: &mut Vec<u8, A>,
@@ -134,7 +133,7 @@ pub fn write_parts<A: Allocator + Copy>(
     done
 }
 
-/// The counts of the lists; `None` where a header has no room for them.
+/// The counts of the lists; `None` if too large for a header.
 fn counts_of<A: Allocator>(message: &MessageParts<A>) -> Option<[u16; 4]>
     ensures { MatchOption result (CanBeCounted message.now → ⊥) (λ counts. CanBeCounted message.now
         × (counts ≡ list_counts message.now)) }
@@ -145,7 +144,7 @@ fn counts_of<A: Allocator>(message: &MessageParts<A>) -> Option<[u16; 4]>
     Some([questions, answers, authority, 0])
 }
 
-/// The number of records of the sets; `None` where a header cannot count them.
+/// The number of records of the sets; `None` if too large for a header.
 fn count_of<A: Allocator>(sets: &[RowsRef<A>]) -> Option<u16>
     ensures { MatchOption result (65535 < length (records_in sets.now)) (λ count. count
         ≡ length (records_in sets.now)) }
@@ -161,7 +160,7 @@ fn count_of<A: Allocator>(sets: &[RowsRef<A>]) -> Option<u16>
     Some(count as u16)
 }
 
-/// Writes a message of borrowed parts with these counts of its lists, as far as the limit lets it.
+/// Writes a message of borrowed parts with these counts of its lists, up to the limit.
 fn put_parts<'a, A: Allocator + Copy>(
     writer: &mut Writer<'a, A>,
     message: &'a MessageParts<'a, A>,

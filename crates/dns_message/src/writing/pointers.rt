@@ -1,4 +1,4 @@
-//! The names that begin in octets, and where each began first.
+//! The names that begin in octets, each with its first place.
 
 ghost use Rattle.std.specs.Prelude.{◌≡◌, ℕ, List, None, OnOk, IsTrue};
 ghost use Rattle.std.specs.Ordering.{nat_cmp};
@@ -10,11 +10,10 @@ use arrayvec::ArrayVec;
 use std::alloc::{AllocError, Allocator};
 use std::collections::BTreeMap;
 
-/// The number of names that are found one by one, without allocating; further ones are found by a
-/// map.
+/// The number of names found one by one, without allocating; further names are found by a map.
 const FEW: usize = 16;
 
-/// The last offset that the 14 bits of a pointer reach (RFC 1035 4.1.4).
+/// The last offset within a pointer's 14 bits (RFC 1035 4.1.4).
 const LAST_PLACE: usize = 16383;
 
 /// The two high bits of a pointer.
@@ -28,7 +27,7 @@ pub(crate) struct Pointers<'a, A: Allocator> {
 }
 
 impl<'a, A: Allocator + Copy> Pointers<'a, A> {
-    /// None; it does not allocate.
+    /// No names.
     pub fn new(alloc: A) -> Pointers<'a, A>
         ensures { (name : List ℕ) → pointer_known result name ≡ None }
     {
@@ -52,7 +51,7 @@ impl<'a, A: Allocator + Copy> Pointers<'a, A> {
         self.find_in_map(name)
     }
 
-    /// The pointer to a name that the map has.
+    /// The pointer to a name in the map.
     #[cold]
     #[inline(never)]
     fn find_in_map(&self, name: &[u8]) -> Option<u16>
@@ -68,8 +67,8 @@ impl<'a, A: Allocator + Copy> Pointers<'a, A> {
         self.few.is_empty() && self.many.is_empty()
     }
 
-    /// Remembers that a name that is not known begins at this offset, as far as a pointer reaches.
-    /// It allocates once there are more than a few.
+    /// Remembers that a new name begins at this offset, within a pointer's reach. Allocates once
+    /// there are more than a few names.
     pub fn insert(&mut self, name: &'a [u8], offset: usize) -> Result<(), AllocError>
         requires { pointer_known self.old name.now ≡ None }
         ensures { OnOk result (IsPutIn self.old self.new name.now offset) }
@@ -86,7 +85,7 @@ impl<'a, A: Allocator + Copy> Pointers<'a, A> {
         Ok(())
     }
 
-    /// Remembers in the map the pointer to a name that is not known.
+    /// Remembers the pointer to a new name in the map.
     #[cold]
     #[inline(never)]
     fn insert_in_map(&mut self, name: &'a [u8], pointer: u16) -> Result<(), AllocError>

@@ -1,4 +1,4 @@
-//! Questions and records, written one after another (RFC 1035 4.1.2 and 4.1.3).
+//! Questions and records, written in order (RFC 1035 4.1.2 and 4.1.3).
 
 ghost use Rattle.std.specs.Prelude.{◌≡◌, ◌++◌, ◌≤◌, ◌<◌, ℕ, List, length, OnOk};
 ghost use Rattle.std.specs.Option.{IfSome};
@@ -18,7 +18,7 @@ use crate::writing::writer::Writer;
 use byteorder::{BigEndian, ByteOrder};
 use std::alloc::{AllocError, Allocator};
 
-/// Writes a question, as far as the limit lets it.
+/// Writes a question, up to the limit.
 pub(crate) fn put_question<'a, A: Allocator + Copy>(
     writer: &mut Writer<'a, A>,
     question: &QuestionRef<'a>,
@@ -48,7 +48,7 @@ pub(crate) fn put_questions<'a, A: Allocator + Copy>(
     Ok(())
 }
 
-/// Writes the question, if any, as far as the limit lets it.
+/// Writes the question, if any, up to the limit.
 pub(crate) fn put_only_question<'a, A: Allocator + Copy>(
     writer: &mut Writer<'a, A>,
     question: &Option<QuestionRef<'a>>,
@@ -85,7 +85,7 @@ pub(crate) fn put_records<'a, A: Allocator + Copy>(
     Ok(())
 }
 
-/// Writes a record, as far as the limit lets it.
+/// Writes a record, up to the limit.
 fn put_record<'a, A: Allocator + Copy>(
     writer: &mut Writer<'a, A>,
     entry: &'a Record<A>,
@@ -115,8 +115,8 @@ struct Head<'a> {
     ttl: u32,
 }
 
-/// Writes a record with this data, as far as the limit lets it. `known` is the pointer to its
-/// owner, if any. Data that is not of its type's shape is written as it is.
+/// Writes a record with this data, up to the limit. `known` is the pointer to its owner, if any.
+/// Data without the shape of its type is written unchanged.
 fn put_any_row<'a, A: Allocator + Copy>(
     writer: &mut Writer<'a, A>,
     head: &Head<'a>,
@@ -180,8 +180,8 @@ fn put_set<'a, A: Allocator + Copy>(
     }
 }
 
-/// Writes records with this data, as far as the limit lets them. Their owner is looked up until it
-/// has a pointer.
+/// Writes records with this data, up to the limit. Their owner is looked up until a pointer is
+/// found.
 fn put_rows<'a, A: Allocator + Copy>(
     writer: &mut Writer<'a, A>,
     head: &Head<'a>,
@@ -205,8 +205,8 @@ fn put_rows<'a, A: Allocator + Copy>(
     Ok(())
 }
 
-/// Writes a record with this data, which is of its type's shape, as far as the limit lets it.
-/// `known` is the pointer to its owner, if any.
+/// Writes a record with this data, which has the shape of its type, up to the limit. `known` is the
+/// pointer to its owner, if any.
 fn put_row<'a, A: Allocator + Copy>(
     writer: &mut Writer<'a, A>,
     head: &Head<'a>,
