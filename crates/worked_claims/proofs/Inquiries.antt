@@ -1,7 +1,7 @@
 -- Which tries are of one inquiry, computed: an ask that a deadline closed, and an inquiry before
 -- it, count for nothing; and a try counts if a reply, a failed path or its time ended it.
 use Rattle.std.proofs.Common.{◌≡◌, ◌∙◌, ℕ, List, [], ◌∷◌, Option, Some, None, refl, sym, ap, subst}
-use Rattle.std.proofs.Common.{inl, inr, arith, ◌⊎◌, ◌+◌, true, false}
+use Rattle.std.proofs.Common.{inl, inr, arith, ◌⊎◌, ◌+◌, ◌≤◌, true, false}
 use Rattle.std.proofs.lemmas.Bool.{true≢false}
 use Rattle.dns_message.specs.Names.{step as name_step, walk_in, name_within}
 use Rattle.dns_message.specs.declared.reading.header.Header.{Header}
