@@ -1,4 +1,4 @@
-use Rattle.std.proofs.Common.{◌≡◌, ◌×◌, [], ◌^◌, subst}
+use Rattle.std.proofs.Common.{◌≡◌, [], ◌^◌, subst}
 use Rattle.std.specs.Prelude.{MatchOption}
 use Rattle.step_table.specs.State.{Running}
 use Rattle.step_actions.specs.Due.{IsDueFirst}
