@@ -21,12 +21,12 @@ use step_texts::ask as ask_action;
 use step_values::{Actions, Why};
 
 /// Closes the ask on a path; those that wait for it fail for this reason.
-pub(crate) fn give_up<'a, 's, H: BuildHasher + Drop, A: Allocator + Copy>(
-    turn: &TurnRef<'a, H, A>,
+pub(crate) fn give_up<'s, H: BuildHasher + Drop, A: Allocator + Copy>(
+    turn: &TurnRef<'_, H, A>,
     path: Path,
     ask: &KeyedAsk<A>,
     why: Why,
-) -> Result<Decision<'a, 's, A>, AllocError>
+) -> Result<Decision<'s, A>, AllocError>
     requires { ask_on path turn.now.state.asks ≡ Some ask.now }
     ensures decides { IfOk result (MeetsStep turn.now (closing_step turn.now.moment ask.now
         (fails why ask.now.question) None turn.now.state)) }
@@ -37,11 +37,11 @@ pub(crate) fn give_up<'a, 's, H: BuildHasher + Drop, A: Allocator + Copy>(
 
 /// Closes the ask on a path, whose question has no try left; those that wait for it get their last
 /// reply.
-fn run_out<'a, 's, H: BuildHasher + Drop, A: Allocator + Copy>(
-    turn: &TurnRef<'a, H, A>,
+fn run_out<'s, H: BuildHasher + Drop, A: Allocator + Copy>(
+    turn: &TurnRef<'_, H, A>,
     path: Path,
     ask: &KeyedAsk<A>,
-) -> Result<Decision<'a, 's, A>, AllocError>
+) -> Result<Decision<'s, A>, AllocError>
     requires on { ask_on path turn.now.state.asks ≡ Some ask.now }
     ensures decides { IfOk result (MeetsStep turn.now (closing_step turn.now.moment ask.now
         (runs_out turn.now.config turn.now.moment turn.now.state.cache.entries ask.now.question) None
@@ -52,12 +52,12 @@ fn run_out<'a, 's, H: BuildHasher + Drop, A: Allocator + Copy>(
 }
 
 /// Closes the ask on a path, and sends the next one.
-fn ask_again<'a, 's, H: BuildHasher + Drop, A: Allocator + Copy>(
-    turn: &TurnRef<'a, H, A>,
+fn ask_again<'s, H: BuildHasher + Drop, A: Allocator + Copy>(
+    turn: &TurnRef<'_, H, A>,
     path: Path,
     ask: &KeyedAsk<A>,
     next: Ask<A>,
-) -> Result<Decision<'a, 's, A>, AllocError>
+) -> Result<Decision<'s, A>, AllocError>
     requires on { ask_on path turn.now.state.asks ≡ Some ask.now }
     requires follows { CanFollow turn.now.config turn.now.moment turn.now.state
         (without_path path turn.now.state.asks) next }
@@ -73,13 +73,13 @@ fn ask_again<'a, 's, H: BuildHasher + Drop, A: Allocator + Copy>(
 
 /// Closes the ask on a path, and asks another server over the drawn path. Without one those that
 /// wait fail.
-fn retry<'a, 's, H: BuildHasher + Drop, A: Allocator + Copy>(
-    turn: &TurnRef<'a, H, A>,
+fn retry<'s, H: BuildHasher + Drop, A: Allocator + Copy>(
+    turn: &TurnRef<'_, H, A>,
     path: Path,
     ask: &KeyedAsk<A>,
     server: u8,
     drawn: Option<(u16, Path)>,
-) -> Result<Decision<'a, 's, A>, AllocError>
+) -> Result<Decision<'s, A>, AllocError>
     requires on { ask_on path turn.now.state.asks ≡ Some ask.now }
     requires tries { ask.now.used < 255 }
     requires follows { (next : AskValue) → ask_by turn.now.moment ask.now.question ask.now.route server
@@ -103,12 +103,12 @@ fn retry<'a, 's, H: BuildHasher + Drop, A: Allocator + Copy>(
 
 /// Closes the ask of a failed attempt; then the next one goes out, or those that wait for it get
 /// the reason.
-pub(crate) fn fail<'a, 's, H: BuildHasher + Drop, A: Allocator + Copy>(
-    turn: &TurnRef<'a, H, A>,
+pub(crate) fn fail<'s, H: BuildHasher + Drop, A: Allocator + Copy>(
+    turn: &TurnRef<'_, H, A>,
     path: Path,
     ask: &KeyedAsk<A>,
     failure: Failure,
-) -> Result<Decision<'a, 's, A>, AllocError>
+) -> Result<Decision<'s, A>, AllocError>
     requires on { ask_on path turn.now.state.asks ≡ Some ask.now }
     ensures decides { IfOk result (MeetsStep turn.now (row_of_failure turn.now ask.now failure)) }
 {
@@ -129,10 +129,10 @@ pub(crate) fn fail<'a, 's, H: BuildHasher + Drop, A: Allocator + Copy>(
 
 /// Decides that a path can't be used any more: its ask is a failed attempt. Nothing where it has no
 /// ask. `Err` where memory ran out.
-pub fn on_failed_path<'a, 's, H: BuildHasher + Drop, A: Allocator + Copy>(
-    turn: &TurnRef<'a, H, A>,
+pub fn on_failed_path<'s, H: BuildHasher + Drop, A: Allocator + Copy>(
+    turn: &TurnRef<'_, H, A>,
     path: Path,
-) -> Result<Decision<'a, 's, A>, AllocError>
+) -> Result<Decision<'s, A>, AllocError>
     ensures decides { IfOk result (MeetsStep turn.now (row_of_failed_path turn.now
         (ask_on path turn.now.state.asks))) }
     ensures unlisted { ask_on path turn.now.state.asks ≡ None → IsQuiet result }

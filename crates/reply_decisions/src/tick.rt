@@ -19,8 +19,8 @@ use step_values::Why;
 use waiting_questions::Waiting;
 
 /// The path of the oldest question's ask, where no other question waits for it.
-fn left_alone<'a, H: BuildHasher + Drop, A: Allocator + Copy>(
-    turn: &TurnRef<'a, H, A>,
+fn left_alone<H: BuildHasher + Drop, A: Allocator + Copy>(
+    turn: &TurnRef<'_, H, A>,
     oldest: &Waiting<A>,
 ) -> Option<Path>
     ensures { result ≡ closed_path (left_alone oldest.now.wanted
@@ -38,10 +38,10 @@ fn left_alone<'a, H: BuildHasher + Drop, A: Allocator + Copy>(
 
 /// Decides that the oldest question has waited as long as it may. Its ask is closed if no other
 /// question waits for it.
-fn expire<'a, 's, H: BuildHasher + Drop, A: Allocator + Copy>(
-    turn: &TurnRef<'a, H, A>,
+fn expire<'s, H: BuildHasher + Drop, A: Allocator + Copy>(
+    turn: &TurnRef<'_, H, A>,
     oldest: &Waiting<A>,
-) -> Result<Decision<'a, 's, A>, AllocError>
+) -> Result<Decision<'s, A>, AllocError>
     requires { slice_get turn.now.state.waiting 0 ≡ Some oldest.now }
     ensures decides { IfOk result (MeetsStep turn.now (expiry_step turn.now.moment oldest.now
         (drop 1 turn.now.state.waiting) (left_alone oldest.now.wanted
@@ -55,10 +55,10 @@ fn expire<'a, 's, H: BuildHasher + Drop, A: Allocator + Copy>(
 }
 
 /// Decides on the oldest question: `expire` where it is overdue, otherwise nothing.
-fn on_question<'a, 's, H: BuildHasher + Drop, A: Allocator + Copy>(
-    turn: &TurnRef<'a, H, A>,
+fn on_question<'s, H: BuildHasher + Drop, A: Allocator + Copy>(
+    turn: &TurnRef<'_, H, A>,
     oldest: &Waiting<A>,
-) -> Result<Decision<'a, 's, A>, AllocError>
+) -> Result<Decision<'s, A>, AllocError>
     requires { slice_get turn.now.state.waiting 0 ≡ Some oldest.now }
     ensures decides { IfOk result (MeetsStep turn.now (row_of_item turn.now
         (question oldest.now (drop 1 turn.now.state.waiting)))) }
@@ -71,10 +71,10 @@ fn on_question<'a, 's, H: BuildHasher + Drop, A: Allocator + Copy>(
 }
 
 /// Decides on the oldest ask: it fails where its reply is late, otherwise nothing.
-fn on_attempt<'a, 's, H: BuildHasher + Drop, A: Allocator + Copy>(
-    turn: &TurnRef<'a, H, A>,
+fn on_attempt<'s, H: BuildHasher + Drop, A: Allocator + Copy>(
+    turn: &TurnRef<'_, H, A>,
     oldest: &KeyedAsk<A>,
-) -> Result<Decision<'a, 's, A>, AllocError>
+) -> Result<Decision<'s, A>, AllocError>
     requires first { slice_get turn.now.state.asks 0 ≡ Some oldest.now }
     ensures decides { IfOk result (MeetsStep turn.now (row_of_item turn.now (attempt oldest.now))) }
     ensures early { is_due_at turn.now.config turn.now.moment turn.now.state ≡ false → IsQuiet result }
@@ -88,9 +88,9 @@ fn on_attempt<'a, 's, H: BuildHasher + Drop, A: Allocator + Copy>(
 
 /// Decides that time has passed, on the oldest question or the oldest ask, whichever is due first.
 /// `Err` where memory ran out.
-pub fn on_tick<'a, 's, H: BuildHasher + Drop, A: Allocator + Copy>(
-    turn: &TurnRef<'a, H, A>,
-) -> Result<Decision<'a, 's, A>, AllocError>
+pub fn on_tick<'s, H: BuildHasher + Drop, A: Allocator + Copy>(
+    turn: &TurnRef<'_, H, A>,
+) -> Result<Decision<'s, A>, AllocError>
     ensures decides { IfOk result (MeetsStep turn.now (row_of_tick turn.now)) }
     ensures early { is_due_at turn.now.config turn.now.moment turn.now.state ≡ false → IsQuiet result }
 {

@@ -4,7 +4,7 @@ ghost use Rattle.std.specs.Prelude.{◌≡◌, []};
 ghost use Rattle.step_values.specs.Values.{actions_of};
 ghost use Rattle.alias_chains.specs.Offering.{pieces_of};
 
-use alias_chains::SlotsRef;
+use alias_chains::Slots;
 use outstanding::{Ask, KeyedAsk, Path};
 use record_cache::Held;
 use std::alloc::{Allocator, Global};
@@ -59,17 +59,17 @@ pub enum Change<A: Allocator = Global> {
 /// The actions of a step, and what it changes: the entries of the slots that a look-up used are
 /// promoted, and the pieces that an accepted reply carries are offered to the cache, last.
 #[derive(Drop)]
-pub struct Decision<'a, 's, A: Allocator = Global> {
+pub struct Decision<'s, A: Allocator = Global> {
     pub actions: Actions<A>,
-    pub used: SlotsRef<'a, 's, A>,
+    pub used: Slots<'s, A>,
     pub change: Change<A>,
     /// In the order in which they are offered.
     pub carried: Vec<Held<A>, A>,
 }
 
-impl<'a, 's, A: Allocator + Copy> Decision<'a, 's, A> {
+impl<'s, A: Allocator + Copy> Decision<'s, A> {
     /// These actions and this change, with no look-up and no accepted reply. It does not allocate.
-    pub fn without_cache(alloc: A, actions: Actions<A>, change: Change<A>) -> Decision<'a, 's, A>
+    pub fn without_cache(alloc: A, actions: Actions<A>, change: Change<A>) -> Decision<'s, A>
         ensures actions { actions_of result.actions ≡ actions_of actions }
         ensures used { result.used ≡ [] }
         ensures change { result.change ≡ change }
@@ -77,7 +77,7 @@ impl<'a, 's, A: Allocator + Copy> Decision<'a, 's, A> {
     {
         Decision {
             actions,
-            used: SlotsRef::none(alloc),
+            used: Slots::none(alloc),
             change,
             carried: Vec::new(alloc),
         }
