@@ -83,10 +83,6 @@ impl QuestionKey {
     }
 }
 
-/// The factor of the number of the octets before, at each octet. By this prime, which is that of
-/// the FNV hashes of 32 bits, names that differ in few letters get numbers that differ.
-const SPREAD: u32 = 0x01000193;
-
 /// The number of a name, by its octets in lower case.
 fn number_of(octets: &[u8]) -> u32
     ensures { result ≡ octets_number octets.now }
@@ -97,6 +93,10 @@ fn number_of(octets: &[u8]) -> u32
     }
     number
 }
+
+/// The factor of the number of the octets before, at each octet. By this prime, which is that of
+/// the FNV hashes of 32 bits, names that differ in few letters get numbers that differ.
+const SPREAD: u32 = 0x01000193;
 
 /// An ask, and the key of its question, which is made once. It is seen as the ask. The key comes
 /// first, where a search by question looks.

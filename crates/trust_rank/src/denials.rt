@@ -27,11 +27,21 @@ pub(crate) fn is_name_under<A: Allocator>(name: &Name<A>, suffix: &Name<A>) -> b
     name.is_under(suffix)
 }
 
-/// The record is an SOA of the class whose owner is at or above the name.
-fn is_soa_for<A: Allocator>(record: &Record<A>, name: &Name<A>, class: u16) -> bool
-    ensures { result ≡ is_soa_for name.now class record.now }
+/// A copy of the SOA record that a denial at the name holds, in a box.
+pub(crate) fn soa_for<A: Allocator + Copy>(
+    alloc: A,
+    name: &Name<A>,
+    class: u16,
+    authority: &[Record<A>],
+) -> Result<Option<Box<Record<A>, A>>, AllocError>
+    requires { AreShaped authority.now }
+    ensures found { IfOk result (λ soa. unboxed soa ≡ soa_for name.now class authority.now) }
+    ensures soa { IfOk result (λ soa. IfSome (unboxed soa) IsSoa) }
 {
-    record.kind == SOA && record.class == class && is_name_under(name, &record.owner)
+    match find_soa(name, class, authority) {
+        None => Ok(None),
+        Some(soa) => Ok(Some(boxed_copy(alloc, soa)?)),
+    }
 }
 
 /// The first SOA record of the authority section that fits a denial at the name.
@@ -51,51 +61,11 @@ fn find_soa<'a, A: Allocator>(
     None
 }
 
-/// A copy of the SOA record that a denial at the name holds, in a box.
-pub(crate) fn soa_for<A: Allocator + Copy>(
-    alloc: A,
-    name: &Name<A>,
-    class: u16,
-    authority: &[Record<A>],
-) -> Result<Option<Box<Record<A>, A>>, AllocError>
-    requires { AreShaped authority.now }
-    ensures found { IfOk result (λ soa. unboxed soa ≡ soa_for name.now class authority.now) }
-    ensures soa { IfOk result (λ soa. IfSome (unboxed soa) IsSoa) }
+/// The record is an SOA of the class whose owner is at or above the name.
+fn is_soa_for<A: Allocator>(record: &Record<A>, name: &Name<A>, class: u16) -> bool
+    ensures { result ≡ is_soa_for name.now class record.now }
 {
-    match find_soa(name, class, authority) {
-        None => Ok(None),
-        Some(soa) => Ok(Some(boxed_copy(alloc, soa)?)),
-    }
-}
-
-/// MINIMUM, the last field of an SOA's data, in seconds (RFC 1035 3.3.13, RFC 2308 4).
-fn minimum_from(rdata: &[u8]) -> u32
-    requires { 4 ≤ length rdata.now }
-    ensures { result ≡ minimum_of rdata.now }
-{
-    BigEndian::read_u32(&rdata[rdata.len() - 4..])
-}
-
-/// How long a denial with this SOA lives, in seconds: the least of the SOA's TTL, its MINIMUM and
-/// three hours (RFC 2308 5).
-fn lifetime_from<A: Allocator>(soa: &Record<A>) -> u32
-    requires { IsSoa soa.now }
-    ensures { result ≡ denial_lifetime (Some soa.now) }
-{
-    seconds_from(soa.ttl)
-        .min(minimum_from(soa.rdata.octets()))
-        .min(LONGEST_DENIAL)
-}
-
-/// How long a denial lives, in seconds; with no SOA it is used once and not kept.
-fn lifetime_with<A: Allocator>(soa: &Option<Box<Record<A>, A>>) -> u32
-    requires { IfSome (unboxed soa.now) IsSoa }
-    ensures { result ≡ denial_lifetime (unboxed soa.now) }
-{
-    match soa {
-        None => 0,
-        Some(soa) => lifetime_from(soa.as_ref()),
-    }
+    record.kind == SOA && record.class == class && is_name_under(name, &record.owner)
 }
 
 /// NODATA: the name has no records of this type (RFC 2308 2.2).
@@ -142,4 +112,34 @@ pub(crate) fn name_error<A: Allocator + Copy>(
         rank: source.rank,
         route: source.route,
     })
+}
+
+/// How long a denial lives, in seconds; with no SOA it is used once and not kept.
+fn lifetime_with<A: Allocator>(soa: &Option<Box<Record<A>, A>>) -> u32
+    requires { IfSome (unboxed soa.now) IsSoa }
+    ensures { result ≡ denial_lifetime (unboxed soa.now) }
+{
+    match soa {
+        None => 0,
+        Some(soa) => lifetime_from(soa.as_ref()),
+    }
+}
+
+/// How long a denial with this SOA lives, in seconds: the least of the SOA's TTL, its MINIMUM and
+/// three hours (RFC 2308 5).
+fn lifetime_from<A: Allocator>(soa: &Record<A>) -> u32
+    requires { IsSoa soa.now }
+    ensures { result ≡ denial_lifetime (Some soa.now) }
+{
+    seconds_from(soa.ttl)
+        .min(minimum_from(soa.rdata.octets()))
+        .min(LONGEST_DENIAL)
+}
+
+/// MINIMUM, the last field of an SOA's data, in seconds (RFC 1035 3.3.13, RFC 2308 4).
+fn minimum_from(rdata: &[u8]) -> u32
+    requires { 4 ≤ length rdata.now }
+    ensures { result ≡ minimum_of rdata.now }
+{
+    BigEndian::read_u32(&rdata[rdata.len() - 4..])
 }

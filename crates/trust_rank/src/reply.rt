@@ -87,6 +87,78 @@ impl<'a, A: Allocator + Copy> Reply<'a, A> {
         }
     }
 
+    /// The finding at a name, which may be the first of the walk: the asked set, otherwise an
+    /// alias, otherwise a denial.
+    pub fn met_at(&self, alloc: A, is_first: bool, name: &Name<A>) -> Result<AtName<A>, AllocError>
+        ensures { IfOk result (λ met. met_of met ≡ met_at self.now is_first name.now) }
+    {
+        if !self.is_on_route(name) {
+            return Ok(AtName::Nothing);
+        }
+        if let Some(set) = self.answer_set(alloc, self.kind, name)? {
+            return Ok(set_met(self.kind, set));
+        }
+        if let Some(alias) = self.alias_set(alloc, name)? {
+            return alias_met(alloc, alias);
+        }
+        self.met_denial(alloc, is_first, name)
+    }
+
+    /// The CNAME set at the name. A question for CNAME follows none.
+    fn alias_set(&self, alloc: A, name: &Name<A>) -> Result<Option<Piece<A>>, AllocError>
+        ensures { IfOk result (λ s. s ≡ alias_set self.now name.now) }
+    {
+        if self.kind == CNAME {
+            return Ok(None);
+        }
+        self.answer_set(alloc, CNAME, name)
+    }
+
+    /// The set of this type that the answer section has at the name.
+    fn answer_set(
+        &self,
+        alloc: A,
+        kind: u16,
+        name: &Name<A>,
+    ) -> Result<Option<Piece<A>>, AllocError>
+        ensures { IfOk result (λ s. s ≡ answer_set self.now kind name.now) }
+    {
+        set_among(
+            alloc,
+            self.source_at(name),
+            self.answers,
+            &self.at_name(kind, name),
+        )
+    }
+
+    /// The finding at a name where the reply has neither the asked set nor an alias.
+    fn met_denial(&self, alloc: A, is_first: bool, name: &Name<A>) -> Result<AtName<A>, AllocError>
+        ensures { IfOk result (λ met. met_of met ≡ denial_at self.now is_first name.now) }
+    {
+        let soa = self.soa_for(alloc, name)?;
+        let source = self.source_at(name);
+        let denied = self.at_name(self.kind, name);
+        if self.rcode == NXDOMAIN {
+            return Ok(AtName::NameError(name_error(alloc, source, &denied, soa)?));
+        }
+        let lacks_soa = is_missing(&soa);
+        if lacks_soa && !is_first {
+            return Ok(AtName::Nothing);
+        }
+        if lacks_soa && self.is_referral() {
+            return Ok(AtName::Lame);
+        }
+        Ok(AtName::NoData(no_data(alloc, source, &denied, soa)?))
+    }
+
+    /// The SOA that a denial at the name holds, in a box.
+    fn soa_for(&self, alloc: A, name: &Name<A>) -> Result<Option<Box<Record<A>, A>>, AllocError>
+        ensures found { IfOk result (λ soa. unboxed soa ≡ soa_for name.now self.now.question.class self.now.authority) }
+        ensures soa { IfOk result (λ soa. IfSome (unboxed soa) IsSoa) }
+    {
+        soa_for(alloc, name, self.class, self.authority)
+    }
+
     /// How far a piece at the name is to be believed: most where it is the asked name, by its own
     /// server.
     fn source_at(&self, name: &Name<A>) -> Source
@@ -111,41 +183,6 @@ impl<'a, A: Allocator + Copy> Reply<'a, A> {
         }
     }
 
-    /// The set of this type that the answer section has at the name.
-    fn answer_set(
-        &self,
-        alloc: A,
-        kind: u16,
-        name: &Name<A>,
-    ) -> Result<Option<Piece<A>>, AllocError>
-        ensures { IfOk result (λ s. s ≡ answer_set self.now kind name.now) }
-    {
-        set_among(
-            alloc,
-            self.source_at(name),
-            self.answers,
-            &self.at_name(kind, name),
-        )
-    }
-
-    /// The CNAME set at the name. A question for CNAME follows none.
-    fn alias_set(&self, alloc: A, name: &Name<A>) -> Result<Option<Piece<A>>, AllocError>
-        ensures { IfOk result (λ s. s ≡ alias_set self.now name.now) }
-    {
-        if self.kind == CNAME {
-            return Ok(None);
-        }
-        self.answer_set(alloc, CNAME, name)
-    }
-
-    /// The SOA that a denial at the name holds, in a box.
-    fn soa_for(&self, alloc: A, name: &Name<A>) -> Result<Option<Box<Record<A>, A>>, AllocError>
-        ensures found { IfOk result (λ soa. unboxed soa ≡ soa_for name.now self.now.question.class self.now.authority) }
-        ensures soa { IfOk result (λ soa. IfSome (unboxed soa) IsSoa) }
-    {
-        soa_for(alloc, name, self.class, self.authority)
-    }
-
     /// The authority section has name servers, and the reply is not authoritative: others are to be
     /// asked.
     fn is_referral(&self) -> bool
@@ -153,42 +190,36 @@ impl<'a, A: Allocator + Copy> Reply<'a, A> {
     {
         !self.is_authoritative && has_name_servers(self.authority)
     }
+}
 
-    /// The finding at a name where the reply has neither the asked set nor an alias.
-    fn met_denial(&self, alloc: A, is_first: bool, name: &Name<A>) -> Result<AtName<A>, AllocError>
-        ensures { IfOk result (λ met. met_of met ≡ denial_at self.now is_first name.now) }
-    {
-        let soa = self.soa_for(alloc, name)?;
-        let source = self.source_at(name);
-        let denied = self.at_name(self.kind, name);
-        if self.rcode == NXDOMAIN {
-            return Ok(AtName::NameError(name_error(alloc, source, &denied, soa)?));
-        }
-        let lacks_soa = is_missing(&soa);
-        if lacks_soa && !is_first {
-            return Ok(AtName::Nothing);
-        }
-        if lacks_soa && self.is_referral() {
-            return Ok(AtName::Lame);
-        }
-        Ok(AtName::NoData(no_data(alloc, source, &denied, soa)?))
+/// The asked set ends the walk; a CNAME set of more than one record is lame.
+fn set_met<A: Allocator>(kind: u16, set: Piece<A>) -> AtName<A>
+    ensures { met_of result ≡ set_met kind set }
+{
+    if kind == CNAME && has_many(&set) {
+        return AtName::Lame;
     }
+    AtName::Set(set)
+}
 
-    /// The finding at a name, which may be the first of the walk: the asked set, otherwise an
-    /// alias, otherwise a denial.
-    pub fn met_at(&self, alloc: A, is_first: bool, name: &Name<A>) -> Result<AtName<A>, AllocError>
-        ensures { IfOk result (λ met. met_of met ≡ met_at self.now is_first name.now) }
-    {
-        if !self.is_on_route(name) {
-            return Ok(AtName::Nothing);
-        }
-        if let Some(set) = self.answer_set(alloc, self.kind, name)? {
-            return Ok(set_met(self.kind, set));
-        }
-        if let Some(alias) = self.alias_set(alloc, name)? {
-            return alias_met(alloc, alias);
-        }
-        self.met_denial(alloc, is_first, name)
+/// A set of more than one record.
+fn has_many<A: Allocator>(piece: &Piece<A>) -> bool
+    ensures { result ≡ has_many piece.now.body }
+{
+    match &piece.body {
+        Body::Rows(rows) => rows.len() > 1,
+        _ => false,
+    }
+}
+
+/// An alias leads on; a CNAME set of more than one record is lame.
+fn alias_met<A: Allocator + Copy>(alloc: A, alias: Piece<A>) -> Result<AtName<A>, AllocError>
+    ensures met { IfOk result (λ met. met_of met ≡ leads alias (target_of alias.body)) }
+    ensures memory { OnErr result (target_of alias.body ≢ None) }
+{
+    match target_of(alloc, &alias)? {
+        None => Ok(AtName::Lame),
+        Some(target) => Ok(AtName::Alias(alias, target)),
     }
 }
 
@@ -202,36 +233,16 @@ fn is_missing<A: Allocator>(soa: &Option<Box<Record<A>, A>>) -> bool
     }
 }
 
-pub(crate) fn is_name_server<A: Allocator>(record: &Record<A>) -> bool
-    ensures { result ≡ is_name_server record.now }
-{
-    record.kind == NS
-}
-
 fn has_name_servers<A: Allocator>(records: &[Record<A>]) -> bool
     ensures { result ≡ list_any is_name_server records.now }
 {
     records.iter().any(|record| is_name_server(record))
 }
 
-/// A set of more than one record.
-fn has_many<A: Allocator>(piece: &Piece<A>) -> bool
-    ensures { result ≡ has_many piece.now.body }
+pub(crate) fn is_name_server<A: Allocator>(record: &Record<A>) -> bool
+    ensures { result ≡ is_name_server record.now }
 {
-    match &piece.body {
-        Body::Rows(rows) => rows.len() > 1,
-        _ => false,
-    }
-}
-
-/// The asked set ends the walk; a CNAME set of more than one record is lame.
-fn set_met<A: Allocator>(kind: u16, set: Piece<A>) -> AtName<A>
-    ensures { met_of result ≡ set_met kind set }
-{
-    if kind == CNAME && has_many(&set) {
-        return AtName::Lame;
-    }
-    AtName::Set(set)
+    record.kind == NS
 }
 
 /// The name that an alias leads to: that of its one record. `Err` where memory ran out.
@@ -249,16 +260,5 @@ pub fn target_of<A: Allocator + Copy>(
     match rows.only() {
         Some(data) => data.name(alloc),
         None => Ok(None),
-    }
-}
-
-/// An alias leads on; a CNAME set of more than one record is lame.
-fn alias_met<A: Allocator + Copy>(alloc: A, alias: Piece<A>) -> Result<AtName<A>, AllocError>
-    ensures met { IfOk result (λ met. met_of met ≡ leads alias (target_of alias.body)) }
-    ensures memory { OnErr result (target_of alias.body ≢ None) }
-{
-    match target_of(alloc, &alias)? {
-        None => Ok(AtName::Lame),
-        Some(target) => Ok(AtName::Alias(alias, target)),
     }
 }

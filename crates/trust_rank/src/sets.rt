@@ -73,122 +73,6 @@ pub(crate) fn seconds_from(ttl: u32) -> u32
     if ttl >= 1 << 31 { 0 } else { ttl }
 }
 
-/// The data of a set and its lifetime, as far as its records were seen.
-#[derive(Drop)]
-struct Gathered<'a, A: Allocator> {
-    rows: PlainList<Rdata<A>, A>,
-    /// The data after the first few.
-    index: BTreeSet<&'a [u8], A>,
-    lifetime: u32,
-}
-
-fn is_same_octets(a: &[u8], b: &[u8]) -> bool
-    ensures { result ≡ same_octets a.now b.now }
-{
-    a == b
-}
-
-fn is_among<A: Allocator>(octets: &[u8], rows: &[Rdata<A>]) -> bool
-    ensures { result ≡ list_any (same_octets octets.now) rows.now }
-{
-    rows.iter().any(|row| is_same_octets(octets, row.octets()))
-}
-
-/// The data that is compared one by one.
-fn first_few<A: Allocator>(rows: &[Rdata<A>]) -> &[Rdata<A>]
-    ensures { result.now ≡ take few rows.now }
-{
-    &rows[..rows.len().min(FEW)]
-}
-
-impl<'a, A: Allocator + Copy> Gathered<'a, A> {
-    /// Nothing but the set's first record.
-    fn begin(alloc: A, first: &Record<A>) -> Result<Gathered<'a, A>, AllocError>
-        ensures rows { IfOk result (λ g. g.rows ≡ first.now.rdata ∷ []) }
-        ensures index { IfOk result (λ g. Indexes g.index g.rows) }
-        ensures lifetime { IfOk result (λ g. g.lifetime ≡ min longest (seconds_of first.now.ttl)) }
-    {
-        let mut rows = PlainList::new(alloc);
-        rows.push(first.rdata.copy(alloc)?)?;
-        Ok(Gathered {
-            rows,
-            index: BTreeSet::new(alloc),
-            lifetime: LONGEST.min(seconds_from(first.ttl)),
-        })
-    }
-
-    /// Puts the data last, where it isn't there already.
-    fn put_new(&mut self, alloc: A, row: &'a Rdata<A>) -> Result<(), AllocError>
-        requires { Indexes self.old.index self.old.rows }
-        ensures rows { OnOk result (self.new.rows ≡ with_data self.old.rows row.now) }
-        ensures index { OnOk result (Indexes self.new.index self.new.rows) }
-        ensures lifetime { self.new.lifetime ≡ self.old.lifetime }
-    {
-        let octets = row.octets();
-        if is_among(octets, first_few(self.rows.as_slice())) {
-            return Ok(());
-        }
-        if self.rows.as_slice().len() < FEW {
-            return push_copy(alloc, &mut self.rows, row);
-        }
-        let added = self.index.insert(octets)?;
-        if !added {
-            return Ok(());
-        }
-        push_copy(alloc, &mut self.rows, row)
-    }
-
-    /// One more record of the section.
-    fn add(
-        &mut self,
-        alloc: A,
-        record: &'a Record<A>,
-        key: &SetKey<'_, A>,
-    ) -> Result<(), AllocError>
-        requires { Indexes self.old.index self.old.rows }
-        ensures rows { OnOk result (self.new.rows ≡ added key.now self.old.rows record.now) }
-        ensures index { OnOk result (Indexes self.new.index self.new.rows) }
-        ensures lifetime { OnOk result (self.new.lifetime ≡ lowered_by key.now self.old.lifetime record.now) }
-    {
-        if !key.includes(record) {
-            return Ok(());
-        }
-        self.put_new(alloc, &record.rdata)?;
-        self.lifetime = self.lifetime.min(seconds_from(record.ttl));
-        Ok(())
-    }
-}
-
-/// Puts a copy of the data last.
-fn push_copy<A: Allocator + Copy>(
-    alloc: A,
-    rows: &mut PlainList<Rdata<A>, A>,
-    row: &Rdata<A>,
-) -> Result<(), AllocError>
-    ensures { OnOk result (rows.new ≡ rows.old ++ row.now ∷ []) }
-{
-    rows.push(row.copy(alloc)?)
-}
-
-/// The data and the lifetime of the set that begins with this record and goes on among the others.
-fn gather<'a, A: Allocator + Copy>(
-    alloc: A,
-    first: &'a Record<A>,
-    others: &'a [Record<A>],
-    key: &SetKey<'_, A>,
-) -> Result<(Rows<A>, u32), AllocError>
-    ensures rows { IfOk result (λ g. g.0 ≡ added_all key.now (first.now.rdata ∷ []) others.now) }
-    ensures lifetime { IfOk result (λ g. g.1 ≡ lowered_by_all key.now
-        (min longest (seconds_of first.now.ttl)) others.now) }
-{
-    let mut gathered = Gathered::begin(alloc, first)?;
-    for record in others {
-        gathered.add(alloc, record, key)?;
-    }
-    let Gathered { rows, lifetime, .. } = gathered;
-    Ok((Rows::from_list(rows), lifetime))
-}
-
 /// The set that begins with this record and goes on among the others.
 pub(crate) fn set_with<'a, A: Allocator + Copy>(
     alloc: A,
@@ -213,6 +97,122 @@ pub(crate) fn set_with<'a, A: Allocator + Copy>(
         rank: source.rank,
         route: source.route,
     })
+}
+
+/// The data and the lifetime of the set that begins with this record and goes on among the others.
+fn gather<'a, A: Allocator + Copy>(
+    alloc: A,
+    first: &'a Record<A>,
+    others: &'a [Record<A>],
+    key: &SetKey<'_, A>,
+) -> Result<(Rows<A>, u32), AllocError>
+    ensures rows { IfOk result (λ g. g.0 ≡ added_all key.now (first.now.rdata ∷ []) others.now) }
+    ensures lifetime { IfOk result (λ g. g.1 ≡ lowered_by_all key.now
+        (min longest (seconds_of first.now.ttl)) others.now) }
+{
+    let mut gathered = Gathered::begin(alloc, first)?;
+    for record in others {
+        gathered.add(alloc, record, key)?;
+    }
+    let Gathered { rows, lifetime, .. } = gathered;
+    Ok((Rows::from_list(rows), lifetime))
+}
+
+/// The data of a set and its lifetime, as far as its records were seen.
+#[derive(Drop)]
+struct Gathered<'a, A: Allocator> {
+    rows: PlainList<Rdata<A>, A>,
+    /// The data after the first few.
+    index: BTreeSet<&'a [u8], A>,
+    lifetime: u32,
+}
+
+impl<'a, A: Allocator + Copy> Gathered<'a, A> {
+    /// Nothing but the set's first record.
+    fn begin(alloc: A, first: &Record<A>) -> Result<Gathered<'a, A>, AllocError>
+        ensures rows { IfOk result (λ g. g.rows ≡ first.now.rdata ∷ []) }
+        ensures index { IfOk result (λ g. Indexes g.index g.rows) }
+        ensures lifetime { IfOk result (λ g. g.lifetime ≡ min longest (seconds_of first.now.ttl)) }
+    {
+        let mut rows = PlainList::new(alloc);
+        rows.push(first.rdata.copy(alloc)?)?;
+        Ok(Gathered {
+            rows,
+            index: BTreeSet::new(alloc),
+            lifetime: LONGEST.min(seconds_from(first.ttl)),
+        })
+    }
+
+    /// One more record of the section.
+    fn add(
+        &mut self,
+        alloc: A,
+        record: &'a Record<A>,
+        key: &SetKey<'_, A>,
+    ) -> Result<(), AllocError>
+        requires { Indexes self.old.index self.old.rows }
+        ensures rows { OnOk result (self.new.rows ≡ added key.now self.old.rows record.now) }
+        ensures index { OnOk result (Indexes self.new.index self.new.rows) }
+        ensures lifetime { OnOk result (self.new.lifetime ≡ lowered_by key.now self.old.lifetime record.now) }
+    {
+        if !key.includes(record) {
+            return Ok(());
+        }
+        self.put_new(alloc, &record.rdata)?;
+        self.lifetime = self.lifetime.min(seconds_from(record.ttl));
+        Ok(())
+    }
+
+    /// Puts the data last, where it isn't there already.
+    fn put_new(&mut self, alloc: A, row: &'a Rdata<A>) -> Result<(), AllocError>
+        requires { Indexes self.old.index self.old.rows }
+        ensures rows { OnOk result (self.new.rows ≡ with_data self.old.rows row.now) }
+        ensures index { OnOk result (Indexes self.new.index self.new.rows) }
+        ensures lifetime { self.new.lifetime ≡ self.old.lifetime }
+    {
+        let octets = row.octets();
+        if is_among(octets, first_few(self.rows.as_slice())) {
+            return Ok(());
+        }
+        if self.rows.as_slice().len() < FEW {
+            return push_copy(alloc, &mut self.rows, row);
+        }
+        let added = self.index.insert(octets)?;
+        if !added {
+            return Ok(());
+        }
+        push_copy(alloc, &mut self.rows, row)
+    }
+}
+
+fn is_among<A: Allocator>(octets: &[u8], rows: &[Rdata<A>]) -> bool
+    ensures { result ≡ list_any (same_octets octets.now) rows.now }
+{
+    rows.iter().any(|row| is_same_octets(octets, row.octets()))
+}
+
+fn is_same_octets(a: &[u8], b: &[u8]) -> bool
+    ensures { result ≡ same_octets a.now b.now }
+{
+    a == b
+}
+
+/// The data that is compared one by one.
+fn first_few<A: Allocator>(rows: &[Rdata<A>]) -> &[Rdata<A>]
+    ensures { result.now ≡ take few rows.now }
+{
+    &rows[..rows.len().min(FEW)]
+}
+
+/// Puts a copy of the data last.
+fn push_copy<A: Allocator + Copy>(
+    alloc: A,
+    rows: &mut PlainList<Rdata<A>, A>,
+    row: &Rdata<A>,
+) -> Result<(), AllocError>
+    ensures { OnOk result (rows.new ≡ rows.old ++ row.now ∷ []) }
+{
+    rows.push(row.copy(alloc)?)
 }
 
 /// The set of these records, if there are any.
