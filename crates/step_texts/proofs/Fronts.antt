@@ -21,6 +21,14 @@ pub long_enough : (m : Message) → 12 ≤ length (written m)
 unfolding written ◌▹◌
 long_enough m = omega arith
 
+-- the bit of TC
+cut_bit : (octet : ℕ) → bit (flag octet 2) 2 ≡ octet / 2 % 2 * 2
+cut_bit octet = by_test (nat_le 1 (octet / 2 % 2)) refl
+  where
+    by_test : (set : Bool) → nat_le 1 (octet / 2 % 2) ≡ set → bit set 2 ≡ octet / 2 % 2 * 2
+    by_test true is = let some = leb-true 1 (octet / 2 % 2) is in omega (arith, some)
+    by_test false is = let none = leb-false 1 (octet / 2 % 2) is in omega (arith, none)
+
 -- QR, opcode, AA, TC and RD: TC stays as it was
 high_flags : (opcode other : ℕ) (rd other_rd cut : Bool) (rcode : ℕ) → opcode < 16 → rcode < 16
     → 128 + opcode * 8 + (32768 + other * 2048 + 0 + bit cut 512 + bit other_rd 256 + 128 + 0 + rcode) / 256 % 256 / 2 % 2 * 2 + bit rd 1
@@ -51,7 +59,7 @@ four a b c d e f rest third fourth = cc
 -- the answer to a request is that to any other with its question, under its own front
 fronted : (a b : Asked) (cut : Bool) (s : Sections) → a.opcode < 16 → s.rcode < 16 → with_front a (written (answer_message (record b { question = a.question }) cut s)) ≡ written (answer_message a cut s)
 unfolding written ◌▹◌
-fronted a b cut s small code = four _ _ _ _ _ _ _ (high_flags a.opcode b.opcode a.rd b.rd cut s.rcode small code) (low_flags b.opcode b.rd a.opcode a.rd cut s.rcode)
+fronted a b cut s small code = four _ _ _ _ _ _ _ (ap (λ (tc : ℕ). 128 + a.opcode * 8 + tc + bit a.rd 1) (cut_bit _) ∙ high_flags a.opcode b.opcode a.rd b.rd cut s.rcode small code) (low_flags b.opcode b.rd a.opcode a.rd cut s.rcode)
 
 under_own_front : (a b : Asked) (cut : Bool) (s : Sections) → a.opcode < 16 → s.rcode < 16 → b.question ≡ a.question → with_front a (written (answer_message b cut s)) ≡ written (answer_message a cut s)
 under_own_front a b cut s small code same = ap (λ (q : Option Question). with_front a (written (answer_message (record b { question = q }) cut s))) same ∙ fronted a b cut s small code
@@ -112,7 +120,7 @@ one_of Tcp full cut text long cut_long e = tcp (nat_le (length full) 65535) e
     tcp false is = absurd (cc)
 
 -- a text that is an answer under another front has the octets of a front
-pub has_front : (chain : List Held) (n : ℕ) (t : Transport) (a : Asked) (text : Option (List ℕ)) → option_map (with_front a) text ≡ ok_text (answer_of a chain n t) → IfSome text (λ t. 3 ≤ length t)
+pub has_front : (chain : List Held) (n : ℕ) (t : Transport) (a : Asked) (text : Option (List ℕ)) → option_map (with_front a) text ≡ ok_text (answer_of a chain n t) → IfSome text (λ t. 12 ≤ length t)
 has_front chain n t a None e = tt
 has_front chain n t a (Some text) e =
     let s : Sections = sections_of n chain in

@@ -6,6 +6,7 @@ use Rattle.std.specs.List.{AllByRecursion}
 use Rattle.std.specs.Str.{bytes_eq}
 use Rattle.dns_name.specs.Labels.{octets_of}
 use Rattle.dns_message.specs.Values.{Question}
+use Rattle.dns_message.specs.Header.{flag}
 use Rattle.dns_message.specs.Writing.{bit, octets16}
 use Rattle.record_cache.specs.Values.{Held}
 use Rattle.answer_builder.specs.declared.asked.Transport.{Transport}
@@ -36,13 +37,13 @@ abbrev pub sends_text : Why → Waiting → Option (List ℕ) → Action
 sends_text why x (Some text) = send_reply x.client text why
 sends_text why x None = gives_up TooLarge x
 
--- the identifier, and the octet with QR, opcode, RD and the TC of this octet
-abbrev pub front_of : Asked → ℕ → List ℕ
-front_of a flags = octets16 a.id ++ (128 + a.opcode * 8 + flags / 2 % 2 * 2 + bit a.rd 1) ∷ []
+-- the identifier, and the octet with QR, opcode, TC if the answer was cut, and RD
+abbrev pub front_of : Asked → Bool → List ℕ
+front_of a cut = octets16 a.id ++ (128 + a.opcode * 8 + bit cut 2 + bit a.rd 1) ∷ []
 
 -- a text with that front in the place of its own: whether it was cut stays
 abbrev pub with_front : Asked → List ℕ → List ℕ
-with_front a text = front_of a (slice_index text 2) ++ drop 3 text
+with_front a text = front_of a (flag (slice_index text 2) 2) ++ drop 3 text
 
 -- names are equal where their octets are, letter case included
 abbrev pub same_spelling : List (List ℕ) → List (List ℕ) → Bool

@@ -2,7 +2,7 @@
 //! are spelled alike and came over one transport, since the answers to them differ in identifier,
 //! opcode and RD alone (RFC 1035 4.1.1).
 
-ghost use Rattle.std.specs.Prelude.{◌≡◌, ◌<◌, ◌≤◌, ◌++◌, IfOk, MatchOption, Some, None, length};
+ghost use Rattle.std.specs.Prelude.{◌≡◌, ◌<◌, ◌≤◌, ◌++◌, IfOk, MatchOption, Some, None, length, take};
 ghost use Rattle.std.specs.Prelude.{option_map};
 ghost use Rattle.std.specs.List.{AllByRecursion, find};
 ghost use Rattle.std.specs.Option.{IfSome};
@@ -17,8 +17,7 @@ ghost use Rattle.step_texts.specs.Spelling.{with_front};
 
 use crate::texts::{reply, reply_with, text_of, transport_of};
 use answer_builder::{AskedRef, Sections, Transport};
-use byteorder::{BigEndian, ByteOrder};
-use dns_message::Question;
+use dns_message::{Header, Question};
 use dns_name::Name;
 use plain_values::{Octets, PlainList};
 use record_cache::Held;
@@ -26,6 +25,10 @@ use std::alloc::{AllocError, Allocator, Global};
 use std::marker::Model;
 use step_values::{Action, Why};
 use waiting_questions::{Request, Waiting};
+
+/// The octets in which the answers to one question may differ: identifier, QR, opcode, AA, TC and
+/// RD (RFC 1035 4.1.1).
+const FRONT: usize = 3;
 
 /// The reply to a question from a chain of pieces, none accepted after the moment, in milliseconds:
 /// aliases in order, then a set or a denial. `Err` where memory ran out.
@@ -189,7 +192,7 @@ fn repeated<A: Allocator + Copy>(
     request: &Request<'_>,
     spelled: &Spelled<'_, A>,
 ) -> Result<Option<Octets<A>>, AllocError>
-    requires { IfSome spelled.now.text (λ text. 3 ≤ length text) }
+    requires { IfSome spelled.now.text (λ text. 12 ≤ length text) }
     ensures { IfOk result (λ text. text ≡ option_map (with_front request.now.asked) spelled.now.text) }
 {
     match &spelled.text {
@@ -208,26 +211,36 @@ fn under_front<A: Allocator + Copy>(
     text: &[u8],
 ) -> Result<Octets<A>, AllocError>
     requires opcode { asked.now.opcode < 16 }
-    requires some { 3 ≤ length text.now }
+    requires header { 12 ≤ length text.now }
     ensures { IfOk result (λ own. own ≡ with_front asked.now text.now) }
 {
+    let Some(header) = Header::read(text) else {
+        unreachable!()
+    };
     let mut octets = Vec::with_capacity(alloc, text.len())?;
-    octets.extend_from_slice(&front_of(asked, text[2]))?;
-    octets.extend_from_slice(&text[3..])?;
+    octets.extend_from_slice(&header_under(asked, header.tc)[..FRONT])?;
+    octets.extend_from_slice(&text[FRONT..])?;
     Ok(Octets::from_vec(octets))
 }
 
-/// The first three octets of the answer to a request: identifier, QR, opcode and RD, and the TC of
-/// these flags; AA is clear.
-fn front_of(asked: &AskedRef<'_>, flags: u8) -> [u8; 3]
+/// The header of the answer to a request, without response code and counts.
+fn header_under(asked: &AskedRef<'_>, cut: bool) -> [u8; 12]
     requires { asked.now.opcode < 16 }
-    ensures { result ≡ front_of asked.now flags }
+    ensures { take 3 result ≡ front_of asked.now cut }
 {
-    let cut = flags / 2 % 2;
-    let mut front = [0; 3];
-    BigEndian::write_u16(&mut front, asked.id);
-    front[2] = 128 + 8 * asked.opcode + 2 * cut + u8::from(asked.rd);
-    front
+    let header = Header {
+        id: asked.id,
+        qr: true,
+        opcode: asked.opcode,
+        aa: false,
+        tc: cut,
+        rd: asked.rd,
+        ra: true,
+        z: 0,
+        rcode: 0,
+        counts: [0; 4],
+    };
+    header.octets(header.counts)
 }
 
 /// The text for a question as it is spelled; `None` where it is too large.
