@@ -173,7 +173,8 @@ class Bench:
 
 
 # The measurements in the order of the table, each with the bare program next to it.
-BESIDE = {"cached": "echo", "awake": "echo", "many": "echo", "stream": "stream", "miss": "relay", "below": "echo", "slow": "echo"}
+BESIDE = {"cached": "echo", "awake": "echo", "many": "echo", "stream": "stream", "miss": "relay",
+          "below": "echo", "slow": "echo"}
 
 
 def see_what_was_asked(name, of_hundred):

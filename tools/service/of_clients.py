@@ -9,8 +9,8 @@ import time
 from repository.packing import CNAME, address, framed, name, record, reply
 
 from .messages import (
-    REFUSED, SERVFAIL, UNKNOWN, alias_reply_to, code, exactly, expect, is_answer, is_long_answer, long_reply_to, question, reply_to,
-    take_frame)
+    REFUSED, SERVFAIL, UNKNOWN, alias_reply_to, code, exactly, expect, is_answer, is_long_answer,
+    long_reply_to, question, reply_to, take_frame)
 from .running import Forwarder, Server, case, resident
 
 
@@ -291,7 +291,8 @@ def clients_that_read_late_or_not_at_all(program):
     octets = 60000
     server = Server(by_udp=lambda query: long_reply_to(query, octets))
     count = taken_by_the_system(small_reader) // octets + 14
-    with Forwarder(program, [server.port]) as forwarder, small_reader(forwarder.port) as deaf, small_reader(forwarder.port) as slow:
+    with (Forwarder(program, [server.port]) as forwarder, small_reader(forwarder.port) as deaf,
+          small_reader(forwarder.port) as slow):
         asked = [question(f"n{n:03}.example", UNKNOWN, n) for n in range(count)]
         for client in (deaf, slow):
             client.sendall(b"".join(framed(message) for message in asked))

@@ -5,7 +5,9 @@ import time
 
 from repository.packing import framed
 
-from .messages import SERVFAIL, UNKNOWN, code, cut_reply_to, expect, is_answer, is_long_answer, long_reply_to, question, reply_to
+from .messages import (
+    SERVFAIL, UNKNOWN, code, cut_reply_to, expect, is_answer, is_long_answer, long_reply_to, question,
+    reply_to)
 from .running import Forwarder, Server, case, descriptors, free_port, in_a_network_of_its_own
 
 

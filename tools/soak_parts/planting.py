@@ -73,7 +73,8 @@ FAULTS = (another_address, one_record_less, more_seconds_than_the_zone_gives, a_
 
 def grown(memory, descriptors, wakes):
     """Whether a life of three days is faulted in which these grow with each hour."""
-    samples = [Sample(HOUR * n, 10**7 + memory * n, 9 + descriptors * n, 1000 * n + wakes * n * n, 0) for n in range(72)]
+    samples = [Sample(HOUR * n, 10**7 + memory * n, 9 + descriptors * n, 1000 * n + wakes * n * n, 0)
+               for n in range(72)]
     return any(Life(samples).faults())
 
 
