@@ -20,7 +20,7 @@ fn put_all<'a, A: Allocator>(
 }
 
 /// The aliases that a question holds, those of the reply, and the entries found after them, in this
-/// order. `Err` where memory ran out.
+/// order.
 pub fn chain_of<'a, A: Allocator + Copy>(
     alloc: A,
     own: &'a [Held<A>],
@@ -36,7 +36,7 @@ pub fn chain_of<'a, A: Allocator + Copy>(
     Ok(chain)
 }
 
-/// The same pieces, with the moments of their acceptance. `Err` where memory ran out.
+/// The same pieces, with the moments of their acceptance.
 pub fn copies<A: Allocator + Copy>(
     alloc: A,
     pieces: &[&Held<A>],

@@ -23,8 +23,8 @@ pub enum LookUpEnd {
     Missed,
 }
 
-/// The entries that a look-up used, in order, and how it ended. Where it ended with a set or a
-/// denial, that is the last of them; all others are aliases.
+/// The entries that a look-up used, in order, and how it ended. If it ended with a set or a denial,
+/// that is the last of them; all others are aliases.
 #[derive(Drop)]
 pub struct LookUp<'a, 's, A: Allocator = Global> {
     pub(crate) used: UsedEntries<'a, 's, A>,
@@ -57,8 +57,8 @@ impl<'a, 's, A: Allocator + Copy> LookUp<'a, 's, A> {
     }
 
     /// The name that the last used entry leads to: the wanted one where the look-up missed after
-    /// aliases. `None` where it used no entry, or the last one is not a single record whose data is
-    /// a name. `Err` where memory ran out.
+    /// aliases. `None` if it used no entry, or the last one is not a single record whose data is a
+    /// name.
     pub fn target(&self, alloc: A) -> Result<Option<Name<A>>, AllocError>
         ensures { IfOk result (λ name. name ≡ last_target self.now.used) }
     {

@@ -24,9 +24,8 @@ use trust_rank::Body;
 /// Looks a question up along aliases (RFC 1034 3.6.2): at its name, then at the name that a found
 /// alias leads to, and so on. It ends with a set or a denial, with one alias more than `most`, or
 /// at a name without a living entry. A question that holds aliases already may take fewer. Only
-/// aliases allocate; `Err` where memory ran out. All used entries lie in the cache. The slot may be
-/// any: where one entry alone is used and ends the look-up, it becomes that entry's, and the result
-/// borrows it.
+/// aliases allocate; All used entries lie in the cache. The slot may be any: where one entry alone
+/// is used and ends the look-up, it becomes that entry's, and the result borrows it.
 pub fn look_up<'a, 's, H: BuildHasher + Drop, A: Allocator + Copy>(
     alloc: A,
     at: &CacheAt<'a, H, A>,

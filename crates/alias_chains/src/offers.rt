@@ -33,7 +33,7 @@ fn push_held<A: Allocator + Copy>(
 }
 
 /// The pieces of a reply, as held from this moment on, in milliseconds: those of its walk, then the
-/// name servers of its authority section. `Err` where memory ran out.
+/// name servers of its authority section.
 pub fn held_from<A: Allocator + Copy>(
     alloc: A,
     pieces: PlainList<Piece<A>, A>,
@@ -58,7 +58,7 @@ fn show<H: BuildHasher + Drop, A: Allocator + Copy>(cache: &mut Cache<H, A>, pie
     }
 }
 
-/// Offers a piece, at this moment in milliseconds. True where it found no memory.
+/// Offers a piece, at this moment in milliseconds. True if it found no memory.
 fn offer<H: BuildHasher + Drop, A: Allocator + Copy>(
     cache: &mut Cache<H, A>,
     piece: Piece<A>,

@@ -37,9 +37,8 @@ fn stale_at<'a, H: BuildHasher + Drop, A: Allocator + Copy>(
 }
 
 /// The entries that lead a question to a set: the aliases, at most `most`, and the set. Each is
-/// alive or expired fewer than `window` seconds ago, at most 86,400 (RFC 8767 5). `None` where
-/// there is no such set. No denial is used, and nothing is promoted. `Err` where memory ran out.
-/// All found entries lie in the cache.
+/// alive or expired fewer than `window` seconds ago, at most 86,400 (RFC 8767 5). `None` if there
+/// is no such set. No denial is used, and nothing is promoted. All found entries lie in the cache.
 pub fn look_up_past<'a, H: BuildHasher + Drop, A: Allocator + Copy>(
     alloc: A,
     at: &CacheAt<'a, H, A>,

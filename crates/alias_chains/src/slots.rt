@@ -31,7 +31,7 @@ impl<'a, 's, A: Allocator> Model for SlotsRef<'a, 's, A> {
 }
 
 impl<'a, 's, A: Allocator + Copy> SlotsRef<'a, 's, A> {
-    /// No slot. It does not allocate.
+    /// No slot.
     pub fn none(alloc: A) -> SlotsRef<'a, 's, A>
         ensures { result ≡ [] }
     {
@@ -40,7 +40,7 @@ impl<'a, 's, A: Allocator + Copy> SlotsRef<'a, 's, A> {
         }
     }
 
-    /// The slots of these entries. It does not allocate.
+    /// The slots of these entries.
     pub fn of(entries: Vec<&'a Held<A>, A>) -> SlotsRef<'a, 's, A>
         ensures { result ≡ map (λ h. h.piece.slot) (lent entries.entry.items) }
     {
@@ -50,7 +50,7 @@ impl<'a, 's, A: Allocator + Copy> SlotsRef<'a, 's, A> {
     }
 
     /// The same without the cache: the slot that a look-up filled stays borrowed, and others are
-    /// copied. Only copies allocate; `Err` where memory ran out.
+    /// copied. Only copies allocate;
     pub fn copied(self, alloc: A) -> Result<Slots<'s, A>, AllocError>
         ensures slots { IfOk result (λ slots. slots ≡ self.entry) }
         ensures none { self.entry ≡ [] → IsOk result }
@@ -77,7 +77,7 @@ impl<'s, A: Allocator> Model for Slots<'s, A> {
 }
 
 impl<'s, A: Allocator> Slots<'s, A> {
-    /// No slot. It does not allocate.
+    /// No slot.
     pub fn none(alloc: A) -> Slots<'s, A>
         ensures { result ≡ [] }
     {
@@ -128,8 +128,7 @@ fn slots_of<A: Allocator>(alloc: A, entries: &[&Held<A>]) -> Result<Vec<Slot, A>
     Ok(slots)
 }
 
-/// Makes the entries of these slots the most recently used, one after another. It does not
-/// allocate.
+/// Makes the entries of these slots the most recently used, one after another.
 pub fn promote_all<H: BuildHasher + Drop, A: Allocator + Copy>(
     cache: &mut Cache<H, A>,
     slots: &Slots<'_, A>,

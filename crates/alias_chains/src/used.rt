@@ -17,7 +17,7 @@ pub(crate) enum UsedEntries<'a, 's, A: Allocator> {
 }
 
 impl<'a, 's, A: Allocator> UsedEntries<'a, 's, A> {
-    /// No entry. It does not allocate.
+    /// No entry.
     pub(crate) fn none(alloc: A) -> UsedEntries<'a, 's, A>
         ensures entries { entries_of result ≡ [] }
         ensures slot { HasItsSlot result }

@@ -1,4 +1,4 @@
--- The messages that clients get: RFC 1035 4.1, RFC 2308 2 and 3.
+-- The messages for clients: RFC 1035 4.1, RFC 2308 2 and 3.
 use Rattle.std.specs.Prelude.{◌≤◌, ℕ, Bool, true, false, if◌then◌else◌, List, [], ◌∷◌, ◌++◌, length, map, take, drop}
 use Rattle.std.specs.Prelude.{Option, Some, None}
 use Rattle.std.specs.List.{flat_map}
@@ -16,7 +16,7 @@ use Rattle.answer_builder.specs.Values.{Told, Asked, Sections}
 abbrev pub record_of : ℕ → Piece → ℕ → List ℕ → Record
 record_of ttl p kind octets = record { owner = p.owner; kind = kind; class = p.slot.class; ttl = ttl; rdata = octets }
 
--- the records that an answer has of a piece with these seconds left
+-- the records of a piece in an answer, with these seconds left
 abbrev pub records_in : ℕ → Piece → Option ℕ → Body → List Record
 records_in ttl p (Some kind) (rows each) = map (record_of ttl p kind) each
 records_in ttl p (Some kind) (no_data soa) = []
@@ -33,7 +33,7 @@ aged ttl None = []
 aged ttl (Some soa) = record { owner = soa.owner; kind = soa.kind; class = soa.class; ttl = ttl; rdata = soa.rdata }
     ∷ []
 
--- the SOA of a denial, if it has one; a set has none: RFC 2308 3
+-- the SOA of a denial, if any; a set has none: RFC 2308 3
 abbrev pub soa_records : ℕ → Body → List Record
 soa_records ttl (rows each) = []
 soa_records ttl (no_data soa) = aged ttl soa
@@ -51,11 +51,11 @@ rcode_of (denied soa) = 3
 abbrev pub told_at : ℕ → Held → Told
 told_at moment h = record { piece = h.piece; seconds = seconds_left moment h }
 
--- the same of what is alive; 30 seconds for what has expired: RFC 8767 4
+-- a living piece with its whole seconds left, an expired piece with 30 seconds: RFC 8767 4
 abbrev pub told_past : ℕ → Held → Told
 told_past moment h = record { piece = h.piece; seconds = if is_alive moment h then seconds_left moment h else 30 }
 
--- the first `past` pieces with their seconds left; of those after them, expired ones get 30
+-- the first `past` pieces with their seconds left; of the rest, expired pieces get 30
 abbrev pub told_stale : ℕ → ℕ → List Held → List Told
 told_stale past moment chain = map (told_at moment) (take past chain) ++ map (told_past moment) (drop past chain)
 
@@ -83,7 +83,7 @@ sections_told (t ∷ chain) = record {
   rcode = rcode_of (last_of t chain).piece.body;
 }
 
--- the same of held pieces, with their seconds left
+-- the sections from held pieces, with their seconds left
 abbrev pub sections_of : ℕ → List Held → Sections
 sections_of moment chain = sections_told (map (told_at moment) chain)
 
@@ -91,7 +91,7 @@ sections_of moment chain = sections_told (map (told_at moment) chain)
 abbrev pub local_sections : List Told → Sections
 local_sections chain = record { answers = flat_map answers_of chain; authority = []; rcode = 3 }
 
--- each was accepted at the moment or before it
+-- the piece was accepted at the moment or before
 abbrev pub IsEarlier : ℕ → Held → Type 0
 IsEarlier moment h = h.accepted ≤ moment
 
@@ -112,7 +112,7 @@ answer_header a cut rcode counts = record {
   counts = counts;
 }
 
--- the question as it came, then the sections; the counts are those of the lists
+-- the client's question, then the sections; the counts are the lengths of the lists
 abbrev pub answer_message : Asked → Bool → Sections → Message
 answer_message a cut s = record {
   header = answer_header a cut s.rcode (length (questions_of a.question) ∷ length s.answers ∷ length s.authority ∷ 0
@@ -131,7 +131,7 @@ bare rcode = record { answers = []; authority = []; rcode = rcode }
 abbrev pub full_answer : Asked → Sections → Message
 full_answer a s = answer_message a false s
 
--- the question alone, with TC and the same response code: RFC 2181 9
+-- the question alone, with TC and the response code of the sections: RFC 2181 9
 abbrev pub cut_answer : Asked → Sections → Message
 cut_answer a s = answer_message a true (bare s.rcode)
 

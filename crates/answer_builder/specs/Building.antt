@@ -4,12 +4,12 @@ use Rattle.dns_message.specs.Values.{Record, Message}
 use Rattle.answer_builder.specs.Values.{Told, Sections}
 use Rattle.answer_builder.specs.Answers.{authority_of, last_of, rcode_of}
 
--- the records of a set that may be missing
+-- the records of a set, if any
 abbrev pub listed : Option (List Record) → List Record
 listed None = []
 listed (Some records) = records
 
--- the same with TC, and without records
+-- the message with TC, and without records
 abbrev pub cut_down : Message → Message
 cut_down m = record {
   header = record m.header { tc = true };
@@ -30,12 +30,12 @@ abbrev pub end_of : List Told → Option Told
 end_of [] = None
 end_of (t ∷ chain) = Some (last_of t chain)
 
--- the authority section after a chain that ends in this piece, if any
+-- the authority section after a chain with this end, if any
 abbrev pub end_authority : Option Told → List Record
 end_authority None = []
 end_authority (Some t) = authority_of t
 
--- the response code after a chain that ends in this piece, if any
+-- the response code after a chain with this end, if any
 abbrev pub end_rcode : Option Told → ℕ
 end_rcode None = 0
 end_rcode (Some t) = rcode_of t.piece.body

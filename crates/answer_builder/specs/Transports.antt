@@ -1,4 +1,4 @@
--- The octets of an answer that are sent (RFC 1035 4.2).
+-- The sent octets of an answer (RFC 1035 4.2).
 use Rattle.std.specs.Prelude.{ℕ, if◌then◌else◌, nat_le, List, length, map, Result, Ok, Err}
 use Rattle.dns_message.specs.Writing.{written}
 use Rattle.record_cache.specs.Values.{Held}
@@ -18,7 +18,7 @@ over_udp full cut = if nat_le (length full) 512 then full else cut
 abbrev pub over_tcp : List ℕ → Result (List ℕ) Fault
 over_tcp full = if nat_le (length full) 65535 then Ok full else Err TooLarge
 
--- what is sent: over UDP the truncated text where the full one is too long (RFC 1035 4.2)
+-- over UDP the truncated text if the full text is too long, otherwise the full text (RFC 1035 4.2)
 abbrev pub sent_over : Transport → List ℕ → List ℕ → Result (List ℕ) Fault
 sent_over Udp full cut = Ok (over_udp full cut)
 sent_over Tcp full cut = over_tcp full
@@ -31,10 +31,10 @@ text_of a s transport = sent_over transport (written (full_answer a s)) (written
 abbrev pub answer_of : Asked → List Held → ℕ → Transport → Result (List ℕ) Fault
 answer_of a chain moment transport = text_of a (sections_of moment chain) transport
 
--- the same with expired pieces from index `past` on at 30 seconds (RFC 8767 4), and 0 before
+-- the answer with expired pieces from index `past` on at 30 seconds (RFC 8767 4), and at 0 before
 abbrev pub stale_answer_of : Asked → List Held → ℕ → ℕ → Transport → Result (List ℕ) Fault
 stale_answer_of a chain past moment transport = text_of a (sections_told (told_stale past moment chain)) transport
 
--- the same from aliases to a name whose route denies
+-- the answer from aliases to a name whose route denies
 abbrev pub local_answer_of : Asked → List Held → ℕ → Transport → Result (List ℕ) Fault
 local_answer_of a aliases moment transport = text_of a (local_sections (map (told_at moment) aliases)) transport

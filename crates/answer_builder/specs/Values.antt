@@ -4,14 +4,14 @@ use Rattle.dns_message.specs.Values.{Question, Record}
 use Rattle.trust_rank.specs.Values.{Piece}
 use Rattle.dns_message.specs.declared.reading.header.Header.{Header}
 
--- the part of a request that its answer repeats: RFC 1035 4.1.1 and 4.1.2
+-- the part of a request repeated in the answer: RFC 1035 4.1.1 and 4.1.2
 pub record Asked : Type 0 where
   pub id : ℕ
   pub opcode : ℕ
   pub rd : Bool
   pub question : Option Question
 
--- a piece, and the seconds that an answer gives it
+-- a piece, and its seconds in an answer
 pub record Told : Type 0 where
   pub piece : Piece
   pub seconds : ℕ
@@ -22,6 +22,6 @@ pub record Sections : Type 0 where
   pub authority : List Record
   pub rcode : ℕ
 
--- that part of a request with this header and question, if any
+-- the repeated part of a request with this header and question, if any
 abbrev pub asked_in : Header → Option Question → Asked
 asked_in h q = record { id = h.id; opcode = h.opcode; rd = h.rd; question = q }

@@ -6,7 +6,7 @@ use dns_message::{Question, QuestionRef};
 use std::alloc::{Allocator, Global};
 use std::marker::Model;
 
-/// The part of a client's request that its answer repeats (RFC 1035 4.1.1 and 4.1.2).
+/// The part of a client's request repeated in the answer (RFC 1035 4.1.1 and 4.1.2).
 #[derive(Drop)]
 pub struct Asked<A: Allocator = Global> {
     /// The identifier.
@@ -15,7 +15,7 @@ pub struct Asked<A: Allocator = Global> {
     pub opcode: u8,
     /// Recursion is desired.
     pub rd: bool,
-    /// The question, spelled as it came; `None` where the answer has no question.
+    /// The question in the client's spelling; `None` for an answer without a question.
     pub question: Option<Question<A>>,
 }
 
@@ -28,7 +28,7 @@ impl<A: Allocator> Model for Asked<A> {
 }
 
 impl<A: Allocator> Asked<A> {
-    /// The same with the question borrowed. It does not allocate.
+    /// This part with the question borrowed.
     pub fn borrowed(&self) -> AskedRef<'_>
         ensures { result ≡ self.now }
     {
@@ -45,7 +45,7 @@ impl<A: Allocator> Asked<A> {
     }
 }
 
-/// A client's request, with the question in place. Contracts see it as they see an `Asked`.
+/// A client's request, with the question in place. Contracts see an `Asked`.
 #[derive(Drop)]
 pub struct AskedRef<'a> {
     /// The identifier.
@@ -54,7 +54,7 @@ pub struct AskedRef<'a> {
     pub opcode: u8,
     /// Recursion is desired.
     pub rd: bool,
-    /// The question, spelled as it came; `None` where the answer has no question.
+    /// The question in the client's spelling; `None` for an answer without a question.
     pub question: Option<QuestionRef<'a>>,
 }
 

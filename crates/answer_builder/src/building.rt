@@ -17,16 +17,15 @@ use plain_values::Octets;
 use record_cache::Held;
 use std::alloc::{AllocError, Allocator};
 
-/// The octets of the answer to a question whose opcode has 4 bits, from the pieces that answer it:
+/// The octets of the answer to a question whose opcode has 4 bits, from the answering pieces:
 /// aliases in order, then a set or a denial, none accepted after the moment, in milliseconds.
 ///
-/// Identifier, opcode, RD and question are as they came, QR and RA are set, AA and Z clear. The
+/// Identifier, opcode, RD and question are the client's, QR and RA are set, AA and Z clear. The
 /// answer section has the records of all sets, in order, the authority section the SOA of a denial
-/// at the end, if it has one, each with the whole seconds that are left of its piece; the response
-/// code is 3 where the end is a name error, otherwise 0 (RFC 2308 2 and 3). Over UDP, where these
-/// are more than 512 octets, the same header with TC and the question alone (RFC 1035 4.2.1). Over
-/// TCP, `TooLarge` where they are more than 65,535 (RFC 1035 4.2.2). `Memory` where an allocation
-/// was refused.
+/// at the end, if any, each with the whole seconds left of its piece; the response code is 3 if the
+/// end is a name error, otherwise 0 (RFC 2308 2 and 3). Over UDP, an answer longer than 512 octets
+/// becomes this header with TC and the question alone (RFC 1035 4.2.1). Over TCP, `TooLarge` for
+/// more than 65,535 octets (RFC 1035 4.2.2). `Memory` if memory ran out.
 pub fn build<A: Allocator + Copy>(
     alloc: A,
     asked: &Asked<A>,
@@ -41,10 +40,9 @@ pub fn build<A: Allocator + Copy>(
     build_stale(alloc, asked, chain, chain.len(), moment, transport)
 }
 
-/// The octets of the answer that `build` gives, but with expired pieces: each of those from index
-/// `past` on, which is at most their number, that has expired at the moment has 30 seconds left
-/// (RFC 8767 4); all others have what is left of them, 0 where they have expired. Faults are those
-/// of `build`.
+/// The octets of the answer of `build`, but with expired pieces: from index `past` on, which is at
+/// most their number, each expired piece has 30 seconds left (RFC 8767 4); all further pieces have
+/// their seconds left, 0 if expired. Faults are the faults of `build`.
 pub fn build_stale<A: Allocator + Copy>(
     alloc: A,
     asked: &Asked<A>,
@@ -62,14 +60,14 @@ pub fn build_stale<A: Allocator + Copy>(
     built(alloc, asked, &Sections::stale(alloc, &told)?, transport)
 }
 
-/// The octets of the answer to a question whose opcode has 4 bits, from the aliases that lead from
-/// its name to one whose route denies, none to 8, none accepted after the moment, in milliseconds.
+/// The octets of the answer to a question whose opcode has 4 bits, from its aliases to a name whose
+/// route denies, none to 8, none accepted after the moment, in milliseconds.
 ///
-/// The header is that of `build` with response code 3, a name error. The answer section has the
-/// aliases in order, each with the whole seconds that are left of it; the authority section is
-/// empty (RFC 2308 2.1). Over UDP, where this is more than 512 octets, the same header with TC and
-/// the question alone (RFC 1035 4.2.1). Over TCP, `TooLarge` where it is more than 65,535 (RFC 1035
-/// 4.2.2). `Memory` where an allocation was refused.
+/// The header is the header of `build` with response code 3, a name error. The answer section has
+/// the aliases in order, each with its whole seconds left; the authority section is empty (RFC 2308
+/// 2.1). Over UDP, an answer longer than 512 octets becomes this header with TC and the question
+/// alone (RFC 1035 4.2.1). Over TCP, `TooLarge` for more than 65,535 octets (RFC 1035 4.2.2).
+/// `Memory` if memory ran out.
 pub fn build_local<A: Allocator + Copy>(
     alloc: A,
     asked: &Asked<A>,
@@ -100,10 +98,9 @@ fn built<A: Allocator + Copy>(
     Ok(Octets::from_vec(octets))
 }
 
-/// The octets of the answer to a question that failed, with this response code; opcode and response
-/// code have 4 bits. Identifier, opcode, RD and the question, if any, are as they came, QR and RA
-/// are set, all other bits are clear and all sections are empty (RFC 1035 4.1.1). `Err` where
-/// memory ran out.
+/// The octets of the answer to a failed question, with this response code; opcode and response code
+/// have 4 bits. Identifier, opcode, RD and the question, if any, are the client's, QR and RA are
+/// set, all further bits are clear and all sections are empty (RFC 1035 4.1.1).
 pub fn failure<A: Allocator + Copy>(
     alloc: A,
     asked: &Asked<A>,
@@ -118,8 +115,8 @@ pub fn failure<A: Allocator + Copy>(
     Ok(Octets::from_vec(octets))
 }
 
-/// Writes the octets that `failure` gives in place of the octets. A vector with room for 271 is not
-/// made larger. If memory runs out, the octets may be anything, and keep their room.
+/// Writes the octets of `failure` over `octets`. A vector with room for 271 is not enlarged. Out of
+/// memory, the octets may be anything, and keep their room.
 pub fn put_failure<A: Allocator + Copy>(
     alloc: A,
     octets: &mut Vec<u8, A>,

@@ -1,4 +1,4 @@
-//! The records that an answer has of a piece, borrowed from it.
+//! The records of a piece in an answer, borrowed.
 
 ghost use Rattle.std.specs.Prelude.{◌≡◌, ◌<◌, map, IfOk, Some};
 ghost use Rattle.std.specs.List.{flat_map, AllByRecursion};
@@ -83,7 +83,7 @@ pub(crate) fn sets_at<'a, A: Allocator + Copy>(
     Ok(sets)
 }
 
-/// The SOA of a denial, if it has one; a set has none.
+/// The SOA of a denial, if any; a set has none.
 pub(crate) fn soa_of<'a, A: Allocator>(told: &ToldRef<'a, A>) -> Option<RowsRef<'a, A>>
     ensures { listed result ≡ authority_of told.now }
 {
@@ -120,7 +120,7 @@ fn aged_soa<A: Allocator>(soa: &Record<A>, ttl: u32) -> RowsRef<'_, A>
     }
 }
 
-/// The response code of an answer that ends with this piece.
+/// The response code of an answer with this piece at its end.
 pub(crate) fn rcode_of<A: Allocator>(piece: &Piece<A>) -> u8
     ensures code { result ≡ rcode_of piece.now.body }
     ensures small { result < 16 }

@@ -55,7 +55,7 @@ impl<'a, A: Allocator> Model for Sections<'a, A> {
 impl<'a, A: Allocator + Copy> Sections<'a, A> {
     /// The sections of the answer from pieces that are alive, with the whole seconds that are left
     /// of each at a moment, in milliseconds: aliases in order, then a set or a denial. Only more
-    /// than one piece allocates. `Err` where memory ran out.
+    /// than one piece allocates.
     pub fn answer(
         alloc: A,
         chain: &[&'a Held<A>],
@@ -113,8 +113,7 @@ impl<'a, A: Allocator + Copy> Sections<'a, A> {
     }
 
     /// The sections of the answer from aliases that lead to a name whose route denies, with the
-    /// seconds that it gives them: a name error without SOA (RFC 2308 2.1). `Err` where memory ran
-    /// out.
+    /// seconds that it gives them: a name error without SOA (RFC 2308 2.1).
     pub fn denied(alloc: A, aliases: &[ToldRef<'a, A>]) -> Result<Sections<'a, A>, AllocError>
         ensures { IfOk result (λ sections. sections ≡ local_sections aliases.now) }
     {

@@ -15,14 +15,14 @@ use crate::fault::Fault;
 use dns_message::{Header, MessageParts, write_parts};
 use std::alloc::{AllocError, Allocator};
 
-/// The most octets that UDP carries (RFC 1035 4.2.1).
+/// The most octets of a message over UDP (RFC 1035 4.2.1).
 pub const UDP_LIMIT: usize = 512;
 
-/// The most octets that TCP carries (RFC 1035 4.2.2).
+/// The most octets of a message over TCP (RFC 1035 4.2.2).
 const TCP_LIMIT: usize = 65_535;
 
-/// The header of an answer. Its counts are those of what is written under it. `named` repeats what
-/// holds of each name.
+/// The header of an answer. Its counts are those of the sections written after it. The clause
+/// `named` repeats the facts about each name.
 pub(crate) fn header_of(asked: &AskedRef<'_>, rcode: u8) -> Header
     ensures header { result ≡ answer_header asked.now false rcode (0 ∷ 0 ∷ 0 ∷ 0 ∷ []) }
     ensures named { IfSome asked.now.question (λ q. IsName q.name) }
@@ -44,7 +44,7 @@ pub(crate) fn header_of(asked: &AskedRef<'_>, rcode: u8) -> Header
     }
 }
 
-/// Writes the octets of an answer that are sent.
+/// Writes the sent octets of an answer.
 pub(crate) fn put_text<A: Allocator + Copy>(
     alloc: A,
     octets: &mut Vec<u8, A>,
@@ -124,7 +124,7 @@ pub(crate) fn put_bare<A: Allocator + Copy>(
     }
 }
 
-/// Writes the message, if it has at most `limit` octets; returns whether it has.
+/// Writes the message, if at most `limit` octets long; returns whether it is.
 fn put_whole<A: Allocator + Copy>(
     alloc: A,
     octets: &mut Vec<u8, A>,

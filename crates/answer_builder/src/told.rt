@@ -1,4 +1,4 @@
-//! Pieces with the seconds that an answer gives them.
+//! Pieces with their seconds in an answer.
 
 ghost use Rattle.std.specs.Prelude.{◌≡◌, ◌≤◌, ◌++◌, length, map, IfOk, OnOk};
 ghost use Rattle.std.specs.List.{AllByRecursion};
@@ -15,11 +15,11 @@ use trust_rank::Piece;
 /// The TTL of a stale piece, in seconds (RFC 8767 4).
 const STALE: u32 = 30;
 
-/// A borrowed piece, and the seconds that an answer gives it. Contracts see it as a `Told`.
+/// A borrowed piece, and its seconds in an answer. Contracts see a `Told`.
 #[derive(Drop)]
 pub struct ToldRef<'a, A: Allocator = Global> {
     pub piece: &'a Piece<A>,
-    /// The TTL of all its records.
+    /// The TTL of all records.
     pub seconds: u32,
 }
 
@@ -32,9 +32,8 @@ impl<'a, A: Allocator> Model for ToldRef<'a, A> {
 }
 
 impl<'a, A: Allocator> ToldRef<'a, A> {
-    /// A held piece, with the whole seconds that are left of it at a moment, in milliseconds, that
-    /// is not before it was accepted; 0 where it has expired (RFC 1035 3.2.1). It does not
-    /// allocate.
+    /// A held piece, with the whole seconds left at a moment, in milliseconds, not before its
+    /// acceptance; 0 if expired (RFC 1035 3.2.1).
     pub fn at(held: &'a Held<A>, moment: u64) -> ToldRef<'a, A>
         requires { held.now.accepted ≤ moment }
         ensures { result ≡ told_at moment held.now }
@@ -45,8 +44,7 @@ impl<'a, A: Allocator> ToldRef<'a, A> {
         }
     }
 
-    /// The same where it is alive; an expired piece has 30 seconds left (RFC 8767 4). It does not
-    /// allocate.
+    /// A held piece with its seconds left, or 30 seconds if expired (RFC 8767 4).
     pub fn past(held: &'a Held<A>, moment: u64) -> ToldRef<'a, A>
         requires { held.now.accepted ≤ moment }
         ensures { result ≡ told_past moment held.now }
@@ -61,8 +59,7 @@ impl<'a, A: Allocator> ToldRef<'a, A> {
     }
 }
 
-/// The whole seconds that are left of a piece at a moment, in milliseconds, as the TTL of its
-/// records.
+/// The whole seconds left of a piece at a moment, in milliseconds, as the TTL of its records.
 fn ttl_of<A: Allocator>(held: &Held<A>, moment: u64) -> u32
     requires { held.now.accepted ≤ moment }
     ensures { result ≡ seconds_left moment held.now }
@@ -91,7 +88,7 @@ pub(crate) fn told_stale<'a, A: Allocator + Copy>(
     Ok(told)
 }
 
-/// Adds pieces with what is left of them at a moment, in milliseconds.
+/// Adds pieces with their seconds left at a moment, in milliseconds.
 fn add_left<'a, A: Allocator + Copy>(
     told: &mut Vec<ToldRef<'a, A>, A>,
     chain: &'a [Held<A>],
@@ -121,7 +118,7 @@ fn add_past<'a, A: Allocator + Copy>(
     Ok(())
 }
 
-/// The last of borrowed pieces, if any, with what is left of it at a moment, in milliseconds.
+/// The last of borrowed pieces, if any, with its seconds left at a moment, in milliseconds.
 pub(crate) fn last_at<'a, A: Allocator>(
     chain: &[&'a Held<A>],
     moment: u64,

@@ -1,4 +1,4 @@
--- Keys in the order in which they were put, and their numbers.
+-- Keys in the order of arrival, and their numbers.
 use Rattle.std.specs.Prelude.{ℕ, ◌<◌, ◌≤◌, Bool, List, length, slice_index}
 
 -- The keys; whether there is room for one more; the keys below `known` have room for their numbers.

@@ -9,9 +9,9 @@ use std::alloc::{AllocError, Allocator, Global};
 use std::collections::VecDeque;
 use std::marker::Model;
 
-/// Keys in the order in which they were put, none of them twice. Each has a number, which is not
-/// below those of the keys before it, so a key is found by binary search. Keys are small numbers,
-/// such as a slab gives: the numbers of all keys up to the highest one that was put are kept.
+/// Different keys in the order of arrival. Each has a number, not below the numbers of the keys
+/// before, so a key is found by binary search. Keys are small numbers, such as a slab gives: the
+/// numbers of all keys up to the highest key so far are kept.
 #[derive(Drop)]
 pub struct ArrivalOrder<A: Allocator = Global> {
     keys: VecDeque<usize, A>,
@@ -36,7 +36,7 @@ impl<A: Allocator> Model for ArrivalOrder<A> {
 }
 
 impl<A: Allocator> ArrivalOrder<A> {
-    /// No keys. It does not allocate; `reserve` later allocates from `alloc`.
+    /// No keys; `reserve` later allocates from `alloc`.
     pub fn new(alloc: A) -> ArrivalOrder<A>
     where
         A: Copy,
@@ -48,21 +48,21 @@ impl<A: Allocator> ArrivalOrder<A> {
         }
     }
 
-    /// The number of keys. It does not allocate.
+    /// The number of keys.
     pub fn len(&self) -> usize
         ensures { result ≡ length self.now.keys }
     {
         self.keys.len()
     }
 
-    /// The key that was put first. It does not allocate.
+    /// The first key.
     pub fn first(&self) -> Option<usize>
         ensures { result ≡ slice_get self.now.keys 0 }
     {
         self.keys.front().copied()
     }
 
-    /// Makes room for this key. `Err` where memory ran out; the keys are the same in either case.
+    /// Makes room for this key.
     pub fn reserve(&mut self, key: usize) -> Result<(), AllocError>
         ensures same { self.new.keys ≡ self.old.keys }
         ensures room { OnOk result (self.new.has_room ≡ true) }
@@ -76,8 +76,8 @@ impl<A: Allocator> ArrivalOrder<A> {
         Ok(())
     }
 
-    /// Puts a key last. It does not allocate. The caller makes sure that there is room for it
-    /// (`reserve`), and that it is none of the keys.
+    /// Puts a key last. The caller makes sure that there is room for the key (`reserve`), and that
+    /// the key is new.
     pub fn put(&mut self, key: usize)
         requires room { self.old.has_room ≡ true }
         requires known { key < self.old.known }
@@ -89,8 +89,7 @@ impl<A: Allocator> ArrivalOrder<A> {
         self.keys.push_back_reserved(key);
     }
 
-    /// The place of a key, counted from 0. It does not allocate. The key that was put first is
-    /// found at once.
+    /// The place of a key, from 0. The first key is found at once.
     pub fn place_of(&self, key: usize) -> usize
         requires { Contains self.now.keys key }
         ensures within { result < length self.now.keys }
@@ -102,8 +101,8 @@ impl<A: Allocator> ArrivalOrder<A> {
         place_in(&self.numbers, &self.keys, key)
     }
 
-    /// Takes out the key at a place, which leaves room for another one, and for the same key. It
-    /// does not allocate.
+    /// Removes the key at a place, which leaves room for a further key, and for the removed key
+    /// again.
     pub fn take(&mut self, place: usize)
         requires { place < length self.old.keys }
         ensures keys { self.new.keys ≡ remove self.old.keys place }
@@ -116,7 +115,7 @@ impl<A: Allocator> ArrivalOrder<A> {
         };
     }
 
-    /// Takes all keys out. It does not allocate.
+    /// Removes all keys.
     pub fn clear(&mut self)
         ensures { self.new.keys ≡ [] }
     {
@@ -125,7 +124,7 @@ impl<A: Allocator> ArrivalOrder<A> {
     }
 }
 
-/// The number of a key; 0 for one that has none.
+/// The number of a key; 0 for a key without a number.
 fn number_of(numbers: &[u64], key: usize) -> u64
     ensures { result ≡ slice_index numbers.now key }
 {
@@ -135,8 +134,8 @@ fn number_of(numbers: &[u64], key: usize) -> u64
     }
 }
 
-/// The number of the next key: one more than that of the last, or 0 if there is none. It stays at
-/// the highest number, which keys do not reach.
+/// The number of the next key: the last key's number and one, or 0 if there is no key. The highest
+/// number of 64 bits stays; no run of keys reaches it.
 fn next_number<A: Allocator>(numbers: &[u64], keys: &VecDeque<usize, A>) -> u64
     requires { AreNumbered numbers.now keys.now.items }
     ensures { IsBehindAll numbers.now keys.now.items result }
@@ -147,8 +146,8 @@ fn next_number<A: Allocator>(numbers: &[u64], keys: &VecDeque<usize, A>) -> u64
     }
 }
 
-/// The place of a key. The search looks only at the keys that the binary search meets and those
-/// with an equal number: below the highest number there are none of these.
+/// The place of a key. Only keys met by the binary search and keys with an equal number are read;
+/// below the highest number all numbers differ.
 fn place_in<A: Allocator>(numbers: &[u64], keys: &VecDeque<usize, A>, key: usize) -> usize
     requires numbered { AreNumbered numbers.now keys.now.items }
     requires listed { Contains keys.now.items key }

@@ -1,4 +1,4 @@
-//! Keys in the order in which they were put. A key's place is found without a look at all others.
+//! Keys in the order of arrival. A key's place is found without a look at all keys.
 #![tactic(auto)]
 
 mod arrival_order;

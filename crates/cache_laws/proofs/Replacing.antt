@@ -126,3 +126,12 @@ replaces_test q p (inr (inr h)) =
 
 pub replaces_exactly : ReplacesExactly
 replaces_exactly = record { only = replaces; each = replaces_test }
+
+pub keeps_place : (q p : Piece) → takes_place_of q p ≡ false → Replaces q p → ⊥
+keeps_place q p e h = false≢true (sym e ∙ replaces_test q p h)
+
+pub place_kept : (q p : Piece) → (Replaces q p → ⊥) → takes_place_of q p ≡ false
+place_kept q p none = elim (cases_Bool (takes_place_of q p)) [
+  | inl is ↦ absurd (none (replaces q p is))
+  | inr isnt ↦ isnt
+]

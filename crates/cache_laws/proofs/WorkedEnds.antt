@@ -9,7 +9,7 @@ use Rattle.dns_name.proofs.CallerLemmas.{same_decides, is_under_decides}
 use Rattle.dns_message.specs.Values.{Record, Message}
 use Rattle.dns_message.specs.Data.{name_of_rdata}
 use Rattle.dns_message.specs.Names.{step as name_step, walk_in, name_within}
-use Rattle.suffix_routes.specs.Values.{AllDiffer, IsConfig}
+use Rattle.suffix_routes.specs.Values.{AllDiffer}
 use Rattle.suffix_routes.specs.Routes.{route_of}
 use Rattle.suffix_routes.proofs.CallerLemmas.{route_found_is_longest}
 use Rattle.trust_rank.specs.Values.{Piece, found, ends_no_data, ends_denied, elsewhere, lame, Walk, Reply}
@@ -34,36 +34,6 @@ use Rattle.cache_laws.proofs.WorkedCarried.{seen, on_route}
 
 routes_differ : AllDiffer routes
 routes_differ = (((λ is. absurd (true≢false (sym ((same_decides [] ((122 ∷ []) ∷ [])).1 is)))), tt), (tt, tt))
-
-is_config : IsConfig config
-is_config = record {
-  limits = record {
-    questions = (omega arith, omega arith);
-    inquiries = (omega arith, omega arith);
-    cache = (omega arith, omega arith);
-    tries = (omega arith, omega arith);
-    ask_ms = (omega arith, omega arith);
-    deadline_ms = (omega arith, omega arith);
-    stale_s = (omega arith, omega arith);
-  };
-  count = (omega arith, omega arith);
-  each = (
-    record {
-      suffix = record { each = tt; short = omega arith };
-      serves = λ serves. (omega arith, omega arith);
-      denies = λ denies. absurd (true≢false (sym denies));
-    },
-    (
-      record {
-        suffix = record { each = (record { some = omega arith; short = omega arith }, tt); short = omega arith };
-        serves = λ serves. (omega arith, omega arith);
-        denies = λ denies. absurd (true≢false (sym denies));
-      },
-      tt,
-    ),
-  );
-  differ = routes_differ;
-}
 
 -- ---- an alias, and the set behind it
 
@@ -388,7 +358,7 @@ own_unranked = set_with 1 0 (host a 300 5) [] ∷ []
 
 without_authority : IsCarriedBy config (with_servers false) address 0 own_unranked [] found
 unfolding walk_from servers_from route_of
-without_authority = carried_exactly.is config (with_servers false) address 0 is_config
+without_authority = carried_exactly.is config (with_servers false) address 0 routes_differ
 
 servers_without_authority : IsCarriedBy config (with_servers false) address 0 own_unranked (of_e ∷ of_root ∷ []) found
     → ⊥

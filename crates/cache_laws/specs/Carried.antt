@@ -1,14 +1,13 @@
 -- The content of a reply: RFC 1034 3.6.2, RFC 2181 5, 8 and 10.1, RFC 2308 2, 3 and 5. Neither code
--- nor table computes any of these definitions. Taken as given are the records that were read from
--- the octets, equality of names without letter case (`lowered`), and the name in an alias's data
--- (`name_of_rdata`).
+-- nor table computes any of these definitions. Given are the records read from the octets, equality
+-- of names without letter case (`lowered`), and the name in an alias's data (`name_of_rdata`).
 use Rattle.std.specs.Prelude.{◌≡◌, ◌≢◌, ◌⊎◌, ℕ, ◌<◌, ◌≤◌, true, false, List, [], ◌∷◌, ◌++◌, length, Option, Some, None}
 use Rattle.std.specs.List.{AllByRecursion}
 use Rattle.dns_name.specs.Labels.{lowered, IsSame, IsUnder}
 use Rattle.dns_message.specs.Values.{Question, Record, Message}
 use Rattle.dns_message.specs.Messages.{HasShapes}
 use Rattle.dns_message.specs.Data.{name_of_rdata}
-use Rattle.suffix_routes.specs.Values.{Config, IsConfig}
+use Rattle.suffix_routes.specs.Values.{Config, AllDiffer}
 use Rattle.suffix_routes.specs.Routes.{IsRouteOf}
 use Rattle.trust_rank.specs.Values.{rows, no_data, denied, Piece, End, found, ends_no_data, ends_denied, elsewhere}
 use Rattle.trust_rank.specs.Values.{lame, Reply, reply_of}
@@ -29,8 +28,8 @@ pub record IsOfReply (r : Reply) (p : Piece) : Type 0 where
   pub class : p.slot.class ≡ r.question.class
   pub route : p.route ≡ r.route
 
--- a set is the whole set of the answer section, a denial holds its SOA and lives by it, and the
--- rank is by authority
+-- a set is the whole set of the answer section, a denial has its SOA and lifetime, and the rank is
+-- by authority
 pub record IsPieceOf (r : Reply) (p : Piece) : Type 0 where
   pub set : IsSetFrom r.answers p
   pub denial : IsDenialFrom r.question.class r.authority p
@@ -46,11 +45,11 @@ pub record IsSetAt (kind : ℕ) (name : List (List ℕ)) (p : Piece) : Type 0 wh
 
 -- ---- the aliases, one by one
 
--- the name is on the asked route: the longest suffix of the name, by labels, is of that route
+-- the name is on the asked route: the longest suffix of the name, by labels, is the route's
 abbrev pub IsOnRoute : Reply → List (List ℕ) → Type 0
 IsOnRoute r name = IsRouteOf r.config.routes name r.route
 
--- each name but the last is on the asked route and has one alias, which leads to the next name
+-- each name but the last is on the asked route and has one alias, with the next name as target
 abbrev pub LeadThrough : Reply → List (List ℕ) → List (List (List ℕ)) → List (List ℕ) → Type 0
 LeadThrough r name [] last = name ≡ last
 LeadThrough r name (target ∷ targets) last = IsOnRoute r name × IsLoneAlias r name target
@@ -94,7 +93,7 @@ pub record IsErrorAt (r : Reply) (name : List (List ℕ)) (p : Piece) : Type 0 w
   pub body : p.body ≡ denied soa
 
 -- The piece is NODATA: RCODE is not 3, and the name has neither set nor alias (RFC 2308 2.2). The
--- authority section has an SOA for the name; or the name is the asked one, and the reply is no
+-- authority section has an SOA for the name; or the name is the asked name, and the reply is no
 -- referral.
 pub record IsNoDataAt (r : Reply) (count : ℕ) (name : List (List ℕ)) (p : Piece) : Type 0 where
   pub other : r.rcode ≢ 3
@@ -105,7 +104,8 @@ pub record IsNoDataAt (r : Reply) (count : ℕ) (name : List (List ℕ)) (p : Pi
   pub soa : Option Record
   pub body : p.body ≡ no_data soa
 
--- aliases lead to the name, and the reply says nothing of it: RCODE is not 3, and no SOA is there
+-- aliases lead to the name, and the reply says nothing about the name: RCODE is not 3, and there is
+-- no SOA
 pub record IsLeftOpen (r : Reply) (count : ℕ) (name : List (List ℕ)) : Type 0 where
   pub on_route : IsOnRoute r name
   pub other : r.rcode ≢ 3
@@ -113,8 +113,8 @@ pub record IsLeftOpen (r : Reply) (count : ℕ) (name : List (List ℕ)) : Type 
   pub led : 1 ≤ count
   pub no_soa : HasSoaFor r name → ⊥
 
--- the name has to be asked for: eight aliases lead to it, or it is on another route or none, or the
--- reply says nothing of it
+-- the name has to be asked for: after eight aliases, on a different route or none, or without a
+-- word in the reply
 abbrev pub HasToBeAsked : Reply → ℕ → List (List ℕ) → Type 0
 HasToBeAsked r count name = (count ≡ 8) ⊎ ((IsOnRoute r name → ⊥) ⊎ IsLeftOpen r count name)
 
@@ -123,14 +123,13 @@ pub record AsksForTwo (r : Reply) (name : List (List ℕ)) : Type 0 where
   pub asked : r.question.kind ≡ 5
   pub two : HasTwoAliases r name
 
--- another type is asked for; the name has no set of that type, and two aliases or one without
--- target
+-- the type is not CNAME; the name has no set of the type, and two aliases or one without target
 pub record LosesItsWay (r : Reply) (name : List (List ℕ)) : Type 0 where
   pub other : r.question.kind ≢ 5
   pub no_set : LacksAt r r.question.kind name
   pub lost : HasTwoAliases r name ⊎ HasNoTarget r name
 
--- the reply says nothing of the asked name, and refers to other servers (RFC 2308 2.2)
+-- the reply says nothing about the asked name, and refers to further servers (RFC 2308 2.2)
 pub record IsReferredOn (r : Reply) (count : ℕ) (name : List (List ℕ)) : Type 0 where
   pub first : count ≡ 0
   pub other : r.rcode ≢ 3
@@ -153,7 +152,7 @@ pub record ClosesAt (r : Reply) (count : ℕ) (name : List (List ℕ)) (closing 
   pub alone : closing ≡ p ∷ []
   pub is : P p
 
--- the pieces of the last name, to which `count` aliases lead, and the end
+-- the pieces of the last name, after `count` aliases, and the end
 abbrev pub EndsSo : Reply → ℕ → List (List ℕ) → List Piece → End → Type 0
 EndsSo r count name closing found = ClosesAt r count name closing (IsFoundAt r name)
 EndsSo r count name closing ends_no_data = ClosesAt r count name closing (IsNoDataAt r count name)
@@ -162,8 +161,8 @@ EndsSo r count name closing (elsewhere last) = (count ≤ 8) × (closing ≡ [])
     × HasToBeAsked r count name
 EndsSo r count name closing lame = ⊥
 
--- aliases lead from the asked name to the last name; the pieces are these aliases, followed by the
--- pieces of the last name
+-- aliases lead from the asked name to the last name; the pieces are these aliases, then the pieces
+-- of the last name
 pub record IsWalked (r : Reply) (pieces : List Piece) (end : End) : Type 0 where
   pub targets : List (List (List ℕ))
   pub last : List (List ℕ)
@@ -222,7 +221,7 @@ BeginsFirst r (s ∷ records) p q = IsRecordFor (servers_of r p) (s ∷ records)
     ⊎ ((IsRecordFor (servers_of r q) (s ∷ records) s → ⊥) × BeginsFirst r records p q)
 
 -- each piece is a set of name servers, each NS record to be carried is in a set, no two sets have
--- the same owner, and the sets are in the order of their first records
+-- equal owners, and the sets are in the order of their first records
 pub record AreServers (r : Reply) (pieces servers : List Piece) : Type 0 where
   pub each : AllByRecursion (IsServerSet r pieces) servers
   pub all : (s : Record) → IsServerFor r pieces s → IsCarriedIn servers s
@@ -232,7 +231,7 @@ pub record AreServers (r : Reply) (pieces servers : List Piece) : Type 0 where
 -- ---- all of it
 
 -- The message, as a reply to the question on the route, has these pieces on its walk, these sets of
--- name servers, and this end. Only an authoritative reply that is not lame carries name servers.
+-- name servers, and this end. Only an authoritative, not lame reply carries name servers.
 pub record IsCarriedBy (c : Config) (m : Message) (q : Question) (route : ℕ) (pieces servers : List Piece)
     (end : End) : Type 0 where
   pub each : AllByRecursion (IsPieceOf (reply_of c m q route)) pieces
@@ -241,12 +240,12 @@ pub record IsCarriedBy (c : Config) (m : Message) (q : Question) (route : ℕ) (
   pub none_without_authority : m.header.aa ≡ false → servers ≡ []
   pub none_if_lame : end ≡ lame → servers ≡ []
 
--- `walk_of` gives pieces, name servers and end as they are carried, and no others are carried so.
--- The configuration is an accepted one. The record data has the shapes of its types, as in each
--- message that was read.
+-- `walk_of` gives pieces, name servers and end as they are carried, and no others are carried so. No
+-- two routes have the same suffix, as in each accepted configuration. The record data has the shapes
+-- of its types, as in each message that was read.
 pub record CarriedExactly : Type 0 where
-  pub is : (c : Config) (m : Message) (q : Question) (route : ℕ) → IsConfig c
+  pub is : (c : Config) (m : Message) (q : Question) (route : ℕ) → AllDiffer c.routes
       → IsCarriedBy c m q route (walk_of c m q route).pieces (walk_of c m q route).authority (walk_of c m q route).end
   pub only : (c : Config) (m : Message) (q : Question) (route : ℕ) (pieces servers : List Piece) (end : End)
-      → IsConfig c → HasShapes m → IsCarriedBy c m q route pieces servers end
+      → AllDiffer c.routes → HasShapes m → IsCarriedBy c m q route pieces servers end
       → walk_of c m q route ≡ record { pieces = pieces; authority = servers; end = end }

@@ -1,4 +1,4 @@
--- Replies that deny a name (RFC 2308 2.1, RFC 1034 3.6.2).
+-- Replies with a denied name (RFC 2308 2.1, RFC 1034 3.6.2).
 use Rattle.std.specs.Prelude.{◌≡◌, ◌≢◌, ℕ, zero, suc, ◌<◌, List, [], ◌∷◌, Some}
 use Rattle.dns_message.specs.Values.{Question, Record, Message}
 use Rattle.dns_message.specs.Data.{name_of_rdata}
@@ -16,8 +16,8 @@ question_at r kind name = record { name = name; kind = kind; class = r.question.
 abbrev pub LacksAt : Reply → ℕ → List (List ℕ) → Type 0
 LacksAt r kind name = (s : Record) → IsRecordFor (question_at r kind name) r.answers s → ⊥
 
--- the answer section has no record of the asked type at the name, which is not CNAME (5), but one
--- alias, which is the target's name (RFC 1034 3.6.2)
+-- the answer section has no record of the asked type (not CNAME, 5) at the name, but one alias with
+-- this target (RFC 1034 3.6.2)
 pub record IsLoneAlias (r : Reply) (name target : List (List ℕ)) : Type 0 where
   pub other : r.question.kind ≢ 5
   pub no_set : LacksAt r r.question.kind name
@@ -48,7 +48,7 @@ pub record IsDeniedAt (r : Reply) (name : List (List ℕ)) : Type 0 where
   pub rcode : r.rcode ≡ 3
   pub nothing : HasNothingAt r name
 
--- fewer than eight aliases lead from the asked name to one that is denied so
+-- fewer than eight aliases lead from the asked name to a denied name
 pub record LeadsToDenied (r : Reply) : Type 0 where
   pub count : ℕ
   pub last : List (List ℕ)
@@ -56,8 +56,8 @@ pub record LeadsToDenied (r : Reply) : Type 0 where
   pub lead : AliasesLead r count r.question.name last
   pub denied : IsDeniedAt r last
 
--- The walk ends with a name error exactly where the aliases lead to a name with neither set nor
--- alias, and RCODE is 3.
+-- The walk ends with a name error exactly if the aliases lead to a name with neither set nor alias,
+-- and RCODE is 3.
 pub record DeniesExactly : Type 0 where
   pub only : (c : Config) (m : Message) (q : Question) (route : ℕ) → (walk_of c m q route).end ≡ ends_denied
       → LeadsToDenied (reply_of c m q route)

@@ -1,4 +1,4 @@
--- Replies that report no data, replies whose aliases lead on, and referrals (RFC 2308 2.2).
+-- Replies without data, replies whose aliases lead on, and referrals (RFC 2308 2.2).
 use Rattle.std.specs.Prelude.{◌≡◌, ◌≢◌, ◌⊎◌, ℕ, suc, ◌<◌, false, List, Some}
 use Rattle.dns_message.specs.Values.{Question, Record, Message}
 use Rattle.suffix_routes.specs.Values.{Config}
@@ -16,7 +16,7 @@ pub record IsBareAt (r : Reply) (name : List (List ℕ)) : Type 0 where
   pub other : r.rcode ≢ 3
   pub nothing : HasNothingAt r name
 
--- `count` aliases, fewer than eight, lead from the asked name to such a one
+-- `count` aliases, fewer than eight, lead from the asked name to such a name
 pub record LeadsToBare (r : Reply) (count : ℕ) (last : List (List ℕ)) : Type 0 where
   pub few : count < 8
   pub lead : AliasesLead r count r.question.name last
@@ -28,29 +28,29 @@ pub record HasSoaFor (r : Reply) (name : List (List ℕ)) : Type 0 where
   pub there : IsOneOf s r.authority
   pub fits : IsSoaFor r.question.class name s
 
--- others are to be asked: AA is clear, and the authority section has name servers (RFC 2308 2.2)
+-- further servers are to be asked: AA is clear, and the authority section has name servers (RFC
+-- 2308 2.2)
 pub record IsReferral (r : Reply) : Type 0 where
   pub clear : r.is_authoritative ≡ false
   pub s : Record
   pub there : IsOneOf s r.authority
   pub kind : s.kind ≡ 2
 
--- an SOA for the name is there; otherwise it is the asked name itself, and the reply does not refer
--- to others
+-- there is an SOA for the name; otherwise the name is the asked name, and the reply is no referral
 pub record LeadsToNoData (r : Reply) : Type 0 where
   pub count : ℕ
   pub last : List (List ℕ)
   pub leads : LeadsToBare r count last
   pub told : HasSoaFor r last ⊎ ((count ≡ 0) × (IsReferral r → ⊥))
 
--- The walk ends with NODATA exactly where that is so.
+-- The walk ends with NODATA exactly in this case.
 pub record NoDataExactly : Type 0 where
   pub only : (c : Config) (m : Message) (q : Question) (route : ℕ) → (walk_of c m q route).end ≡ ends_no_data
       → LeadsToNoData (reply_of c m q route)
   pub each : (c : Config) (m : Message) (q : Question) (route : ℕ) → LeadsToNoData (reply_of c m q route)
       → (walk_of c m q route).end ≡ ends_no_data
 
--- After one alias or more, with no SOA, the name that they lead to has to be asked for.
+-- After one alias or more, without an SOA, the aliases' target has to be asked for.
 abbrev pub AliasesAloneLeadOn : Type 0
 AliasesAloneLeadOn = (c : Config) (m : Message) (q : Question) (route count : ℕ) (last : List (List ℕ))
     → LeadsToBare (reply_of c m q route) (suc count) last → (HasSoaFor (reply_of c m q route) last → ⊥)

@@ -1,12 +1,12 @@
 -- Places in a list.
 use Rattle.std.specs.Prelude.{◌≡◌, ◌⊎◌, List, [], ◌∷◌}
 
--- it is one of these
+-- the list has x
 abbrev pub IsOneOf : {X : Type 0} → X → List X → Type 0
 IsOneOf x [] = ⊥
 IsOneOf x (y ∷ ys) = (x ≡ y) ⊎ IsOneOf x ys
 
--- none of these is there twice
+-- no element is there twice
 abbrev pub NoneTwice : {X : Type 0} → List X → Type 0
 NoneTwice [] = Unit {0}
 NoneTwice (x ∷ xs) = (IsOneOf x xs → ⊥) × NoneTwice xs

@@ -12,7 +12,7 @@ use Rattle.negative_cache.specs.Values.{rows, alias, no_data, denied, miss}
 use Rattle.negative_cache.specs.Finding.{found}
 
 -- an entry of the question's name (letter case aside) and class and of this type, before its end:
--- as many seconds after it was accepted, in milliseconds, as it lives (RFC 1035 3.2.1)
+-- its lifetime after acceptance, in milliseconds (RFC 1035 3.2.1)
 pub record IsLivingOf (moment : ℕ) (entries : List Held) (q : Question) (kind : ℕ) (h : Held) : Type 0 where
   pub among : Among h entries
   pub alive : moment < h.accepted + 1000 * h.piece.lifetime
@@ -26,7 +26,7 @@ pub record IsAskedSet (moment : ℕ) (entries : List Held) (q : Question) (h : H
   pub each : List (List ℕ)
   pub body : h.piece.body ≡ set_rows each
 
--- the living alias of the name, where another type than CNAME (5) is asked for
+-- the living alias of the name, if the type is not CNAME (5)
 pub record IsAskedAlias (moment : ℕ) (entries : List Held) (q : Question) (h : Held) : Type 0 where
   pub other : q.kind ≢ 5
   pub living : IsLivingOf moment entries q 5 h
@@ -39,8 +39,8 @@ pub record IsAskedNoData (moment : ℕ) (entries : List Held) (q : Question) (h 
   pub soa : Option Record
   pub body : h.piece.body ≡ set_no_data soa
 
--- a living name error of the question's class, which has no type, at or above its name and on the
--- route of its name
+-- a living name error, without a type, of the question's class, at or above its name and on the
+-- name's route
 pub record IsNameError (routes : List Route) (moment : ℕ) (entries : List Held) (q : Question) (h : Held) : Type 0 where
   pub among : Among h entries
   pub alive : moment < h.accepted + 1000 * h.piece.lifetime
@@ -53,14 +53,14 @@ pub record IsNameError (routes : List Route) (moment : ℕ) (entries : List Held
 abbrev pub HasNone : (Held → Type 0) → Type 0
 HasNone P = (h : Held) → P h → ⊥
 
--- a living name error that denies the name, and no such one has more labels
+-- a living name error for the name, of which none has more labels
 pub record IsNearestDenial (routes : List Route) (moment : ℕ) (entries : List Held) (q : Question)
     (h : Held) : Type 0 where
   pub denial : IsNameError routes moment entries q h
   pub nearest : (other : Held) → IsNameError routes moment entries q other
       → length other.piece.slot.key ≤ length h.piece.slot.key
 
--- a name error that is the nearest was found
+-- the nearest name error was found
 pub record FindsNearest (routes : List Route) (moment : ℕ) (entries : List Held) (q : Question) : Type 0 where
   pub h : Held
   pub found_is : found routes moment entries q ≡ denied h
@@ -81,7 +81,7 @@ pub record FindsInOrder (routes : List Route) (moment : ℕ) (entries : List Hel
       → HasNone (IsAskedNoData moment entries q) → HasNone (IsNameError routes moment entries q)
       → found routes moment entries q ≡ miss
 
--- The same holds among the entries of a cache, of which no two are of one slot.
+-- A look-up among the entries of a cache, no two of one slot, finds in this order.
 abbrev pub LookUpsFindInOrder : Type 0
 LookUpsFindInOrder = (routes : List Route) (moment capacity : ℕ) (entries : List Held) (q : Question)
     → AreHeld (record { capacity = capacity; entries = entries }) → FindsInOrder routes moment entries q

@@ -14,8 +14,8 @@ pub record IsRanked (is_authoritative : Bool) (asked owner : List (List ℕ)) (r
   pub own : rank ≡ 3 → IsSame owner asked
   pub lowest : rank ≢ 3 → rank ≡ 1
 
--- Each piece on the walk has rank 3 exactly where AA is set and it is of the asked name, otherwise
--- 1; name servers next to the walk have rank 2.
+-- Each piece on the walk has rank 3 exactly if AA is set and the piece is the asked name's,
+-- otherwise 1; name servers next to the walk have rank 2.
 abbrev pub RanksAreByAuthority : Type 0
 RanksAreByAuthority = (c : Config) (m : Message) (q : Question) (route : ℕ)
     → AllByRecursion (λ (p : Piece). IsRanked m.header.aa q.name p.owner p.rank) (walk_of c m q route).pieces

@@ -1,4 +1,4 @@
--- The name servers of the authority section that a reply carries (RFC 2181 5.4.1).
+-- The name servers of a reply's authority section (RFC 2181 5.4.1).
 use Rattle.std.specs.Prelude.{◌≡◌, ◌≢◌, ℕ, true, false, List, [], ◌∷◌, Some}
 use Rattle.std.specs.List.{AllByRecursion}
 use Rattle.dns_name.specs.Labels.{IsSame, IsUnder}
@@ -27,7 +27,7 @@ pub record IsFitServer (c : Config) (m : Message) (q : Question) (route : ℕ) (
   pub on_route : route_of c.routes s.owner ≡ Some route
   pub no_piece : NoneOwns s.owner (walk_of c m q route).pieces
 
--- a set of the record's owner is carried, and has its data
+-- the set of the record's owner is carried, with the record's data
 pub record IsCarriedIn (sets : List Piece) (s : Record) : Type 0 where
   pub set : Piece
   pub there : IsOneOf set sets
@@ -36,23 +36,23 @@ pub record IsCarriedIn (sets : List Piece) (s : Record) : Type 0 where
   pub body : set.body ≡ rows each
   pub row : IsOneOf s.rdata each
 
--- An authoritative reply that is not lame carries all name servers that fit.
+-- An authoritative, not lame reply carries all fitting name servers.
 abbrev pub ServersAreAll : Type 0
 ServersAreAll = (c : Config) (m : Message) (q : Question) (route : ℕ) (s : Record)
     → m.header.aa ≡ true → (walk_of c m q route).end ≢ lame
     → IsFitServer c m q route s → IsCarriedIn (walk_of c m q route).authority s
 
--- One that is not authoritative carries none.
+-- A reply without AA carries none.
 abbrev pub OthersCarryNone : Type 0
 OthersCarryNone = (c : Config) (m : Message) (q : Question) (route : ℕ) → m.header.aa ≡ false
     → (walk_of c m q route).authority ≡ []
 
--- no two of the pieces have one owner
+-- no two of the pieces have equal owners
 abbrev pub OwnersDiffer : List Piece → Type 0
 OwnersDiffer [] = Unit {0}
 OwnersDiffer (p ∷ pieces) = NoneOwns p.owner pieces × OwnersDiffer pieces
 
--- Each carried set is of an owner of its own, which is the owner of no piece on the walk.
+-- Each carried set has an owner of its own, which owns no piece on the walk.
 abbrev pub ServersAreApart : Type 0
 ServersAreApart = (c : Config) (m : Message) (q : Question) (route : ℕ)
     → AllByRecursion (λ (p : Piece). NoneOwns p.owner (walk_of c m q route).pieces) (walk_of c m q route).authority

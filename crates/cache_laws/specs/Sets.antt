@@ -16,7 +16,7 @@ pub record IsRecordFor (q : Question) (records : List Record) (r : Record) : Typ
   pub class : r.class ≡ q.class
   pub name : IsSame r.owner q.name
 
--- a record of the section that has this data, too
+-- a record of the section has this data, too
 pub record HasDatum (q : Question) (records : List Record) (datum : List ℕ) : Type 0 where
   pub r : Record
   pub fits : IsRecordFor q records r
@@ -29,7 +29,7 @@ pub record AreDataOf (q : Question) (records : List Record) (each : List (List �
   pub whole : (r : Record) → IsRecordFor q records r → IsOneOf r.rdata each
   pub once : NoneTwice each
 
--- a record of the section has the first datum, and none before it has the second
+-- a record of the section has the first datum, and no record before has the second
 abbrev pub ComesFirst : Question → List Record → List ℕ → List ℕ → Type 0
 ComesFirst q [] x y = ⊥
 ComesFirst q (r ∷ records) x y = (IsRecordFor q (r ∷ records) r × (r.rdata ≡ x))
@@ -45,7 +45,7 @@ FirstOwns q [] owner = ⊥
 FirstOwns q (r ∷ records) owner = (IsRecordFor q (r ∷ records) r × (r.owner ≡ owner))
     ⊎ ((IsRecordFor q (r ∷ records) r → ⊥) × FirstOwns q records owner)
 
--- a TTL with its top bit set is no second, and any other as many as it says (RFC 2181 8)
+-- a TTL with its top bit set is 0 seconds, any other its own number of seconds (RFC 2181 8)
 pub record AreSeconds (ttl seconds : ℕ) : Type 0 where
   pub set : 2 ^ 31 ≤ ttl → seconds ≡ 0
   pub clear : ttl < 2 ^ 31 → seconds ≡ ttl
@@ -56,15 +56,15 @@ pub record HasSeconds (q : Question) (records : List Record) (seconds : ℕ) : T
   pub fits : IsRecordFor q records r
   pub seconds_are : AreSeconds r.ttl seconds
 
--- no record of the set has a shorter lifetime (RFC 2181 5.2), and one has the same, unless that is
--- cut to a week
+-- no record of the set has a shorter lifetime (RFC 2181 5.2), and a record has exactly this
+-- lifetime, unless cut to a week
 pub record IsLowestTtl (q : Question) (records : List Record) (lifetime : ℕ) : Type 0 where
   pub least : (r : Record) (seconds : ℕ) → IsRecordFor q records r → AreSeconds r.ttl seconds → lifetime ≤ seconds
   pub week : lifetime ≤ 604800
   pub one : (lifetime ≡ 604800) ⊎ HasSeconds q records lifetime
 
--- where a piece is a set: its rows, their order, the spelling of its owner and its lifetime are
--- those of the section's records of its owner, type and class
+-- if a piece is a set: rows, order, spelling of the owner and lifetime come from the section's
+-- records of its owner, type and class
 pub record IsSetFrom (records : List Record) (p : Piece) : Type 0 where
   pub data_are : (kind : ℕ) (each : List (List ℕ)) → p.slot.kind ≡ Some kind → p.body ≡ rows each
       → AreDataOf (record { name = p.owner; kind = kind; class = p.slot.class }) records each
@@ -75,13 +75,12 @@ pub record IsSetFrom (records : List Record) (p : Piece) : Type 0 where
   pub lives : (kind : ℕ) (each : List (List ℕ)) → p.slot.kind ≡ Some kind → p.body ≡ rows each
       → IsLowestTtl (record { name = p.owner; kind = kind; class = p.slot.class }) records p.lifetime
 
--- Each set on the walk of a reply is the whole set that the answer section has of its name, type
--- and class.
+-- Each set on the walk of a reply is the answer section's whole set of its name, type and class.
 abbrev pub SetsAreWhole : Type 0
 SetsAreWhole = (c : Config) (m : Message) (q : Question) (route : ℕ)
     → AllByRecursion (IsSetFrom m.answers) (walk_of c m q route).pieces
 
--- Each set of name servers next to the walk is the whole one that the authority section has.
+-- Each set of name servers next to the walk is the authority section's whole set.
 abbrev pub ServerSetsAreWhole : Type 0
 ServerSetsAreWhole = (c : Config) (m : Message) (q : Question) (route : ℕ)
     → AllByRecursion (IsSetFrom m.authority) (walk_of c m q route).authority

@@ -1,4 +1,4 @@
-//! The pieces that a reply carries.
+//! The pieces of a reply.
 
 ghost use Rattle.cache_laws.specs.Carried.{CarriedExactly};
 ghost use Rattle.cache_laws.specs.Denials.{DeniesExactly};
@@ -8,28 +8,28 @@ ghost use Rattle.cache_laws.specs.Ranks.{RanksAreByAuthority};
 ghost use Rattle.cache_laws.specs.Servers.{OthersCarryNone, ServersAreAll, ServersAreApart};
 ghost use Rattle.cache_laws.specs.Sets.{ServerSetsAreWhole, SetsAreWhole, TopBitIsNone};
 
-/// Each set that a reply carries is the whole set that the section has of its name, type and class:
-/// each row is the data of a record, the data of each record is a row, and none is there twice (RFC
-/// 2181 5). Rows are in the order in which their data comes first in the section, and the owner is
-/// spelled as in the first record. The set lives no longer than any of its records and than a week,
-/// and as long as one of them or a week (RFC 2181 5.2).
+/// Each set of a reply is the section's whole set of its name, type and class: each row is the data
+/// of a record, the data of each record is a row, without duplicates (RFC 2181 5). Rows are in the
+/// order in which their data comes first in the section, and the owner is spelled as in the first
+/// record. The set lives no longer than any of its records and than a week, and as long as one of
+/// them or a week (RFC 2181 5.2).
 pub fn sets_are_whole()
     ensures walk { SetsAreWhole }
     ensures servers { ServerSetsAreWhole }
 {}
 
-/// A TTL with its top bit set counts as 0 seconds, and any other as it is (RFC 2181 8).
+/// A TTL with its top bit set counts as 0 seconds, any other as its own number (RFC 2181 8).
 pub fn top_bit_is_none()
     ensures { TopBitIsNone }
 {}
 
-/// The pieces of a reply for the asked name have rank 3 exactly where it is authoritative; all
-/// others on its walk have rank 1, and the name servers next to it rank 2 (RFC 2181 5.4.1).
+/// The pieces of a reply for the asked name have rank 3 exactly if it is authoritative; all others
+/// on its walk have rank 1, and the name servers next to it rank 2 (RFC 2181 5.4.1).
 pub fn ranks_are_by_authority()
     ensures { RanksAreByAuthority }
 {}
 
-/// A reply ends with a name error exactly where its response code is 3 and its aliases, fewer than
+/// A reply ends with a name error exactly if its response code is 3 and its aliases, fewer than
 /// eight, lead on the asked route to a name of which its answer section has neither the asked type
 /// nor an alias (RFC 2308 2.1).
 pub fn denies_exactly()
@@ -66,9 +66,9 @@ pub fn servers_are_all()
 
 /// The content of a reply, by its records alone (`IsCarriedBy`): sets whole, in order, spelled and
 /// ranked; aliases one by one; NODATA, name errors, referrals and two aliases each exactly;
-/// lifetimes by TTL and SOA; all name servers that fit. With an accepted configuration, code and
-/// table compute a content of this kind. There is no other if the record data has the shapes of its
-/// types, as in each message that was read.
+/// lifetimes by TTL and SOA; all name servers that fit. If no two routes have the same suffix, as in
+/// each accepted configuration, code and table compute a content of this kind. There is no other if
+/// the record data has the shapes of its types, as in each message that was read.
 pub fn carried_exactly()
     ensures { CarriedExactly }
 {}

@@ -2,12 +2,12 @@
 //! message takes this way:
 //!
 //! 1. `on_client`: nothing, `refuse_message`, or `serve_message` for exactly one question.
-//! 2. `serve_message` calls `serve`: `refuse` for a kind that is not served, otherwise `look`.
-//! 3. `look` looks it up in the cache, and `step_actions::fate_of` gives its fate.
+//! 2. `serve_message` calls `serve`: `refuse` for an unserved kind, otherwise `look`.
+//! 3. `look` looks the question up in the cache, and `step_actions::fate_of` gives its fate.
 //! 4. `decide_fate`: `reply` with the answer, the denial or the failure, or `wait`.
-//! 5. `wait`: `refuse` where no room is left, otherwise `admit`.
-//! 6. `admit`: `join` where its ask is listed; `ask_anew`: `first_ask`, then `open` or `refuse`.
-//! 7. `reply`, in which `refuse` ends too: one reply, and the promotion of the used entries.
+//! 5. `wait`: `refuse` if no room is left, otherwise `admit`.
+//! 6. `admit`: `join` if an ask is listed; `ask_anew`: `first_ask`, then `open` or `refuse`.
+//! 7. `reply`, also the end of `refuse`: one reply, and the promotion of the used entries.
 
 ghost use Rattle.std.specs.Prelude.{◌≡◌, ◌<◌, false, length, IfOk, Some, None};
 ghost use Rattle.dns_message.specs.Messages.{first_question};
@@ -45,7 +45,7 @@ use suffix_routes::RouteId;
 use trust_rank::MOST_ALIASES;
 use waiting_questions::{KeyedWaiting, Request, SentOn, Waiting};
 
-/// Decides one reply, and the promotion of the entries that a look-up used.
+/// Decides a reply, and the promotion of the entries used by a look-up.
 fn reply<'a, 's, H: BuildHasher + Drop, A: Allocator + Copy>(
     turn: &TurnRef<'a, H, A>,
     action: Action<A>,
@@ -105,7 +105,7 @@ fn open<'a, 's, H: BuildHasher + Drop, A: Allocator + Copy>(
     })
 }
 
-/// Decides that the question waits for the ask that is listed already. Both have this key.
+/// Decides that the question waits for a listed ask. Both have this key.
 fn join<'a, 's, H: BuildHasher + Drop, A: Allocator + Copy>(
     turn: &TurnRef<'a, H, A>,
     waiting: Waiting<A>,
@@ -126,7 +126,7 @@ fn join<'a, 's, H: BuildHasher + Drop, A: Allocator + Copy>(
     })
 }
 
-/// The first ask for a question: by UDP, to the server that its route prefers.
+/// The first ask for a question: by UDP, to its route's preferred server.
 fn first_ask<'a, H: BuildHasher + Drop, A: Allocator + Copy>(
     turn: &TurnRef<'a, H, A>,
     question: &Question<A>,
@@ -157,8 +157,8 @@ fn asks_under_way<'a, H: BuildHasher + Drop, A: Allocator + Copy>(turn: &TurnRef
     turn.kept.inquiries.len()
 }
 
-/// Decides a question of which no ask is listed. It fails with `InquiriesFull` at the limit of
-/// `limits.inquiries`, and with `NoPort` where no port is free.
+/// Decides a question without a listed ask. It fails with `InquiriesFull` at the limit of
+/// `limits.inquiries`, and with `NoPort` if no port is free.
 fn ask_anew<'a, 's, H: BuildHasher + Drop, A: Allocator + Copy>(
     turn: &TurnRef<'a, H, A>,
     waiting: Waiting<A>,
@@ -185,7 +185,7 @@ fn ask_anew<'a, 's, H: BuildHasher + Drop, A: Allocator + Copy>(
     }
 }
 
-/// Decides a question for which there is room. Where its ask is listed already, none goes out.
+/// Decides a question for which there is room. If an ask is listed, none goes out.
 fn admit<'a, 's, H: BuildHasher + Drop, A: Allocator + Copy>(
     turn: &TurnRef<'a, H, A>,
     waiting: Waiting<A>,
@@ -207,9 +207,9 @@ fn admit<'a, 's, H: BuildHasher + Drop, A: Allocator + Copy>(
     }
 }
 
-/// Decides a question without an answer in the cache. This route serves its own name, or the one
-/// that it is sent on to. It fails with `QuestionsFull` at the limit of `limits.questions`. Out of
-/// line: inlined, each answer would clear the memory of what it may hold.
+/// Decides a question without an answer in the cache, on the route of its own name, or of the name
+/// at its aliases' end. It fails with `QuestionsFull` at the limit of `limits.questions`. Out of
+/// line: inlined, each answer would clear its frame.
 #[inline(never)]
 fn wait<'a, 's, H: BuildHasher + Drop, A: Allocator + Copy>(
     turn: &TurnRef<'a, H, A>,
@@ -232,7 +232,7 @@ fn wait<'a, 's, H: BuildHasher + Drop, A: Allocator + Copy>(
     admit(turn, waiting, route, used)
 }
 
-/// Decides a question by its fate: its reply goes out, or it waits.
+/// Decides a question by its fate: a reply goes out, or the question waits.
 fn decide_fate<'a, 's, H: BuildHasher + Drop, A: Allocator + Copy>(
     turn: &TurnRef<'a, H, A>,
     request: &Request<'_>,
@@ -250,7 +250,7 @@ fn decide_fate<'a, 's, H: BuildHasher + Drop, A: Allocator + Copy>(
     }
 }
 
-/// Decides a question of a served kind. No route is looked up where the cache has an answer: each
+/// Decides a question of a served kind. No route is looked up for an answer from the cache: each
 /// entry is within its name's route.
 fn look<'a, 's, H: BuildHasher + Drop, A: Allocator + Copy>(
     turn: &TurnRef<'a, H, A>,
@@ -272,8 +272,7 @@ fn look<'a, 's, H: BuildHasher + Drop, A: Allocator + Copy>(
     decide_fate(turn, request, fate, looked.into_slots())
 }
 
-/// Decides a question that was read. It fails with `NotServed` where its class or type is not
-/// served.
+/// Decides a readable question. It fails with `NotServed` if its class or type is not served.
 fn serve<'a, 's, H: BuildHasher + Drop, A: Allocator + Copy>(
     turn: &TurnRef<'a, H, A>,
     slot: &'s mut LookUpSlot,
@@ -288,7 +287,7 @@ fn serve<'a, 's, H: BuildHasher + Drop, A: Allocator + Copy>(
     look(turn, slot, request)
 }
 
-/// Decides that a message fails whose question was not taken.
+/// Decides that a message without an accepted question fails.
 fn refuse_message<'a, 's, H: BuildHasher + Drop, A: Allocator + Copy>(
     turn: &TurnRef<'a, H, A>,
     client: Client,
@@ -303,7 +302,7 @@ fn refuse_message<'a, 's, H: BuildHasher + Drop, A: Allocator + Copy>(
     reply(turn, action, SlotsRef::none(turn.alloc))
 }
 
-/// Decides a message with one question. It copies the name only where that has a pointer.
+/// Decides a message with one question. The name is copied only if it has a pointer.
 fn serve_message<'a, 's, H: BuildHasher + Drop, A: Allocator + Copy>(
     turn: &TurnRef<'a, H, A>,
     slot: &'s mut LookUpSlot,
@@ -338,8 +337,8 @@ fn serve_message<'a, 's, H: BuildHasher + Drop, A: Allocator + Copy>(
 
 /// Decides a message of a client. The slot may be any: the look-up fills it, and the decision may
 /// borrow it. Nothing is decided on octets without a header, on more than 65,535, and on a reply.
-/// The reply is `BadOpcode` for an opcode other than 0, and `BadFormat` where there is not exactly
-/// one question that can be read. `Err` where memory ran out: nothing is changed.
+/// The reply is `BadOpcode` for an opcode other than 0, and `BadFormat` without exactly one
+/// readable question.
 pub fn on_client<'a, 's, H: BuildHasher + Drop, A: Allocator + Copy>(
     turn: &TurnRef<'a, H, A>,
     slot: &'s mut LookUpSlot,

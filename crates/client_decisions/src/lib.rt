@@ -1,5 +1,5 @@
-//! The decision on a client's message: an answer from the cache, a failure, or a question that
-//! waits, with the first ask of its inquiry where none is listed. Nothing is changed.
+//! The decision on a client's message: an answer from the cache, a failure, or a waiting question,
+//! with the first ask of its inquiry if none is listed. Nothing is changed.
 #![tactic(auto)]
 
 mod client;

@@ -1,4 +1,4 @@
-//! A client's message, as far as it is read: its header and its first question.
+//! A client's message: its header and its first question.
 
 ghost use Rattle.std.specs.Prelude.{◌≡◌, true, false, MatchOption, IfOk, None, Some, Ok};
 ghost use Rattle.dns_message.specs.Header.{header_in};
@@ -9,8 +9,8 @@ ghost use Rattle.step_values.specs.Requests.{is_taken};
 use dns_message::{Header, MessageRef, Question, QuestionRef, types};
 use std::alloc::{AllocError, Allocator};
 
-/// The header of a client's message, unless the message is dropped: one of fewer than 12 or more
-/// than 65,535 octets, or one that is itself a reply.
+/// The header of a client's message, unless the message is dropped: fewer than 12 or more than
+/// 65,535 octets, or itself a reply.
 #[tactic(auto, unfolding(dns_message::specs::Header::header_of))]
 pub(crate) fn taken_header(bytes: &[u8]) -> Option<Header>
     ensures { MatchOption result (is_taken bytes.now ≡ false) (λ header. (is_taken bytes.now ≡ true)
@@ -26,7 +26,7 @@ pub(crate) fn taken_header(bytes: &[u8]) -> Option<Header>
     Some(header)
 }
 
-/// The view of a message that has just one question, which can be read. It does not allocate.
+/// The view of a message with exactly one, readable question.
 pub(crate) fn with_one_question<'a>(bytes: &'a [u8], header: &Header) -> Option<MessageRef<'a>>
     requires { header.now ≡ header_in bytes.now }
     ensures { MatchOption result (one_question bytes.now ≡ None) (λ message. question_read (first_question message)
@@ -38,7 +38,7 @@ pub(crate) fn with_one_question<'a>(bytes: &'a [u8], header: &Header) -> Option<
     MessageRef::view(bytes).ok()
 }
 
-/// A copy of the first question of a message. `Err` where memory ran out.
+/// A copy of the first question of a message.
 pub(crate) fn owned_question<A: Allocator>(
     alloc: A,
     message: &MessageRef<'_>,

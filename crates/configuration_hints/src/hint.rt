@@ -3,12 +3,12 @@
 use std::fmt;
 use suffix_routes::Position;
 
-/// A hint: what a person may mend. Its text follows that of the fault.
+/// A hint at what a person may mend. Its text follows the fault's text.
 #[derive(Clone, Copy, Debug, PartialEq, Eq)]
 pub enum Hint {
-    /// A number has a zero at its front.
+    /// A number begins with a zero.
     LeadingZero,
-    /// A number has other characters than digits.
+    /// A number has characters that are not digits.
     DigitsAlone,
     /// This character is not ASCII.
     NotAscii(char),
@@ -26,7 +26,7 @@ pub enum Hint {
     Quotes,
     /// A number has quotation marks.
     NoQuotes,
-    /// A number has a unit or quotation marks; what it counts.
+    /// A number has a unit or quotation marks; the counted thing.
     Counts(&'static str),
     /// The bracket or quotation mark at this position is not closed.
     NotClosed(Position),
@@ -36,13 +36,13 @@ pub enum Hint {
     Array,
     /// This key has capital letters.
     SmallLetters(&'static str),
-    /// This key is nearly the one that was met.
+    /// This key is nearly the unknown key.
     Nearly(&'static str),
-    /// This key is one of the document.
+    /// This key belongs to the document.
     AtTop(&'static str),
-    /// This key is one of `limits`.
+    /// This key belongs to `limits`.
     OfLimits(&'static str),
-    /// This key is one of a route.
+    /// This key belongs to a route.
     OfRoute(&'static str),
     /// An address is of IPv6.
     OnlyIpv4,
@@ -52,7 +52,7 @@ pub enum Hint {
     PortMissing,
     /// A port follows another character than a colon.
     PortAfterColon,
-    /// A port or a name is that of TLS.
+    /// The port or the name belongs to TLS.
     NotEncrypted,
     /// An interface follows an address.
     NoInterface,
@@ -70,7 +70,7 @@ pub enum Hint {
     Network,
     /// This character of a name can't be seen.
     Unseen(char),
-    /// This letter of a name is Cyrillic, and others of its label are Latin.
+    /// This letter of a name is Cyrillic, next to Latin letters in its label.
     Cyrillic(char),
 }
 
@@ -113,7 +113,7 @@ impl fmt::Display for Hint {
 }
 
 impl Hint {
-    /// The text of a hint that quotes nothing of the configuration.
+    /// The text of a hint without a quotation from the configuration.
     fn words(&self) -> &'static str {
         match self {
             Hint::LeadingZero => "numbers are written without leading zeros",

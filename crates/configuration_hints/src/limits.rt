@@ -2,8 +2,8 @@
 
 use crate::hint::Hint;
 
-/// The hint for a limit with this key whose value is no bare number: what the number counts. If the
-/// key says that itself, the hint is `other`.
+/// The hint for the limit `key` if its value is no bare number: the counted thing. If the key says
+/// so itself, the hint is `other`.
 pub(crate) fn hint_for_limit(key: &[u8], other: Hint) -> Hint {
     if key == b"cache".as_slice() {
         Hint::Counts("record sets, not octets")

@@ -36,7 +36,7 @@ fn is_network(text: &[u8]) -> bool {
         && text.iter().all(|octet| octet.is_ascii_digit() || matches!(*octet, b'.' | b'/'))
 }
 
-/// The hint for a name whose first character that is not ASCII is this one.
+/// The hint for a name with this first character outside ASCII.
 fn hint_for_character(text: &[u8], character: char) -> Hint {
     if is_unseen(character) {
         Hint::Unseen(character)
@@ -47,7 +47,7 @@ fn hint_for_character(text: &[u8], character: char) -> Hint {
     }
 }
 
-/// A space that is not ASCII, or a character without a width.
+/// A space outside ASCII, or a character without a width.
 fn is_unseen(character: char) -> bool {
     matches!(
         character,
@@ -56,7 +56,7 @@ fn is_unseen(character: char) -> bool {
     )
 }
 
-/// Whether the first label that is not ASCII has Latin letters, too.
+/// Whether the first label outside ASCII has Latin letters, too.
 fn is_latin_too(text: &[u8]) -> bool {
     match text
         .split(|octet| *octet == b'.')

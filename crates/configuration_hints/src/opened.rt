@@ -1,9 +1,9 @@
 //! The open brackets and quotation marks at a place of a text of TOML.
 
-/// The most nested brackets whose places are kept; deeper ones are only counted.
+/// The most nested brackets with a stored place; deeper brackets are only counted.
 const DEEPEST: usize = 16;
 
-/// The brackets, string or comment that are open after the octets that were read.
+/// The brackets, string or comment open after the octets so far.
 #[derive(Drop)]
 struct Opened {
     /// The places of the open brackets.
@@ -15,8 +15,8 @@ struct Opened {
     is_comment: bool,
 }
 
-/// The place of the quotation mark or the innermost bracket that is open after these octets, and
-/// true for a quotation mark. `None` where nothing is open.
+/// The place of the quotation mark or the innermost bracket open after these octets, and true for a
+/// quotation mark. `None` if nothing is open.
 pub(crate) fn open_after(octets: &[u8]) -> Option<(usize, bool)> {
     let mut opened = Opened {
         brackets: [0; DEEPEST],

@@ -32,7 +32,7 @@ fn hint_for_several(place: Place) -> Hint {
     }
 }
 
-/// The hint for a single text of ASCII that is not of IPv6.
+/// The hint for a single text of ASCII that is no IPv6 address.
 fn hint_for_address(place: Place, text: &[u8]) -> Option<Hint> {
     if text.contains(&b'%') {
         Some(Hint::NoInterface)
@@ -58,8 +58,8 @@ fn begins_with_digit(text: &[u8]) -> bool {
     }
 }
 
-/// The hint for an address with `@` or `#` after it, as dnsmasq and unbound write a port, an
-/// interface, or the name that a server has in TLS.
+/// The hint for an address followed by `@` or `#`, as dnsmasq and unbound write a port, an
+/// interface, or a server's name in TLS.
 fn hint_for_mark(text: &[u8]) -> Hint {
     if has_letter_after(text, b'@') {
         Hint::NoInterface

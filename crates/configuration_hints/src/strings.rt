@@ -8,7 +8,7 @@ use crate::peers::hint_for_peer;
 use std::str;
 use suffix_routes::{ConfigFault, Kind, Place};
 
-/// The hint for a fault, other than that a text is no TOML. `None` where the fault says it all.
+/// The hint for a fault of a readable TOML text. `None` if the fault's own text is enough.
 pub fn hint_for_fault(fault: &ConfigFault) -> Option<Hint> {
     match fault {
         ConfigFault::UnknownKey(version, place, key) => hint_for_unknown_key(
@@ -36,7 +36,7 @@ fn hint_for_kind(place: Place, kind: Kind) -> Option<Hint> {
     }
 }
 
-/// The first character that is not ASCII, as far as the octets are characters.
+/// The first character outside ASCII, within the part that is UTF-8.
 pub(crate) fn first_not_ascii(text: &[u8]) -> Option<char> {
     let characters = match str::from_utf8(text) {
         Ok(whole) => whole,

@@ -6,8 +6,7 @@ use crate::opened::open_after;
 use crate::strings::{first_not_ascii, has_leading_zero};
 use suffix_routes::Position;
 
-/// The hint for a text where the reader of TOML stopped at the octet `at`. `None` where nothing is
-/// known.
+/// The hint for a text, read as TOML up to the octet `at`. `None` if nothing is known.
 pub fn hint_for_text(octets: &[u8], at: usize) -> Option<Hint> {
     let (before, rest) = octets.split_at(at.min(octets.len()));
     if let Some(hint) = hint_for_character(before, rest) {
@@ -19,7 +18,7 @@ pub fn hint_for_text(octets: &[u8], at: usize) -> Option<Hint> {
     hint_for_opened(before, rest)
 }
 
-/// The hint for the character at which the reader stopped.
+/// The hint for the first character not read.
 fn hint_for_character(before: &[u8], rest: &[u8]) -> Option<Hint> {
     let first = rest.first()?;
     let second = rest.get(1);
@@ -62,7 +61,7 @@ fn key_before(before: &[u8]) -> &[u8] {
     }
 }
 
-/// The octets at the end that may be a bare key.
+/// The octets at the end that could be a bare key.
 fn last_word(text: &[u8]) -> &[u8] {
     match text
         .rsplit(|octet| !octet.is_ascii_alphanumeric() && *octet != b'_')
@@ -73,7 +72,7 @@ fn last_word(text: &[u8]) -> &[u8] {
     }
 }
 
-/// The octets at the front that may belong to one value without quotation marks.
+/// The octets at the front that could be a value without quotation marks.
 fn word(rest: &[u8]) -> &[u8] {
     let end = rest.iter().position(|octet| !is_of_word(*octet));
     &rest[..end.unwrap_or(rest.len())]
@@ -111,8 +110,8 @@ fn is_like_boolean(word: &[u8]) -> bool {
         || word.eq_ignore_ascii_case(b"off")
 }
 
-/// The hint for a bracket or quotation mark that is open where the reader stopped. A bracket before
-/// a further element is closed, as a rule: a comma is missing.
+/// The hint for a bracket or quotation mark still open at the end of the octets read. A bracket
+/// before a further element is closed, as a rule: a comma is missing.
 fn hint_for_opened(before: &[u8], rest: &[u8]) -> Option<Hint> {
     let (place, is_quote) = open_after(before)?;
     let is_element = match rest.first() {

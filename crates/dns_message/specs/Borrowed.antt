@@ -1,4 +1,4 @@
--- Messages that are put together from borrowed things.
+-- Messages, put together from borrowed parts.
 use Rattle.std.specs.Prelude.{ℕ, List, [], ◌∷◌, map, flat_map, Option, Some, None}
 use Rattle.dns_message.specs.declared.reading.header.Header.{Header}
 use Rattle.dns_message.specs.Values.{Question, Record, Message}
@@ -18,7 +18,7 @@ record_of owner kind class ttl rdata = record { owner = owner; kind = kind; clas
 abbrev pub records_of : List (List ℕ) → ℕ → ℕ → ℕ → List (List ℕ) → List Record
 records_of owner kind class ttl rows = map (record_of owner kind class ttl) rows
 
--- the records of sets, one set after another
+-- the records of sets, in order
 abbrev pub records_in : List (List Record) → List Record
 records_in sets = flat_map (λ records. records) sets
 

@@ -10,7 +10,7 @@ use Rattle.dns_message.specs.Shapes.{Shape, shape_of}
 use Rattle.dns_message.specs.Reading.{◌>>=◌}
 use Rattle.dns_message.specs.Names.{NameAt, name_at, name_within, inside}
 
--- a name written out in full, with the zero octet at its end
+-- a name written out in full, with the final zero
 abbrev pub name_octets : List (List ℕ) → List ℕ
 name_octets labels = octets_of labels ++ 0 ∷ []
 
@@ -23,7 +23,7 @@ IsPart Number16 octets = length octets ≡ 2
 IsPart SoaNumbers octets = length octets ≡ 20
 IsPart Text octets = (text : List ℕ) × (octets ≡ label_octets text)
 
--- these octets are the parts, one after another
+-- these octets are the parts, in order
 pub data HasParts : List Part → List ℕ → Type 0 where
   no_parts : HasParts [] []
   more_parts : {part : Part} {parts : List Part} {octets : List ℕ} (first rest : List ℕ) → IsPart part first
@@ -34,14 +34,13 @@ abbrev pub IsOfShape : Option Shape → List ℕ → Type 0
 IsOfShape None octets = Unit {0}
 IsOfShape (Some shape) octets = HasParts shape.parts octets
 
--- these octets are of the shape of the type's data
+-- these octets have the shape of the type's data
 abbrev pub IsShaped : ℕ → List ℕ → Type 0
 IsShaped kind octets = IsOfShape (shape_of kind) octets
 
 -- ---- data in a message: RDLENGTH octets, in which names may be written with pointers
 
--- from o to e there is a part of data that ends before stop, and written out in full it is these
--- octets
+-- a part of data is from o to e, ends before stop, and is these octets when written out in full
 abbrev pub PartAt : Part → List ℕ → ℕ → ℕ → List ℕ → ℕ → Type 0
 PartAt Name bytes stop o octets e = (labels : List (List ℕ)) × NameAt bytes o o labels e × (size_of labels ≤ 255)
     × (e ≤ stop) × (octets ≡ name_octets labels)
@@ -62,7 +61,7 @@ abbrev pub ShapedAt : Option Shape → List ℕ → ℕ → ℕ → List ℕ →
 ShapedAt None bytes o len octets = octets ≡ take len (drop o bytes)
 ShapedAt (Some shape) bytes o len octets = PartsAt bytes (o + len) shape.parts o octets
 
--- at o there is data of `len` octets, and written out in full it is these
+-- at o there is data of `len` octets, these octets when written out in full
 abbrev pub DataAt : ℕ → List ℕ → ℕ → ℕ → List ℕ → Type 0
 DataAt kind bytes o len octets = (o + len ≤ length bytes) × ShapedAt (shape_of kind) bytes o len octets
 
@@ -73,12 +72,12 @@ unfoldable pub octets_within : List ℕ → ℕ → ℕ → ℕ → Result (List
 octets_within bytes stop o count = if nat_lt stop (o + count) then Err Rdata
     else Ok (take count (drop o bytes), o + count)
 
--- a name that was read, as octets without pointers
+-- a name read, as octets without pointers
 abbrev pub written_out : Result (List (List ℕ) × ℕ) Fault → Result (List ℕ × ℕ) Fault
 written_out (Ok name) = Ok (name_octets name.0, name.1)
 written_out (Err fault) = Err fault
 
--- what was read, after what was read before it
+-- octets read, after the octets read before
 abbrev pub prefixed : List ℕ → Result (List ℕ × ℕ) Fault → Result (List ℕ × ℕ) Fault
 prefixed front (Ok read) = Ok (front ++ read.0, read.1)
 prefixed front (Err fault) = Err fault
@@ -87,12 +86,17 @@ prefixed front (Err fault) = Err fault
 unfoldable pub text_within : List ℕ → ℕ → ℕ → Result (List ℕ × ℕ) Fault
 text_within bytes stop o = if nat_le stop o then Err Rdata else octets_within bytes stop o (slice_index bytes o + 1)
 
--- one part of record data at a place
+-- a part of record data at a place
 abbrev pub part_at : Part → List ℕ → ℕ → ℕ → Result (List ℕ × ℕ) Fault
 part_at Name bytes stop o = written_out (name_within bytes (inside stop) o)
 part_at Number16 bytes stop o = octets_within bytes stop o 2
 part_at SoaNumbers bytes stop o = octets_within bytes stop o 20
 part_at Text bytes stop o = text_within bytes stop o
+
+-- a part of this many octets, or a name
+abbrev pub laid_at : Option ℕ → List ℕ → ℕ → ℕ → Result (List ℕ × ℕ) Fault
+laid_at None bytes stop o = written_out (name_within bytes (inside stop) o)
+laid_at (Some count) bytes stop o = octets_within bytes stop o count
 
 -- the parts, which must end at stop
 unfoldable pub parts_at : List Part → List ℕ → ℕ → ℕ → Result (List ℕ × ℕ) Fault
@@ -111,11 +115,11 @@ data_at kind bytes o len = if nat_lt (length bytes) (o + len) then Err Short els
 
 -- ---- data that is one name
 
--- a name that takes just these octets
+-- a name of exactly these octets
 abbrev pub name_if_all : ℕ → Result (List (List ℕ) × ℕ) Fault → Option (List (List ℕ))
 name_if_all len (Ok name) = if name.1 == len then Some name.0 else None
 name_if_all len (Err fault) = None
 
--- the name that these octets are, written out in full
+-- the name in these octets, written out in full
 unfoldable pub name_of_rdata : List ℕ → Option (List (List ℕ))
 name_of_rdata octets = name_if_all (length octets) (name_at octets 0)

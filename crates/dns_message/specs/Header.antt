@@ -24,7 +24,7 @@ header_in bytes = record {
   counts = number16 bytes 4 ∷ number16 bytes 6 ∷ number16 bytes 8 ∷ number16 bytes 10 ∷ [];
 }
 
--- the header, where there are 12 octets
+-- the header, if there are 12 octets
 unfoldable pub header_of : List ℕ → Option Header
 header_of bytes = if nat_lt (length bytes) 12 then None else Some (header_in bytes)
 

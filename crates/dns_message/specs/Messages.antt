@@ -14,7 +14,7 @@ use Rattle.dns_message.specs.Records.{QuestionAt, RecordAt, InRow, question_at, 
 
 -- ---- what a message is
 
--- the header, then the questions and records that it counts; the rest is free
+-- the header, then the counted questions and records; the rest is free
 pub record Spells (bytes : List ℕ) (message : Message) : Type 0 where
   pub header : header_of bytes ≡ Some message.header
   pub counts : message.header.counts ≡ length message.questions ∷ length message.answers ∷ length message.authority
@@ -28,7 +28,7 @@ pub record Spells (bytes : List ℕ) (message : Message) : Type 0 where
   pub authority : InRow (RecordAt bytes) answers_end message.authority authority_end
   pub additional : InRow (RecordAt bytes) authority_end message.additional additional_end
 
--- The octets begin with a header that counts a question at least, and this is the first.
+-- The octets begin with a header that counts a question or more, and this is the first.
 pub record FirstQuestion (bytes : List ℕ) (question : Question) : Type 0 where
   pub header : 12 ≤ length bytes
   pub counted : 0 < number16 bytes 4
@@ -39,11 +39,11 @@ pub record FirstQuestion (bytes : List ℕ) (question : Question) : Type 0 where
 abbrev pub IsWhole : List ℕ → Type 0
 IsWhole bytes = (message : Message) × Spells bytes message
 
--- each record has data of its type's shape
+-- the data of each record has the shape of its type
 abbrev pub AreShaped : List Record → Type 0
 AreShaped records = AllByRecursion (λ entry. IsShaped entry.kind entry.rdata) records
 
--- each record's data has its type's shape
+-- the data of each record has the shape of its type
 pub record HasShapes (message : Message) : Type 0 where
   pub answers : AreShaped message.answers
   pub authority : AreShaped message.authority
@@ -75,7 +75,7 @@ message_at bytes = do
     additional.1,
   )
 
--- what was read, without the place after it
+-- the value read, without the place after
 abbrev pub read_of : {X : Type 0} → Result (X × ℕ) Fault → Result X Fault
 read_of (Ok x) = Ok x.0
 read_of (Err fault) = Err fault
@@ -96,12 +96,12 @@ pub record IsSameQuestion (a b : Question) : Type 0 where
   pub kind : a.kind ≡ b.kind
   pub class : a.class ≡ b.class
 
--- The name is whole at o, each label after its length and the zero octet at its end: no part of it
--- is a pointer (RFC 1035 3.1 and 4.1.4).
+-- The name is whole at o, each label after its length, and a final zero: no part is a pointer (RFC
+-- 1035 3.1 and 4.1.4).
 abbrev pub IsUncompressed : List ℕ → ℕ → List (List ℕ) → Type 0
 IsUncompressed bytes o name = take (size_of name) (drop o bytes) ≡ octets_of name ++ 0 ∷ []
 
--- the question that was read is this one
+-- the question read is this question
 abbrev pub QuestionIs : Result Question Fault → Question → Type 0
 QuestionIs (Ok read) question = IsSameQuestion read question
 QuestionIs (Err fault) question = ⊥

@@ -1,5 +1,4 @@
--- A name in a message: RFC 1035 4.1.4, with pointers that lead back to before the run that they
--- end.
+-- A name in a message: RFC 1035 4.1.4, with pointers to places before their own run.
 use Rattle.std.specs.Prelude.{◌≡◌, ℕ, zero, suc, ◌+◌, ◌-◌, ◌*◌, ◌<◌, ◌≤◌, List, [], ◌∷◌, length, take, drop, Option}
 use Rattle.std.specs.Prelude.{Some, None, Result, Ok, Err, nat_lt, nat_le, ◌==◌, if◌then◌else◌, slice_index}
 use Rattle.dns_name.specs.Labels.{IsLabel, IsSame, label_octets, lowered}
@@ -15,13 +14,14 @@ use Rattle.dns_message.specs.Reading.{◌>>=◌}
 
 -- ---- what a name is
 
--- the place that the pointer at o leads to
+-- the target of the pointer at o
 abbrev pub target : List ℕ → ℕ → ℕ
 target bytes o = (slice_index bytes o - 192) * 256 + slice_index bytes (o + 1)
 
 -- The run of labels began at f, and from o on the name goes on with these labels, and ends before
--- e. A zero octet ends the name, one of 1 to 63 begins a label of that length. One of 192 or more
--- begins a pointer of two octets to before f, where a new run begins (RFC 1035 4.1.4).
+-- e. A zero octet ends the name, an octet of 1 to 63 begins a label of this length. An octet of 192
+-- or more begins a pointer of two octets to a place before f, where a new run begins (RFC 1035
+-- 4.1.4).
 pub data NameAt (bytes : List ℕ) : ℕ → ℕ → List (List ℕ) → ℕ → Type 0 where
   at_root : {o f e : ℕ} → o < length bytes → slice_index bytes o ≡ 0 → e ≡ o + 1 → NameAt bytes o f [] e
   at_label : {o f e : ℕ} {l : List ℕ} {ls : List (List ℕ)} → 0 < slice_index bytes o → slice_index bytes o < 64
@@ -42,8 +42,11 @@ whole bytes = record { stop = length bytes; beyond = Short }
 abbrev pub inside : ℕ → Bound
 inside stop = record { stop = stop; beyond = Rdata }
 
--- the octet at o, where the run began at f and must end before b, and the labels so far take `used`
--- octets
+-- the place after this many octets in front of a bound, or the fault beyond it
+abbrev pub skipped : Bound → ℕ → ℕ → Result ℕ Fault
+skipped bound o count = if nat_lt bound.stop (o + count) then Err bound.beyond else Ok (o + count)
+
+-- the octet at o in a run from f, to end before b, after labels of `used` octets
 unfoldable pub step : List ℕ → Bound → ℕ → ℕ → ℕ → Result NameOctet Fault
 step bytes b o f used =
     if nat_le b.stop o then Err b.beyond
@@ -55,13 +58,13 @@ step bytes b o f used =
     else (if nat_lt b.stop (o + 2) then Err b.beyond
     else (if nat_lt (target bytes o) f then Ok (steps.Pointer (target bytes o)) else Err Pointer)))))
 
--- what a step says of the octets
+-- the octets at this step
 abbrev pub Stays : List ℕ → Bound → ℕ → ℕ → ℕ → NameOctet → Type 0
 Stays bytes b o f used steps.End = o < b.stop
 Stays bytes b o f used (steps.Label len) = (0 < len) × (len < 64) × (o + 1 + len ≤ b.stop) × (used + len + 2 ≤ 255)
 Stays bytes b o f used (steps.Pointer p) = (p < f) × (o + 2 ≤ b.stop)
 
--- a name that was read, with a label before it
+-- a name read, with a label in front
 abbrev pub with_label : List ℕ → Result (List (List ℕ) × ℕ) Fault → Result (List (List ℕ) × ℕ) Fault
 with_label l (Ok n) = Ok (l ∷ n.0, n.1)
 with_label l (Err fault) = Err fault
@@ -89,26 +92,26 @@ walk_in (suc k) bytes b o f used = step bytes b o f used >>= go_on
 abbrev pub steps_left : ℕ → ℕ → ℕ
 steps_left f used = f + (255 - used)
 
--- the name at a place whose run must end before a bound, and the place after it
+-- the name at a place in a run to end before a bound, and the place after
 unfoldable pub name_within : List ℕ → Bound → ℕ → Result (List (List ℕ) × ℕ) Fault
 name_within bytes b o = walk_in (steps_left o 0) bytes b o o 0
 
--- the name at a place, and the place after it
+-- the name at a place, and the place after
 abbrev pub name_at : List ℕ → ℕ → Result (List (List ℕ) × ℕ) Fault
 name_at bytes o = name_within bytes (whole bytes) o
 
 -- ---- a name that is read in part
 
--- a name that was read, with the end of its first pointer if it had one
+-- a name read, with the end of its first pointer, if any
 abbrev pub end_of : Option ℕ → Result (List (List ℕ) × ℕ) Fault → Result (List (List ℕ) × ℕ) Fault
 end_of None read = read
 end_of (Some e) read = ending e read
 
--- what is read from a place on the way
+-- the name read from a cursor on
 unfoldable pub resume : List ℕ → NameCursor → Result (List (List ℕ) × ℕ) Fault
 resume bytes w = end_of w.end (walk_in (steps_left w.run w.used) bytes w.bound w.offset w.run w.used)
 
--- the beginning of the name that a pointer leads to, after labels of `used` octets
+-- the cursor at a pointer's target, after labels of `used` octets
 abbrev pub behind_labels : List ℕ → ℕ → ℕ → NameCursor
 behind_labels bytes o used = record { offset = o; run = o; used = used; bound = whole bytes; end = None }
 
@@ -130,12 +133,12 @@ Resumes bytes w (Ok (nexts.Label l v)) = Advances bytes l.now w v
 Resumes bytes w (Ok (nexts.End e)) = resume bytes w ≡ Ok ([], e)
 Resumes bytes w (Err fault) = resume bytes w ≡ Err fault
 
--- the name that was read is this one, letter case aside
+-- the name read is this name, letter case aside
 abbrev pub NameIs : Result (List (List ℕ) × ℕ) Fault → List (List ℕ) → Type 0
 NameIs (Ok n) labels = IsSame n.0 labels
 NameIs (Err fault) labels = ⊥
 
--- the key of the name that was read
+-- the key of the name read
 abbrev pub keyed : Result (List (List ℕ) × ℕ) Fault → Result (List (List ℕ)) Fault
 keyed (Ok n) = Ok (lowered n.0)
 keyed (Err fault) = Err fault

@@ -1,4 +1,4 @@
--- Equal questions, and the one question of a message.
+-- Equal questions, and the only question of a message.
 use Rattle.std.specs.Prelude.{ℕ, Bool, if◌then◌else◌, ◌==◌, ◌&&◌, List, Option, Some, None, Result, Ok, Err}
 use Rattle.std.specs.Prelude.{slice_index, ◌||◌, nat_le}
 use Rattle.dns_name.specs.Labels.{same}
@@ -11,17 +11,17 @@ use Rattle.dns_message.specs.Messages.{first_question}
 abbrev pub same_question : Question → Question → Bool
 same_question a b = same a.name b.name && (a.kind == b.kind) && (a.class == b.class)
 
--- the question, if it could be read
+-- the question, if readable
 abbrev pub question_read : Result Question Fault → Option Question
 question_read (Ok question) = Some question
 question_read (Err fault) = None
 
--- the question of octets whose header counts one, if it can be read
+-- the question of octets whose header counts a single question, if readable
 abbrev pub one_question : List ℕ → Option Question
 one_question octets = if slice_index (header_in octets).counts 0 == 1 then question_read (first_question octets)
     else None
 
--- the same question at another name
+-- the question with this name
 abbrev pub asked_at : Question → List (List ℕ) → Question
 asked_at q name = record { name = name; kind = q.kind; class = q.class }
 

@@ -1,11 +1,11 @@
--- Reading from the front, with the first fault that is met.
+-- Reading from the front, with the first fault.
 use Rattle.std.specs.Prelude.{Bool, true, false, Result}
 use Rattle.plain_values.specs.FirstFault as reading
 pub use Rattle.plain_values.specs.FirstFault.{◌>>=◌, behind}
 use Rattle.dns_message.specs.declared.names.fault.Fault.{Fault}
 use Rattle.dns_message.specs.declared.names.fault.Fault.TheVariants.{Memory}
 
--- the fault that means out of memory
+-- the fault of running out of memory
 abbrev pub wants_memory : Fault → Bool
 wants_memory Memory = true
 wants_memory fault = false
@@ -14,6 +14,6 @@ wants_memory fault = false
 abbrev pub Fails : {Y : Type 0} → Fault → Result Y Fault → Type 0
 Fails fault answer = reading.Fails wants_memory fault answer
 
--- The value that a call returned, seen by view, is the answer, unless memory ran out.
+-- The value of a call, seen by view, is the answer, unless memory ran out.
 abbrev pub Gives : {X Y : Type 0} → (X → Y) → Result X Fault → Result Y Fault → Type 0
 Gives view given answer = reading.Gives wants_memory view given answer

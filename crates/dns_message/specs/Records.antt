@@ -12,7 +12,7 @@ use Rattle.dns_message.specs.Data.{DataAt, data_at}
 
 -- ---- what they are
 
--- at o there is this question, and e is the place after it
+-- at o there is this question, and e is the place after
 pub record QuestionAt (bytes : List ℕ) (o : ℕ) (question : Question) (e : ℕ) : Type 0 where
   pub after : ℕ
   pub name : NameAt bytes o o question.name after
@@ -22,7 +22,7 @@ pub record QuestionAt (bytes : List ℕ) (o : ℕ) (question : Question) (e : �
   pub class : question.class ≡ number16 bytes (after + 2)
   pub ends : e ≡ after + 4
 
--- at o there is this record, and e is the place after it
+-- at o there is this record, and e is the place after
 pub record RecordAt (bytes : List ℕ) (o : ℕ) (entry : Record) (e : ℕ) : Type 0 where
   pub after : ℕ
   pub owner : NameAt bytes o o entry.owner after
@@ -34,7 +34,7 @@ pub record RecordAt (bytes : List ℕ) (o : ℕ) (entry : Record) (e : ℕ) : Ty
   pub rdata : DataAt entry.kind bytes (after + 10) (number16 bytes (after + 8)) entry.rdata
   pub ends : e ≡ after + 10 + number16 bytes (after + 8)
 
--- from o on these things follow one another, and e is the place after them
+-- from o on these things follow in order, and e is the place after
 abbrev pub InRow : {X : Type 0} → (ℕ → X → ℕ → Type 0) → ℕ → List X → ℕ → Type 0
 InRow At o [] e = e ≡ o
 InRow At o (x ∷ xs) e = (next : ℕ) × At o x next × InRow At next xs e
@@ -45,14 +45,14 @@ InRow At o (x ∷ xs) e = (next : ℕ) × At o x next × InRow At next xs e
 unfoldable pub octets_end : List ℕ → ℕ → ℕ → Result ℕ Fault
 octets_end bytes o count = if nat_lt (length bytes) (o + count) then Err Short else Ok (o + count)
 
--- the question at a place, and the place after it (RFC 1035 4.1.2)
+-- the question at a place, and the place after (RFC 1035 4.1.2)
 unfoldable pub question_at : List ℕ → ℕ → Result (Question × ℕ) Fault
 question_at bytes o = do
   name ← name_at bytes o
   end ← octets_end bytes name.1 4
   Ok (record { name = name.0; kind = number16 bytes name.1; class = number16 bytes (name.1 + 2) }, end)
 
--- the record at a place, and the place after it (RFC 1035 4.1.3)
+-- the record at a place, and the place after (RFC 1035 4.1.3)
 unfoldable pub record_at : List ℕ → ℕ → Result (Record × ℕ) Fault
 record_at bytes o = do
   owner ← name_at bytes o
@@ -69,12 +69,12 @@ record_at bytes o = do
     rdata.1,
   )
 
--- a list that was read, with an element before it
+-- a list read, with an element in front
 abbrev pub with_first : {X : Type 0} → X → Result (List X × ℕ) Fault → Result (List X × ℕ) Fault
 with_first first (Ok others) = Ok (first ∷ others.0, others.1)
 with_first first (Err fault) = Err fault
 
--- this many things from o on, each read by the same function
+-- this many things from o on, each read by this function
 unfoldable pub counted : {X : Type 0} → (ℕ → Result (X × ℕ) Fault) → ℕ → ℕ → Result (List X × ℕ) Fault
 counted read zero o = Ok ([], o)
 counted read (suc n) o = read o >>= λ first. with_first first.0 (counted read n first.1)

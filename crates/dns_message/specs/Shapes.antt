@@ -1,9 +1,9 @@
--- The types whose data has names in it: RFC 1035 3.3, RFC 1183, RFC 2163, RFC 2782, RFC 3403.
+-- The types with names in their data: RFC 1035 3.3, RFC 1183, RFC 2163, RFC 2782, RFC 3403.
 use Rattle.std.specs.Prelude.{ℕ, List, [], ◌∷◌, Bool, true, false, Option, Some, None, ◌==◌, if◌then◌else◌}
 use Rattle.dns_message.specs.declared.reading.shape.Part.{Part}
 use Rattle.dns_message.specs.declared.reading.shape.Part.TheVariants.{Name, Number16, SoaNumbers, Text}
 
--- the parts that fill the data, and whether names in it may be written with pointers
+-- the parts of the data, and whether its names may be written with pointers
 pub record Shape : Type 0 where
   pub parts : List Part
   pub compressed : Bool
@@ -33,7 +33,7 @@ srv_parts = Number16 ∷ Number16 ∷ Number16 ∷ Name ∷ []
 abbrev pub naptr_parts : List Part
 naptr_parts = Number16 ∷ Number16 ∷ Text ∷ Text ∷ Text ∷ Name ∷ []
 
--- the types whose data has names in it, with the parts of their data
+-- the types with names in their data, with the parts of the data
 abbrev pub table : List Row
 table =
     with_pointers 2 (Name ∷ []) ∷  -- NS
@@ -60,6 +60,6 @@ abbrev pub row_of : ℕ → List Row → Option Shape
 row_of kind [] = None
 row_of kind (row ∷ rows) = if kind == row.kind then Some row.shape else row_of kind rows
 
--- the shape of a type's data; None: octets of which nothing is known (RFC 3597)
+-- the shape of a type's data; None: opaque octets (RFC 3597)
 unfoldable pub shape_of : ℕ → Option Shape
 shape_of kind = row_of kind table

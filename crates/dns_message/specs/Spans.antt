@@ -8,12 +8,12 @@ use Rattle.dns_message.specs.Reading.{behind}
 use Rattle.dns_message.specs.Numbers.{number16}
 use Rattle.dns_message.specs.Records.{RecordAt, question_at, record_at, counted}
 
--- the sections of the records that are left: 0 for answers, 1 for authority, 2 for additional
+-- the sections of the remaining records: 0 for answers, 1 for authority, 2 for additional
 abbrev pub sections_of : Left → List ℕ
 sections_of left = replicate left.answers 0 ++ (replicate left.authority 1 ++ replicate left.additional 2)
 
--- From o on these are the spans of the records that can be read, in order, where a record of each
--- of these sections is counted.
+-- From o on these are the spans of the readable records, in order; a record of each of these
+-- sections is counted.
 pub data SpansAt (bytes : List ℕ) : List ℕ → ℕ → List Span → Type 0 where
   all_read : {o : ℕ} → SpansAt bytes [] o []
   none_here : {o section : ℕ} {sections : List ℕ} → ((entry : Record) (e : ℕ) → RecordAt bytes o entry e → ⊥)
@@ -22,7 +22,7 @@ pub data SpansAt (bytes : List ℕ) : List ℕ → ℕ → List Span → Type 0 
       → SpansAt bytes sections e spans
       → SpansAt bytes (section ∷ sections) o (record { start = o; end = e; section = section } ∷ spans)
 
--- the span of a record, and those of the records after it
+-- the span of a record, and the spans of the records after it
 abbrev pub span_and_rest : ℕ → ℕ → (ℕ → List Span) → Result ℕ Fault → List Span
 span_and_rest o section rest (Ok e) = record { start = o; end = e; section = section } ∷ rest e
 span_and_rest o section rest (Err fault) = []
@@ -32,7 +32,7 @@ unfoldable pub spans_at : List ℕ → List ℕ → ℕ → List Span
 spans_at bytes [] o = []
 spans_at bytes (section ∷ sections) o = span_and_rest o section (spans_at bytes sections) (behind (record_at bytes o))
 
--- the section of each record that the header counts
+-- the section of each counted record
 abbrev pub counted_sections : List ℕ → List ℕ
 counted_sections bytes = replicate (number16 bytes 6) 0 ++ (replicate (number16 bytes 8) 1
     ++ replicate (number16 bytes 10) 2)
@@ -42,6 +42,6 @@ abbrev pub spans_from : List ℕ → Result ℕ Fault → List Span
 spans_from bytes (Ok o) = spans_at bytes (counted_sections bytes) o
 spans_from bytes (Err fault) = []
 
--- the spans of the records of a message that can be read; none where a counted question can't be
+-- the spans of the readable records of a message; none after an unreadable question
 unfoldable pub spans_of : List ℕ → List Span
 spans_of bytes = spans_from bytes (behind (counted (question_at bytes) (number16 bytes 4) 12))

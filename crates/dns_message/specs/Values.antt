@@ -8,7 +8,7 @@ pub record Question : Type 0 where
   pub kind : ℕ
   pub class : ℕ
 
--- a record, the names in its data written out in full: RFC 1035 4.1.3
+-- a record, with the names in its data written out in full: RFC 1035 4.1.3
 pub record Record : Type 0 where
   pub owner : List (List ℕ)
   pub kind : ℕ

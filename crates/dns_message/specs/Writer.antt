@@ -1,4 +1,4 @@
--- The text that a writer holds.
+-- The text in a writer.
 use Rattle.std.specs.Prelude.{◌≡◌, ◌≤◌, ◌<◌, ℕ, List, [], ◌∷◌, length, Option, Some, None, Result, Ok, Err, nat_le}
 use Rattle.std.specs.Prelude.{◌&&◌, if◌then◌else◌}
 use Rattle.std.specs.Borrow.{Bor}
@@ -17,7 +17,7 @@ use Rattle.dns_message.specs.declared.writing.pointers.Pointers.{Pointers}
 use Rattle.dns_message.specs.declared.writing.writer.Writer.{Writer}
 use Rattle.dns_message.specs.Writing.{Text, Writing, place_of, pointer_to, after}
 
--- a name that begins in the octets, and the pointer to it
+-- a name that begins in the octets, and its pointer
 abbrev pub KnownName : Type 0
 KnownName = Bor (List ℕ) × ℕ
 
@@ -32,16 +32,16 @@ abbrev pub pointer_known : {A : Type 0} → Pointers A → List ℕ → Option �
 pointer_known ps octets = option_or (pointer_among ps.few.items octets)
     (get_by (λ k. slice_cmp nat_cmp octets k.now) ps.many)
 
--- the pointer to a name that begins in what was written
+-- the pointer to a name that begins in the written octets
 abbrev pub pointer_in : {A : Type 0} → Writer A → List ℕ → Option ℕ
 pointer_in w octets = pointer_known w.pointers octets
 
--- what was known is known, and so is this name
+-- known names stay known, and this name is known
 abbrev pub IsPointed : {A : Type 0} → Pointers A → Pointers A → List ℕ → ℕ → Type 0
 IsPointed old new octets pointer = (other : List ℕ) → pointer_known new other
     ≡ (if bytes_eq octets other then Some pointer else pointer_known old other)
 
--- what was known is known, and so is this name where a pointer reaches its offset
+-- known names stay known, and this name is known if a pointer reaches its offset
 abbrev pub IsPutIn : {A : Type 0} → Pointers A → Pointers A → List ℕ → ℕ → Type 0
 IsPutIn old new octets offset = (other : List ℕ) → pointer_known new other
     ≡ (if nat_le offset 16383 && bytes_eq octets other then Some (pointer_to offset) else pointer_known old other)
@@ -51,13 +51,13 @@ pub record IsKnown {A : Type 0} (w : Writer A) (octets : List ℕ) (pointer : �
   pub is : pointer_in w octets ≡ Some pointer
   pub some : 0 < length octets
 
--- The writer holds this text: its octets, and for each name that begins at a place a pointer to the
--- earliest one.
+-- The writer holds this text: its octets, and for each name that begins in them a pointer to the
+-- earliest place.
 pub record Holds {A : Type 0} (w : Writer A) (t : Text) : Type 0 where
   pub octets : w.octets.items ≡ t.octets
   pub pointers : (name : List (List ℕ)) → pointer_in w (octets_of name) ≡ option_map pointer_to (place_of t.places name)
 
--- whatever text the one holds, the other holds that, followed by what is written
+-- if the first writer holds a text, the second holds the text, followed by this writing
 abbrev pub Writes : {A : Type 0} → Writer A → Writer A → Writing → Type 0
 Writes old new written = (t : Text) → Holds old t → Holds new (after t written)
 
@@ -65,13 +65,13 @@ Writes old new written = (t : Text) → Holds old t → Holds new (after t writt
 abbrev pub HoldsText : {A : Type 0} → Writer A → Type 0
 HoldsText w = (t : Text) × Holds w t
 
--- Why something was not written whole: with it the text passes the limit, or memory ran out.
+-- Why a writing is not whole: the text would exceed the limit, or memory ran out.
 abbrev pub Refused : {A : Type 0} → ℕ → Fault → Writer A → Writing → Type 0
 Refused limit Memory old written = Unit {0}
 Refused limit TooLarge old written = (t : Text) → Holds old t → limit < length (after t written).octets
 Refused limit fault old written = ⊥
 
--- something of which a fact holds is written whole within the limit, or refused
+-- a writing with a fact is whole within the limit, or refused
 abbrev pub Puts : {A : Type 0} → ℕ → Result (Unit {0}) Fault → Writer A → Writer A → Writing → Type 0 → Type 0
 Puts limit (Ok x) old new written fact = Writes old new written × (length new.octets.items ≤ limit) × fact
 Puts limit (Err fault) old new written fact = Refused limit fault old written
@@ -80,12 +80,12 @@ Puts limit (Err fault) old new written fact = Refused limit fault old written
 abbrev pub IsEmpty : {A : Type 0} → Writer A → Type 0
 IsEmpty w = Holds w (record { octets = []; places = [] })
 
--- a part with these octets, of a name without its zero octet
+-- a part with these octets, a name without the final zero
 abbrev pub field_in : Part → List ℕ → Field
 field_in Name first = named (labels_of first)
 field_in part first = plain first
 
--- the part in front of octets is this, and those follow it
+-- the octets are this part, followed by the rest
 pub record IsFirst (part : Part) (octets first behind : List ℕ) : Type 0 where
   pub is : first_field part octets ≡ Some (field_in part first, behind)
   pub laid : part ≡ Name → IsLaidOut first

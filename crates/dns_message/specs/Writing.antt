@@ -1,7 +1,8 @@
--- The one text of a message: RFC 1035 4.1. A name's longest end that was written before is a
--- pointer to where it was first: RFC 1035 4.1.4.
+-- The only text of a message: RFC 1035 4.1. The longest end of a name that was written before is a
+-- pointer to its first place: RFC 1035 4.1.4.
 use Rattle.std.specs.Prelude.{ℕ, ◌+◌, ◌*◌, ◌/◌, ◌%◌, ◌≤◌, List, [], ◌∷◌, ◌++◌, length, Option, Some, None, Result, Ok}
 use Rattle.std.specs.Prelude.{Err, Bool, true, false, nat_le, nat_lt, slice_index, if◌then◌else◌}
+use Rattle.std.specs.List.{flat_map}
 use Rattle.std.specs.Str.{bytes_eq}
 use Rattle.std.specs.Cmp.Lexicographic.{pointwise}
 use Rattle.dns_name.specs.Labels.{label_octets}
@@ -11,7 +12,7 @@ use Rattle.dns_message.specs.declared.reading.header.Header.{Header}
 use Rattle.dns_message.specs.Values.{Question, Record, Message}
 use Rattle.dns_message.specs.Fields.{Field, named, plain, fields_of_kind}
 
--- where a label was written out, and the name that begins there
+-- the offset of a label written out, and the name from there on
 pub record Place : Type 0 where
   pub offset : ℕ
   pub name : List (List ℕ)
@@ -21,7 +22,7 @@ pub record Text : Type 0 where
   pub octets : List ℕ
   pub places : List Place
 
--- the text of something at an offset, after these places
+-- the text of a thing at an offset, after these places
 abbrev pub Writing : Type 0
 Writing = List Place → ℕ → Text
 
@@ -29,27 +30,27 @@ Writing = List Place → ℕ → Text
 abbrev pub as_is : List ℕ → Writing
 as_is xs places o = record { octets = xs; places = [] }
 
--- the one text, followed by the other
+-- two texts in order
 abbrev pub joined : Text → Text → Text
 joined t u = record { octets = t.octets ++ u.octets; places = t.places ++ u.places }
 
--- a text, followed by what is written
+-- a text, followed by a writing
 unfoldable pub after : Text → Writing → Text
 after t w = joined t (w t.places (length t.octets))
 
 infixl 20 ◌▹◌
--- the one, followed by the other
+-- two writings in order
 unfoldable pub ◌▹◌ : Writing → Writing → Writing
 (a ▹ b) places o = let first = a places o in joined first (b (places ++ first.places) (o + length first.octets))
 
--- each of these, one after another
+-- each of these, in order
 unfoldable pub each : {X : Type 0} → (X → Writing) → List X → Writing
 each w [] = as_is []
 each w (x ∷ xs) = w x ▹ each w xs
 
 -- ---- numbers, the high octet first: RFC 1035 2.3.2
 
--- the two octets of a number, the high one first
+-- the two octets of a number, high octet first
 abbrev pub octets16 : ℕ → List ℕ
 octets16 n = n / 256 % 256 ∷ n % 256 ∷ []
 
@@ -59,11 +60,11 @@ octets32 n = n / 16777216 % 256 ∷ n / 65536 % 256 ∷ n / 256 % 256 ∷ n % 25
 
 -- ---- names
 
--- labels are equal where their octets are, letter case included
+-- labels are equal if their octets are, letter case included
 abbrev pub labels_eq : List (List ℕ) → List (List ℕ) → Bool
 labels_eq = pointwise bytes_eq
 
--- the earliest place at which this name begins
+-- the earliest place of this name
 abbrev pub place_of : List Place → List (List ℕ) → Option ℕ
 place_of [] name = None
 place_of (place ∷ places) name = if labels_eq place.name name then Some place.offset else place_of places name
@@ -80,13 +81,13 @@ places_at o name = if nat_le o 16383 then record { offset = o; name = name } ∷
 abbrev pub label_text : List ℕ → List (List ℕ) → Writing
 label_text label rest places o = record { octets = label_octets label; places = places_at o (label ∷ rest) }
 
--- the pointer to an offset, if any, otherwise the other text
+-- the pointer to an offset, if any, otherwise the text
 abbrev pub pointer_or : Option ℕ → Writing → Writing
 pointer_or (Some offset) written = as_is (octets16 (pointer_to offset))
 pointer_or None written = written
 
--- A name: the longest end of it that begins at some place is a pointer to the earliest such place.
--- The root is its zero octet.
+-- A name: its longest end with a place is a pointer to the earliest place. The root is its zero
+-- octet.
 unfoldable pub name_text : List (List ℕ) → Writing
 name_text [] places o = as_is (0 ∷ []) places o
 name_text (label ∷ rest) places o =
@@ -103,17 +104,17 @@ abbrev pub field_text : Field → Writing
 field_text (named labels) = name_text labels
 field_text (plain xs) = as_is xs
 
--- the text of record data: by its parts, or as it is
+-- the text of record data: by its parts, or unchanged
 abbrev pub by_fields : Option (List Field) → List ℕ → Writing
 by_fields (Some fields) rdata = each field_text fields
 by_fields None rdata = as_is rdata
 
--- Data of a type whose names may be pointers, where it is of its type's shape, is written field by
--- field. All other data is written as it is.
+-- Data with the shape of a type whose names may be pointers is written part by part, all further
+-- data unchanged.
 unfoldable pub data_text : ℕ → List ℕ → Writing
 data_text kind rdata = by_fields (fields_of_kind kind rdata) rdata
 
--- RDLENGTH, and the octets that it counts
+-- RDLENGTH, and the counted octets
 unfoldable pub with_length : Writing → Writing
 with_length w places o =
     let text = w places (o + 2) in
@@ -139,6 +140,10 @@ abbrev pub flags_of : Header → ℕ
 flags_of h = bit h.qr 32768 + h.opcode * 2048 + bit h.aa 1024 + bit h.tc 512 + bit h.rd 256 + bit h.ra 128 + h.z * 16
     + h.rcode
 
+-- identifier, flags and these counts, each in two octets: RFC 1035 4.1.1
+abbrev pub header_octets : Header → List ℕ → List ℕ
+header_octets h counts = octets16 h.id ++ octets16 (flags_of h) ++ flat_map octets16 counts
+
 -- the header, with these counts: RFC 1035 4.1.1
 abbrev pub counted_header : Header → List ℕ → Writing
 counted_header h counts =
@@ -161,7 +166,7 @@ message_text m =
     ▹ each record_text m.additional
 
 -- the octets of a message; in each name that may have a pointer, the longest end written before
--- within its reach is one (RFC 1035 4.1.4)
+-- within a pointer's reach is a pointer (RFC 1035 4.1.4)
 unfoldable pub written : Message → List ℕ
 written m = (message_text m [] 0).octets
 

@@ -1,4 +1,4 @@
--- The messages that a program can hold, and their octets (RFC 1035 4.1).
+-- The messages in a program, and their octets (RFC 1035 4.1).
 use Rattle.std.specs.Prelude.{◌≡◌, ◌<◌, ◌≤◌, [], ◌∷◌, length}
 use Rattle.std.specs.List.{AllByRecursion}
 use Rattle.dns_name.specs.Labels.{IsName}
@@ -29,10 +29,10 @@ pub record IsMessage (m : Message) : Type 0 where
   pub authority : AllByRecursion IsRecord m.authority
   pub additional : AllByRecursion IsRecord m.additional
 
--- the counts of the header are those of the lists
+-- the counts of the header are the lengths of the lists
 abbrev pub IsCounted : Message → Type 0
 IsCounted m = m.header.counts ≡ length m.questions ∷ length m.answers ∷ length m.authority ∷ length m.additional ∷ []
 
--- what is written of a message spells it, where it is no longer than a message can be
+-- the written text of a message spells the message, if not longer than a message can be
 abbrev pub IsSpelledBack : Message → Type 0
 IsSpelledBack m = IsCounted m → HasShapes m → length (written m) ≤ 65535 → Spells (written m) m

@@ -1,4 +1,4 @@
-//! A message that is written is read back: a law over writing and reading.
+//! A written message is read back: a law over writing and reading.
 
 ghost use Rattle.std.specs.Prelude.{◌≡◌, ◌≤◌, Ok, length};
 ghost use Rattle.dns_message.specs.Values as values;
@@ -6,9 +6,9 @@ ghost use Rattle.dns_message.specs.Messages.{HasShapes, message_of};
 ghost use Rattle.dns_message.specs.Writing.{written};
 ghost use Rattle.dns_message.specs.Written.{IsMessage, IsCounted};
 
-/// The octets that are written of a message are read as that message, wherever its header counts
-/// its lists, the data of its records is of their shapes, and the octets are no more than a message
-/// can have. So no two such messages are written alike.
+/// The written octets of a message are read as the message, if its header counts its lists, the
+/// data of its records has their shapes, and the octets are not longer than a message can be. So no
+/// two such messages have equal texts.
 pub fn what_is_written_is_read_back()
     ensures back { (message : values.Message) → IsMessage message → IsCounted message → HasShapes message
         → length (written message) ≤ 65535 → message_of (written message) ≡ Ok message }

@@ -1,8 +1,8 @@
 //! Messages of the domain name system, read from octets: RFC 1035 section 4, with the data of
 //! records by the shape of its type.
 //!
-//! A view judges without allocating: `question_is`, `is_whole`, `records`. `shape_of` is the one
-//! table of types whose data has names (RFC 3597).
+//! A view judges without allocating: `question_is`, `is_whole`, `records`. `shape_of` is the only
+//! table of types with names in their data (RFC 3597).
 
 mod data;
 mod header;

@@ -1,10 +1,11 @@
 //! Messages of the domain name system, written as octets: RFC 1035 section 4, with pointers to
-//! names that were written before.
+//! names written before.
 //!
 //! A vector with room does not grow. From the 17th name on an ordered map is allocated.
 
 mod borrowed;
 mod data;
+mod header;
 mod laws;
 mod message;
 mod pointers;

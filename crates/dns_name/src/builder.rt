@@ -1,4 +1,4 @@
-//! Names that are put together label by label.
+//! Names, put together label by label.
 
 ghost use Rattle.std.specs.Prelude.{◌≡◌, ◌≤◌, ◌+◌, ◌++◌, [], length, IfErr, IfOk};
 ghost use Rattle.arrayvec.specs.ArrayVec.{array_vec_len};
@@ -12,7 +12,7 @@ use arrayvec::ArrayVec;
 use std::alloc::{AllocError, Allocator};
 use std::marker::Model;
 
-/// The most octets of a name, the zero octet at its end left out (RFC 1035 2.3.4).
+/// The most octets of a name without the final zero (RFC 1035 2.3.4).
 const MOST: usize = 254;
 
 /// The labels so far, each after its length.
@@ -54,8 +54,8 @@ impl NameBuilder {
         }
     }
 
-    /// Puts a label last. `NameLong` where the name would have more than 255 octets; an `Err`
-    /// changes nothing.
+    /// Puts a label last. `NameLong` if the name would be longer than 255 octets; an `Err` changes
+    /// nothing.
     #[tactic(auto, unfolding(crate::specs::Faults::pushed))]
     pub(crate) fn push(&mut self, label: &[u8]) -> Result<(), NameFault>
         requires { IsLabel label.now }
@@ -69,7 +69,7 @@ impl NameBuilder {
         Ok(())
     }
 
-    /// The name of these labels. `Err` where memory ran out.
+    /// The name of these labels.
     pub(crate) fn name<A: Allocator>(&self, alloc: A) -> Result<Name<A>, AllocError>
         ensures { IfOk result (λ name. name ≡ self.now) }
     {

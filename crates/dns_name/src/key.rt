@@ -11,9 +11,9 @@ use std::alloc::Allocator;
 use std::hash::{Hash, Hasher};
 use std::marker::Model;
 
-/// A name for comparing and hashing: its octets as in a message (RFC 1035 3.1), the zero octet at
-/// their end counted, with ASCII letters in lower case, then zeros up to 255 octets. It is seen as
-/// its labels in lower case, so keys are equal exactly where their names are the same.
+/// A name for comparing and hashing: its octets as in a message (RFC 1035 3.1), with the final
+/// zero, and ASCII letters in lower case, then zeros up to 255 octets. Contracts see the labels in
+/// lower case, so keys are equal exactly if their names are.
 #[derive(Clone, Copy, Eq, PartialOrd, Ord)]
 #[tactic(auto, using(crate::specs::KeyLaws::padded_back, crate::specs::KeyLaws::size_back))]
 pub struct NameKey {
@@ -59,8 +59,8 @@ impl PartialEq for NameKey {
     }
 }
 
-// The octets of the name alone are hashed, up to the end of the eight in which it ends: a hasher
-// takes whole words at once, and single octets one by one.
+// Hashes the octets of the name, rounded up to a multiple of eight: a hasher takes whole words at
+// once, and single octets one by one.
 impl Hash for NameKey {
     ghost use Rattle.std.specs.Prelude.{take, ◌∷◌, []};
     ghost use Rattle.std.specs.Cmp.Rules.{hashing};
@@ -77,7 +77,7 @@ impl Hash for NameKey {
     }
 }
 
-/// The end of the group of eight octets in which `len` octets end; a key has at most 255.
+/// `len`, rounded up to a multiple of eight; a key has at most 255 octets.
 fn end_of_words(len: u8) -> usize
     ensures end { result ≡ end_of_words len }
     ensures within { result ≤ 255 }
@@ -86,12 +86,11 @@ fn end_of_words(len: u8) -> usize
     (words * 8).min(255)
 }
 
-/// The octets that follow the name in its key.
+/// The zeros after the name in its key.
 const ZEROS: [u8; 255] = [0; 255];
 
 impl NameKey {
-    /// The key of the name that these octets are, as `Name::octets` gives them. It does not
-    /// allocate.
+    /// The key of the name with these octets, in the form of `Name::octets`.
     pub fn from_octets(octets: &[u8]) -> NameKey
         requires { IsLaidOut octets.now }
         ensures { result ≡ lowered (labels_of octets.now) }
@@ -99,9 +98,8 @@ impl NameKey {
         key_of(octets)
     }
 
-    /// Makes this the key of the name that these octets are, as `Name::octets` gives them; nothing
-    /// of the old name stays. Less is written than for a new key, and nothing is moved. It does not
-    /// allocate.
+    /// Makes this the key of the name with these octets, in the form of `Name::octets`; nothing of
+    /// the old name stays. Less is written than for a new key, and nothing is moved.
     #[tactic(auto, using(crate::proofs::LabelLaws::laid_short))]
     pub fn set_octets(&mut self, octets: &[u8])
         requires { IsLaidOut octets.now }
@@ -113,7 +111,7 @@ impl NameKey {
         self.len = octets.len() as u8 + 1;
     }
 
-    /// The key of the name without its first label; `None` for the root. It does not allocate.
+    /// The key of the name without its first label; `None` for the root.
     #[tactic(auto, using(crate::proofs::KeyOf::lowered_tail))]
     pub fn parent(&self) -> Option<NameKey>
         ensures { result ≡ parent_of self.now }
@@ -122,16 +120,14 @@ impl NameKey {
         Some(key_of(rest))
     }
 
-    /// Whether the last labels of this key's name are those of `suffix`, as `Name::is_under`. It
-    /// does not allocate.
+    /// Whether this key's name is at or below `suffix`, as `Name::is_under`.
     pub fn is_under<A: Allocator>(&self, suffix: &Name<A>) -> bool
         ensures { IsTrue result ↔ IsUnder self.now suffix.now }
     {
         ends_in(self.octets(), suffix.octets())
     }
 
-    /// The octets of the name in lower case, each label after its length, and no zero octet at
-    /// their end. It does not allocate.
+    /// The octets of the name in lower case, each label after its length, without the final zero.
     pub fn octets(&self) -> &[u8]
         ensures laid { IsLaidOut result.now }
         ensures labels { labels_of result.now ≡ self.now }
@@ -140,7 +136,7 @@ impl NameKey {
         &self.octets[..usize::from(self.len) - 1]
     }
 
-    /// The labels of the name in lower case from left to right, at most 127. It does not allocate.
+    /// The labels of the name in lower case from left to right, at most 127.
     pub fn labels(&self) -> Labels<'_>
         ensures labels { result ≡ self.now }
         ensures few { length self.now ≤ 127 }
@@ -149,7 +145,7 @@ impl NameKey {
     }
 }
 
-/// Puts octets in lower case in place of the first ones.
+/// Puts octets in lower case in place of the first octets.
 fn put_lower(all: &mut [u8; 255], octets: &[u8])
     requires { length octets.now ≤ 255 }
     ensures { all.new ≡ map to_ascii_lowercase octets.now ++ drop (length octets.now) all.old }
@@ -168,7 +164,7 @@ fn lower_with_zeros(octets: &[u8]) -> [u8; 255]
     all
 }
 
-/// The number of octets that are compared one by one, up to the first that differs.
+/// The number of octets compared one by one, up to the first difference.
 const FEW: usize = 32;
 
 /// Whether octets, at most 255, are equal in lower case. More than a few are turned to lower case
@@ -184,8 +180,8 @@ fn is_same_in_lower_case(a: &[u8], b: &[u8]) -> bool
     a.len() == b.len() && lower_with_zeros(a) == lower_with_zeros(b)
 }
 
-/// Whether octets, at most 255, are equal, ASCII letter case aside (RFC 1035 2.3.3). Most that are
-/// equal are spelled alike, so they are compared as they are first.
+/// Whether octets, at most 255, are equal, ASCII letter case aside (RFC 1035 2.3.3). Most equal
+/// names are spelled alike, so a comparison with case comes first.
 pub(crate) fn is_same_text(a: &[u8], b: &[u8]) -> bool
     requires { length a.now ≤ 255 }
     ensures { IsTrue result ↔ (map to_ascii_lowercase a.now ≡ map to_ascii_lowercase b.now) }
@@ -193,7 +189,7 @@ pub(crate) fn is_same_text(a: &[u8], b: &[u8]) -> bool
     a == b || is_same_in_lower_case(a, b)
 }
 
-/// The key of a name that has these octets.
+/// The key of a name with these octets.
 #[tactic(auto, using(crate::proofs::LabelLaws::laid_short))]
 pub(crate) fn key_of(name: &[u8]) -> NameKey
     requires { IsLaidOut name.now }

@@ -1,4 +1,4 @@
-//! Names: what they are made of, and how they compare.
+//! Names: their parts and their comparison.
 
 ghost use Rattle.std.specs.Prelude.{◌≡◌, ◌≤◌, ◌+◌, ◌∷◌, ◌++◌, [], length, map, OnOk, OnErr, IsTrue, ◌↔◌, IfOk, IsOk};
 ghost use Rattle.std.specs.Prelude.{MatchResult, Some, None};
@@ -14,9 +14,9 @@ use plain_values::ShortOctets;
 use std::alloc::{AllocError, Allocator, Global};
 use std::marker::Model;
 
-/// A domain name (RFC 1035 2.3.4, 3.1): labels of 1 to 63 octets, at most 255 octets in all where
-/// each label is counted with its length octet, and the zero octet at the end too. Up to 30 octets,
-/// the zero octet left out, are kept in place. Contracts see it as the list of its labels.
+/// A domain name (RFC 1035 2.3.4, 3.1): labels of 1 to 63 octets, at most 255 octets in all with
+/// each label's length octet and the final zero. Up to 30 octets, without the final zero, are in
+/// place. Contracts see the list of labels.
 #[derive(Drop)]
 pub struct Name<A: Allocator = Global> {
     octets: ShortOctets<A>,
@@ -34,7 +34,7 @@ impl<A: Allocator> Model for Name<A> {
 }
 
 impl<A: Allocator> Name<A> {
-    /// The root, which has no label. It does not allocate.
+    /// The root, which has no label.
     pub fn root() -> Name<A>
         ensures { result ≡ [] }
     {
@@ -43,9 +43,8 @@ impl<A: Allocator> Name<A> {
         }
     }
 
-    /// The name that these octets are, as `octets` gives them: each label after its length, and no
-    /// zero octet at the end. They are copied once. Up to 30 do not allocate; for more, `Err` where
-    /// memory ran out.
+    /// The name with these octets, in the form of `octets`: each label after its length, without
+    /// the final zero. They are copied once. Up to 30 do not allocate; for more,
     pub fn from_octets(alloc: A, octets: &[u8]) -> Result<Name<A>, AllocError>
         requires { IsLaidOut octets.now }
         ensures name { IfOk result (λ name. name ≡ labels_of octets.now) }
@@ -56,7 +55,7 @@ impl<A: Allocator> Name<A> {
         })
     }
 
-    /// The labels from left to right, at most 127. It does not allocate.
+    /// The labels from left to right, at most 127.
     pub fn labels(&self) -> Labels<'_>
         ensures labels { result ≡ self.now }
         ensures name { IsName self.now }
@@ -65,8 +64,8 @@ impl<A: Allocator> Name<A> {
         labels_in(self.octets())
     }
 
-    /// The name as in a message (RFC 1035 3.1), without the zero octet at its end: each label after
-    /// its length. `split_label` takes the first label off. It does not allocate.
+    /// The name as in a message (RFC 1035 3.1), without the final zero: each label after its
+    /// length. `split_label` takes the first label off.
     pub fn octets(&self) -> &[u8]
         ensures laid { IsLaidOut result.now }
         ensures labels { labels_of result.now ≡ self.now }
@@ -75,8 +74,7 @@ impl<A: Allocator> Name<A> {
         self.octets.as_slice()
     }
 
-    /// Whether the names have equal labels, ASCII letter case aside (RFC 1035 2.3.3). It does not
-    /// allocate.
+    /// Whether the names have equal labels, ASCII letter case aside (RFC 1035 2.3.3).
     #[tactic(auto, using(crate::proofs::LabelLaws::laid_short))]
     pub fn same(&self, other: &Name<A>) -> bool
         ensures { IsTrue result ↔ IsSame self.now other.now }
@@ -105,7 +103,7 @@ impl<A: Allocator> Name<A> {
     /// The name of these labels, from left to right.
     ///
     /// The fault is the first `EmptyLabel` or `LabelLong` from the left, otherwise `NameLong`.
-    /// `Memory` where an allocation was refused.
+    /// `Memory` if memory ran out.
     pub fn from_labels(alloc: A, labels: &[Vec<u8, A>]) -> Result<Name<A>, NameFault>
         ensures { Gives (λ n. n) result (named (map (λ v. v.items) labels.now)) }
     {
@@ -118,8 +116,8 @@ impl<A: Allocator> Name<A> {
     }
 }
 
-/// Whether the name of the octets is under that of `suffix`, both as `Name::octets` gives them:
-/// `Name::is_under` for names that are there as octets only. It does not allocate.
+/// Whether a name is at or below `suffix`, both as octets in the form of `Name::octets`:
+/// `Name::is_under` without a `Name`.
 pub fn ends_in(octets: &[u8], suffix: &[u8]) -> bool
     requires whole { IsLaidOut octets.now }
     requires suffix_whole { IsLaidOut suffix.now }
@@ -136,23 +134,22 @@ pub fn ends_in(octets: &[u8], suffix: &[u8]) -> bool
 }
 
 impl<A: Allocator> Name<A> {
-    /// Whether the last labels of this name are those of `suffix`, ASCII letter case aside; so each
-    /// name is under itself and under the root. The octets are compared once. It does not allocate.
+    /// Whether this name ends in the labels of `suffix`, ASCII letter case aside; so each name is
+    /// under itself and under the root. The octets are compared once.
     pub fn is_under(&self, suffix: &Name<A>) -> bool
         ensures { IsTrue result ↔ IsUnder self.now suffix.now }
     {
         ends_in(self.octets(), suffix.octets())
     }
 
-    /// The key of this name: keys are equal exactly where names are the same. It does not allocate.
+    /// The key of this name: keys are equal exactly if names are, letter case aside.
     pub fn key(&self) -> NameKey
         ensures { result ≡ lowered self.now }
     {
         key_of(self.octets())
     }
 
-    /// The name without its first label; `None` for the root, which does not allocate. `Err` where
-    /// memory ran out.
+    /// The name without its first label; `None` for the root, without an allocation.
     pub fn parent(&self, alloc: A) -> Result<Option<Name<A>>, AllocError>
         ensures parent { IfOk result (λ p. p ≡ parent_of self.now) }
         ensures root { OnErr result (self.now ≡ [] → ⊥) }
@@ -163,8 +160,8 @@ impl<A: Allocator> Name<A> {
         }
     }
 
-    /// The same labels, letter case included. Up to 31 octets, the zero octet counted, do not
-    /// allocate; for more, `Err` where memory ran out.
+    /// An equal name, letter case included. Up to 31 octets, with the final zero, do not allocate;
+    /// for more,
     pub fn copy(&self, alloc: A) -> Result<Name<A>, AllocError>
         ensures name { IfOk result (λ n. n ≡ self.now) }
         ensures few { size_of self.now ≤ 31 → IsOk result }

@@ -14,21 +14,21 @@ use crate::name::Name;
 use std::alloc::Allocator;
 use std::marker::Model;
 
-/// Whether the octet is one that a label in text may have.
+/// Whether a label in text may have this octet.
 fn is_label_character(octet: u8) -> bool
     ensures { result ≡ is_label_character octet }
 {
     octet.is_ascii_alphanumeric() || octet == b'-' || octet == b'_'
 }
 
-/// Whether each octet is one that a label in text may have.
+/// Whether a label in text may have each of these octets.
 fn has_label_characters(label: &[u8]) -> bool
     ensures { result ≡ list_all is_label_character label.now }
 {
     label.iter().all(|octet| is_label_character(*octet))
 }
 
-/// The first fault of one label in text.
+/// The first fault of a label in text.
 fn check_label(label: &[u8]) -> Result<(), NameFault>
     ensures first { MatchResult result (λ _. written_label_fault label.now ≡ None) (λ e. written_label_fault label.now
         ≡ Some e) }
@@ -125,12 +125,12 @@ fn name_of_parts<A: Allocator>(alloc: A, text: &[u8]) -> Result<Name<A>, NameFau
 }
 
 impl<A: Allocator> Name<A> {
-    /// The name that a text writes: its labels of ASCII letters, digits, hyphens and underscores,
-    /// with dots between them. One dot may end the text; a dot alone is the root (RFC 1035 5.1).
+    /// The name of a text: labels of ASCII letters, digits, hyphens and underscores, parted by
+    /// dots. A dot may end the text; a dot alone is the root (RFC 1035 5.1).
     ///
     /// The fault is the first from the left: `EmptyLabel` (of the empty text too), `BadCharacter`,
     /// or `LabelLong`, which is judged at the end of the label; after all labels `NameLong`.
-    /// `Memory` where an allocation was refused, and only where the text is a name.
+    /// `Memory` if memory ran out, and only if the text is a name.
     pub fn from_text(alloc: A, text: &str) -> Result<Name<A>, NameFault>
         ensures given { Gives (λ n. n) result (name_in text.now) }
         ensures memory { result ≡ Err Memory → IsOk (name_in text.now) }

@@ -1,11 +1,11 @@
-//! Numbers that are drawn at random by a seed.
+//! Random numbers from a seed.
 
 ghost use Rattle.std.specs.Prelude.{◌<◌, length};
 
 use rand_core::utils::NextWord;
 use rand_pcg::Pcg32;
 
-/// Draws numbers: with one seed always the same.
+/// A source of numbers: from equal seeds, equal numbers.
 #[derive(Drop)]
 pub(crate) struct Draws {
     words: Pcg32,
@@ -38,14 +38,14 @@ impl Draws {
         self.below(many) == 0
     }
 
-    /// One of the values.
+    /// A value of these.
     pub(crate) fn pick<T: Copy>(&mut self, values: &[T]) -> T
         requires { 0 < length values.now }
     {
         values[self.words.next_word() as usize % values.len()]
     }
 
-    /// A place in a list of this length; `None` if it is empty.
+    /// A place in a list of this length; `None` for an empty list.
     pub(crate) fn place(&mut self, length: usize) -> Option<usize> {
         if length == 0 {
             return None;

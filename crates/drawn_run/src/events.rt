@@ -1,4 +1,4 @@
-//! The next event of a run, drawn so that most replies fit a query that is open.
+//! The next event of a run, drawn so that most replies fit an open query.
 
 use crate::draws::Draws;
 use crate::ledger::{Ledger, Query};
@@ -11,7 +11,7 @@ use std::alloc::{AllocError, Global};
 use step_values::{Event, Handed, Path};
 use suffix_routes::Peer;
 
-/// A server that no configuration has.
+/// A server outside every configuration.
 const NO_SERVER: Peer = Peer {
     ip: [192, 0, 2, 99],
     port: 53,
@@ -20,7 +20,7 @@ const NO_SERVER: Peer = Peer {
 /// A query for the address of the root with identifier 8.
 const ROOT: &[u8] = b"\x00\x08\x01\x00\x00\x01\x00\x00\x00\x00\x00\x00\x00\x00\x01\x00\x01";
 
-/// A time after which all that waits is due, in milliseconds.
+/// A time after which all waiting questions and open queries are due, in milliseconds.
 const PAST_ALL: u64 = 60_000;
 
 /// The random words of a step: eight identifiers and ports.
@@ -34,7 +34,7 @@ pub(crate) fn words(draws: &mut Draws, turn: Turn) -> [u32; 8] {
 }
 
 /// The next moment: mostly a few milliseconds later, sometimes earlier, seldom so much later that
-/// what was kept has ended.
+/// cached data has expired.
 fn moment(draws: &mut Draws, before: u64) -> u64 {
     let later = match draws.below(256) {
         0 => draws.pick(&[31_000u32, 301_000, 604_801_000, 691_200_000]),
@@ -46,8 +46,8 @@ fn moment(draws: &mut Draws, before: u64) -> u64 {
     before.saturating_add(u64::from(later))
 }
 
-/// A tick at a moment at which all that waits is due, the same for all that are left: a query that
-/// is sent then is not.
+/// A tick at a moment at which everything before is due. All last ticks have this moment, so a
+/// query sent meanwhile is not due.
 pub(crate) fn last_tick(words: [u32; 8], ledger: &Ledger) -> Handed {
     let now = match ledger.waiting.last() {
         Some(question) => question.taken.saturating_add(PAST_ALL),
@@ -85,7 +85,7 @@ pub(crate) fn draw(
     Ok(Handed { now, words, event })
 }
 
-/// A message of a client. No two of a turn have the same identifier.
+/// A message of a client. All identifiers of a turn differ.
 fn message(alloc: Global, draws: &mut Draws, number: u32) -> Result<Event, AllocError> {
     let client = client(draws);
     let octets = question(alloc, draws, (number % 65_536) as u16)?;
@@ -95,7 +95,7 @@ fn message(alloc: Global, draws: &mut Draws, number: u32) -> Result<Event, Alloc
     })
 }
 
-/// One of the open queries.
+/// An open query.
 fn any_query<'l>(draws: &mut Draws, ledger: &'l Ledger) -> Option<&'l Query> {
     let place = draws.place(ledger.open.len())?;
     ledger.open.get(place)

@@ -1,9 +1,9 @@
-//! What a run can do wrong.
+//! The faults of a run.
 
 use std::alloc::AllocError;
 use thiserror::Error;
 
-/// The first thing that a run did wrong.
+/// The first fault of a run.
 #[derive(Clone, Copy, Debug, Error)]
 pub(crate) enum Fault {
     #[error("memory ran out, or a step returned an error")]

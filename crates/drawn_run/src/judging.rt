@@ -1,4 +1,4 @@
-//! Steps, judged by what clients and servers may expect of them.
+//! Steps, judged by the expectations of clients and servers.
 
 use crate::fault::Fault;
 use crate::ledger::{Ledger, Query, Waiting};
@@ -8,19 +8,20 @@ use std::alloc::{AllocError, Global};
 use step_values::{Action, Client, Event, Handed, Outcome, Path, Why};
 use suffix_routes::{Limits, Peer};
 
-/// What a step has done so far, from first to last.
+/// The kinds of a step's actions so far, in their order.
 #[derive(Clone, Copy, PartialEq, Eq, PartialOrd, Ord)]
 enum Done {
     Nothing,
-    /// It closed a path.
+    /// A path was closed.
     Close,
-    /// It answered questions.
+    /// Questions were answered.
     Replies,
-    /// It sent a query.
+    /// A query was sent.
     Query,
 }
 
-/// The judge of a run: what it knows of the forwarder, and the reasons of replies so far.
+/// The judge of a run: the forwarder's open questions and queries, and the reasons of replies so
+/// far.
 #[derive(Drop)]
 pub(crate) struct Judge {
     alloc: Global,
@@ -28,7 +29,7 @@ pub(crate) struct Judge {
     pub reasons: Vec<Why>,
     done: Done,
     /// The place in the list from which the next reply's question is searched: replies go in the
-    /// order in which the questions came.
+    /// order of the questions.
     place: usize,
 }
 
@@ -59,8 +60,8 @@ impl Judge {
         self.end(limits, outcome)
     }
 
-    /// Notes the event of a step, which may not close a path if it is a client's message, and may
-    /// do nothing if that is dropped, or at a restart.
+    /// Notes the event of a step. A client's message may not close a path; after a dropped message
+    /// and a restart no action may follow.
     fn enter(&mut self, handed: &Handed) -> Result<(), AllocError> {
         self.ledger.pass(handed.now);
         self.done = Done::Nothing;
@@ -86,7 +87,7 @@ impl Judge {
         Ok(())
     }
 
-    /// Judges one action: a close comes first, then the replies, and last one query.
+    /// Judges one action: a close comes first, then the replies, and last a query.
     fn act(&mut self, handed: &Handed, action: &Action) -> Result<(), Fault> {
         match action {
             Action::CloseUdp { port } => self.close(Path::Udp(*port)),
@@ -130,7 +131,7 @@ impl Judge {
         self.ledger.close(path)
     }
 
-    /// A query is sent, which has to be the one that was drawn.
+    /// A query is sent; its path and identifier have to be the drawn ones.
     fn ask(
         &mut self,
         (path, server): (Path, Peer),
@@ -180,7 +181,7 @@ impl Judge {
         Err(Fault::Nobody)
     }
 
-    /// What holds after each step.
+    /// The checks after each step.
     fn end(&self, limits: Limits, outcome: &Outcome) -> Result<(), Fault> {
         let (waiting, open) = (self.ledger.waiting.len(), self.ledger.open.len());
         if outcome.unkept > 0 {

@@ -1,4 +1,4 @@
-//! The questions that wait and the queries that are open, as the actions so far tell it.
+//! The waiting questions and the open queries, by the actions so far.
 
 use crate::fault::Fault;
 use std::alloc::Global;
@@ -8,27 +8,27 @@ use suffix_routes::{Limits, Peer};
 /// The greatest effective moment, in milliseconds.
 const LATEST: u64 = 1 << 62;
 
-/// A question that waits for its reply.
+/// A question without its reply.
 #[derive(Clone, Copy)]
 pub(crate) struct Waiting {
     pub client: Client,
-    /// The first four octets of its message: identifier and flags.
+    /// The first four octets of the message: identifier and flags.
     pub head: [u16; 2],
-    /// The effective moment at which it came.
+    /// The effective moment of its arrival.
     pub taken: u64,
 }
 
-/// A query that is open: sent, and its path not closed.
+/// An open query: sent, with its path not closed.
 #[derive(Drop)]
 pub(crate) struct Query {
     pub path: Path,
     pub server: Peer,
     pub octets: Vec<u8>,
-    /// The effective moment at which it was sent.
+    /// The effective moment of its sending.
     pub asked: u64,
 }
 
-/// What waits and what is open, both in the order of time.
+/// Waiting questions and open queries, both in the order of time.
 #[derive(Drop)]
 pub(crate) struct Ledger {
     pub waiting: Vec<Waiting>,
@@ -50,7 +50,7 @@ impl Ledger {
         }
     }
 
-    /// A moment is passed in. One below an earlier one counts as that one.
+    /// A step's moment. A moment below an earlier moment counts as the earlier.
     pub(crate) fn pass(&mut self, now: u64) {
         self.moment = now.min(LATEST).max(self.moment);
     }
@@ -68,7 +68,7 @@ impl Ledger {
         self.open.iter().any(|query| query.path == path)
     }
 
-    /// A path is closed, which has to be open.
+    /// A path is closed; the path has to be open.
     pub(crate) fn close(&mut self, path: Path) -> Result<(), Fault> {
         for place in 0..self.open.len() {
             if place < self.open.len() && self.open[place].path == path {
@@ -79,7 +79,8 @@ impl Ledger {
         Err(Fault::Close)
     }
 
-    /// Whether the oldest question is at its deadline, or the oldest query past its time.
+    /// Whether the oldest question has reached its deadline, or the oldest query the end of its
+    /// time.
     pub(crate) fn is_due(&self, limits: Limits) -> bool {
         let (question, query) = (self.waiting.first(), self.open.first());
         question.is_some_and(|q| q.taken.saturating_add(limits.deadline_ms) <= self.moment)

@@ -1,5 +1,5 @@
-//! Hands drawn events to a forwarder with ample memory: no step may be refused, no question lost,
-//! and none answered twice. Prints what came of it, or the number of the event that went wrong.
+//! Passes drawn events to a forwarder with ample memory: no step may be refused, no question lost,
+//! and none answered twice. Prints counts, or the number of the faulty event.
 #![tactic(auto)]
 
 mod draws;

@@ -1,4 +1,4 @@
-//! Octets of messages: names, numbers, and octets that were changed on the way.
+//! Octets of messages: names, numbers, and changes on the way.
 
 use crate::draws::Draws;
 use std::alloc::{AllocError, Global};
@@ -6,7 +6,7 @@ use std::alloc::{AllocError, Global};
 /// How many names are drawn from.
 pub(crate) const NAMES: u32 = 64;
 
-/// The ends of the names, each on a route of its own where there are several routes.
+/// The ends of the names, each on a route of its own if there are several routes.
 const SUFFIXES: [&[u8]; 4] = [
     b"\x07example\0",
     b"\x04corp\x07example\0",
@@ -14,7 +14,7 @@ const SUFFIXES: [&[u8]; 4] = [
     b"\x04test\0",
 ];
 
-/// Octets that mean something in a message: root, lengths, pointers, types.
+/// Octets with a meaning in messages: root, lengths, pointers, types.
 const TELLING: [u8; 12] = [0, 1, 2, 5, 6, 12, 14, 33, 63, 64, 192, 255];
 
 /// Puts a number of 16 bits last.
@@ -22,7 +22,7 @@ pub(crate) fn put16(octets: &mut Vec<u8>, number: u16) -> Result<(), AllocError>
     octets.extend_from_slice(&number.to_be_bytes())
 }
 
-/// The number that stands at this place; 0 past the end.
+/// The number at this place; 0 after the end.
 pub(crate) fn number16(octets: &[u8], place: usize) -> u16 {
     match octets.get(place..) {
         Some([high, low, ..]) => u16::from_be_bytes([*high, *low]),
@@ -70,8 +70,8 @@ pub(crate) fn name(alloc: Global, draws: &mut Draws, number: u32) -> Result<Vec<
     Ok(octets)
 }
 
-/// Changes octets at or after a place: one bit or one octet is another, or all after a place are
-/// missing, or there are more of them.
+/// Changes octets at or after a place: a bit or an octet differs, or all octets after a place are
+/// missing, or there are more octets.
 pub(crate) fn change(
     draws: &mut Draws,
     octets: &mut Vec<u8>,

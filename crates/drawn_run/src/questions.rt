@@ -6,10 +6,10 @@ use std::alloc::{AllocError, Global};
 use step_values::Client;
 use suffix_routes::Peer;
 
-/// Types that are asked for; 0, 41, 128 and 255 are not served.
+/// Asked types; 0, 41, 128 and 255 are not served.
 const KINDS: [u16; 16] = [1, 1, 1, 1, 28, 28, 16, 15, 33, 33, 2, 5, 6, 1000, 41, 255];
 
-/// One of a few clients.
+/// A client of a few.
 pub(crate) fn client(draws: &mut Draws) -> Client {
     if draws.one_in(3) {
         return Client::Tcp(u64::from(draws.below(6)));
@@ -41,8 +41,7 @@ fn counts(draws: &mut Draws) -> [u16; 4] {
     }
 }
 
-/// A message of a client with this identifier, which stays as it is if the message is changed on
-/// the way.
+/// A message of a client with this identifier, which no change on the way touches.
 pub(crate) fn question(alloc: Global, draws: &mut Draws, id: u16) -> Result<Vec<u8>, AllocError> {
     let mut octets = Vec::new(alloc);
     put16(&mut octets, id)?;

@@ -7,13 +7,13 @@ use std::alloc::{AllocError, Global};
 /// The type of an alias (RFC 1035 3.3.1).
 const CNAME: u16 = 5;
 
-/// The type of the record that a denial has (RFC 1035 3.3.13).
+/// The type of the record of a denial (RFC 1035 3.3.13).
 const SOA: u16 = 6;
 
 /// The type of a name server (RFC 1035 3.3.11).
 const NS: u16 = 2;
 
-/// TTLs in seconds. One with the top bit set counts as 0 (RFC 2181 8).
+/// TTLs in seconds. A TTL with the top bit set counts as 0 (RFC 2181 8).
 const TTLS: [u32; 8] = [0, 1, 30, 300, 300, 604_800, 0x7fff_ffff, 0x8000_0000];
 
 /// How many aliases a reply begins with.
@@ -25,7 +25,7 @@ const SRV: u16 = 33;
 /// How many records a set has.
 const ROWS: [u32; 16] = [0, 1, 1, 1, 1, 1, 1, 1, 1, 1, 2, 2, 3, 3, 7, 40];
 
-/// How many records a large set has: 400 of type SRV with long names pass what TCP carries.
+/// The number of records of a large set: 400 of type SRV with long names exceed a message over TCP.
 const MANY: [u32; 3] = [255, 400, 400];
 
 /// The places of the counts in the header, by section (RFC 1035 4.1.1).
@@ -35,14 +35,14 @@ const AUTHORITY: usize = 8;
 
 const ADDITIONAL: usize = 10;
 
-/// A reply that is being written.
+/// A reply, half written.
 #[derive(Drop)]
 struct Draft {
     octets: Vec<u8>,
-    /// The type and the class that were asked for.
+    /// The asked type and class.
     kind: u16,
     class: u16,
-    /// The place of the name that the next record has.
+    /// The place of the next record's name.
     owner: u16,
 }
 
@@ -72,7 +72,7 @@ fn flags(draws: &mut Draws) -> u16 {
     mostly & !cleared | draws.pick(&[0x0080, 0x0080, 0])
 }
 
-/// Puts a record of this type last, and counts it.
+/// Puts a record of this type last, and counts the record.
 fn put_record(
     draws: &mut Draws,
     draft: &mut Draft,
@@ -129,7 +129,7 @@ fn data(alloc: Global, draws: &mut Draws, kind: u16, number: u32) -> Result<Vec<
     }
 }
 
-/// The data of an SOA record, whose names are the root. Its MINIMUM is drawn.
+/// The data of an SOA record with the root for both names. Its MINIMUM is drawn.
 fn soa(alloc: Global, draws: &mut Draws) -> Result<Vec<u8>, AllocError> {
     let mut octets = Vec::from_slice(alloc, &[0, 0])?;
     octets.extend_from_slice(&[0, 0, 0, 1, 0, 0, 0, 2, 0, 0, 0, 3, 0, 0, 0, 4])?;
@@ -165,7 +165,7 @@ fn put_denial(alloc: Global, draws: &mut Draws, draft: &mut Draft) -> Result<(),
     put_record(draws, draft, AUTHORITY, SOA, &data)
 }
 
-/// Puts name servers and an address that was not asked for last.
+/// Puts name servers and an unasked address last.
 fn put_others(alloc: Global, draws: &mut Draws, draft: &mut Draft) -> Result<(), AllocError> {
     let number = draws.below(NAMES);
     let server = name(alloc, draws, number)?;

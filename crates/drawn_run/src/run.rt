@@ -11,7 +11,7 @@ use std::alloc::{AllocError, Global};
 use step_values::Handed;
 use suffix_routes::{Config, Limits};
 
-/// The seed of all that is drawn.
+/// The seed of all draws.
 pub(crate) const SEED: u64 = 1;
 
 /// How many events the turn of a configuration has.
@@ -20,7 +20,7 @@ const EVENTS: u32 = 10_000;
 /// How many reasons a reply may have.
 const REASONS: usize = 14;
 
-/// A run: what it draws from, what it judges by, and the number of its last event, from 1.
+/// A run: its draws, its judge, and the number of its last event, from 1.
 #[derive(Drop)]
 pub(crate) struct Run {
     draws: Draws,
@@ -72,7 +72,8 @@ impl Run {
         self.hand(alloc, turn, limits, &mut forwarder)
     }
 
-    /// Hands in the events of a turn. Its last ones are ticks, after which nothing may wait.
+    /// Passes the events of a turn to the forwarder. The last events are ticks, after which nothing
+    /// may wait.
     fn hand(
         &mut self,
         alloc: Global,
@@ -94,8 +95,8 @@ impl Run {
         }
     }
 
-    /// The next event, of which `left` are left. An event may leave two more to do, and a tick
-    /// serves one.
+    /// The next event, with `left` to come. An event may leave two pieces of work, and a tick does
+    /// one.
     fn next(&mut self, alloc: Global, turn: Turn, left: usize) -> Result<Handed, AllocError> {
         let words = words(&mut self.draws, turn);
         let ledger = &self.judge.ledger;

@@ -1,4 +1,4 @@
-//! The messages that a forwarder sends, read back.
+//! The messages of a forwarder, read back.
 
 use crate::ledger::{Ledger, Waiting};
 use crate::octets::number16;
@@ -6,7 +6,7 @@ use dns_message::{Header, MessageRef};
 use std::alloc::Global;
 use step_values::Path;
 
-/// The path and the identifier that the words draw by UDP: the first port without an open query.
+/// The path and the identifier drawn by the words for UDP: the first port without an open query.
 pub(crate) fn drawn_by_udp(words: [u32; 8], ledger: &Ledger) -> Option<(Path, u16)> {
     for word in words {
         let path = Path::Udp((1024 + word / 65_536 % 64_512) as u16);
@@ -17,13 +17,13 @@ pub(crate) fn drawn_by_udp(words: [u32; 8], ledger: &Ledger) -> Option<(Path, u1
     None
 }
 
-/// The path and the identifier that the words draw over TCP: the next connection.
+/// The path and the identifier drawn by the words for TCP: the next connection.
 pub(crate) fn drawn_over_tcp(words: [u32; 8], ledger: &Ledger) -> Option<(Path, u16)> {
     Some((Path::Tcp(ledger.over_tcp), (words[0] % 65_536) as u16))
 }
 
 /// Whether octets are a query with this identifier: RD alone is set, and there is one question,
-/// whose name has no pointer, and nothing else.
+/// with a name without pointers, and nothing else.
 pub(crate) fn is_query(octets: &[u8], id: u16) -> bool {
     let Ok(view) = MessageRef::view(octets) else {
         return false;
@@ -35,8 +35,8 @@ pub(crate) fn is_query(octets: &[u8], id: u16) -> bool {
             == octets.len())
 }
 
-/// Whether octets are a reply to a question, and can be read whole: QR and RA are set, AA and Z are
-/// clear, opcode and RD are those of the question. One without a question is a header alone.
+/// Whether octets are a readable reply to a question: QR and RA are set, AA and Z are clear, opcode
+/// and RD are the question's. A reply without a question is a header alone.
 pub(crate) fn is_reply(alloc: Global, octets: &[u8], question: &Waiting) -> bool {
     if number16(octets, 2) & 0xfdf0 != 0x8080 | question.head[1] & 0x7900 {
         return false;

@@ -1,8 +1,8 @@
-//! The configurations that take turns.
+//! The configurations, in turn.
 
 use std::alloc::{AllocError, Global};
 
-/// The limits of a configuration, its routes, and what is drawn while it holds.
+/// The limits of a configuration, its routes, and the kind of its draws.
 #[derive(Clone, Copy)]
 pub(crate) struct Turn {
     /// `questions`, `inquiries`, `cache`, `tries`, `ask_ms`, `deadline_ms` and `stale_s`.
@@ -10,7 +10,7 @@ pub(crate) struct Turn {
     pub routes: &'static str,
     /// Of 64 events, how many are replies.
     pub replies: u32,
-    /// From how many ports each word draws one.
+    /// The number of ports from which each word draws.
     pub ports: u32,
 }
 
@@ -20,7 +20,7 @@ suffix = "."
 servers = ["192.0.2.1:53", "192.0.2.2:53"]
 "#;
 
-/// Two routes, on which not all names are.
+/// Two routes, which leave some names without a route.
 const NOT_ALL: &str = r#"[[route]]
 suffix = "corp.example"
 servers = ["192.0.2.9:53", "192.0.2.10:53", "192.0.2.11:53"]
@@ -29,7 +29,7 @@ suffix = "test"
 servers = ["192.0.2.1:53"]
 "#;
 
-/// A route for all names, one for some of them, and one that denies its names.
+/// A route for all names, a route for some, and a denying route.
 const DENYING: &str = r#"[[route]]
 suffix = "."
 servers = ["192.0.2.1:53", "192.0.2.2:53", "192.0.2.3:53", "192.0.2.4:53",

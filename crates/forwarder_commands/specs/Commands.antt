@@ -1,4 +1,4 @@
--- The program's commands, and the faults that end them.
+-- The program's commands, and their faults.
 use Rattle.std.specs.Prelude.{◌⊎◌, ℕ, ◌==◌, if◌then◌else◌, List, codes, Option, Some, None}
 use Rattle.std.specs.Prelude.{Ok}
 use Rattle.std.specs.Str.{bytes_eq}

@@ -1,4 +1,4 @@
--- The line that the program prints once it has served.
+-- The line printed after serving.
 use Rattle.std.specs.Prelude.{ℕ, List, ◌++◌, codes}
 use Rattle.std.specs.Fmt.{decimal}
 

@@ -7,11 +7,11 @@ use std::str;
 /// How many octets an argument may have: no path has more.
 pub const LONGEST: usize = 4095;
 
-/// How many arguments are counted: one more than any command has.
+/// The number of arguments counted: one more than any command has.
 const MOST_COUNTED: usize = 4;
 
-/// The argument at this place, in the room that is given; the program's own name is at 0. `TooLong`
-/// where it has more octets than the room.
+/// The argument at this place, in this room; the program's own name is at 0. `TooLong` if the
+/// argument is longer than the room.
 pub fn argument<'a, R: Env>(
     rt: &R,
     place: usize,
@@ -21,7 +21,7 @@ pub fn argument<'a, R: Env>(
     Ok(&room[..count])
 }
 
-/// The argument at this place, where it is there and text.
+/// The argument at this place, if there and text.
 pub fn text<'a, R: Env>(rt: &R, place: usize, room: &'a mut [u8]) -> Option<&'a str> {
     let octets = argument(rt, place, room).ok()?;
     str::from_utf8(octets).ok()

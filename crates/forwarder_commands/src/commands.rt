@@ -45,7 +45,7 @@ pub fn command_of(word: &str, count: usize) -> Option<Command>
     }
 }
 
-/// Does what the arguments say. All of them but the names of files are text.
+/// Does as the arguments say. All but the names of files are text.
 pub fn run<R>(rt: &R) -> Result<(), Fault>
 where
     R: Env + Input + Print + AllocGlobal + Net + Clock + RandomSource,
@@ -60,7 +60,7 @@ where
     }
 }
 
-/// Prints how many routes the configuration has that the second argument names.
+/// Prints the number of routes of the configuration named by the second argument.
 fn check<R: Env + Print + AllocGlobal>(rt: &R) -> Result<(), Fault>
     ensures { IfErr result IsFaultOfCheck }
 {
@@ -69,9 +69,9 @@ fn check<R: Env + Print + AllocGlobal>(rt: &R) -> Result<(), Fault>
     Ok(())
 }
 
-/// The configuration in the file with this name. `Device` where the file can't be read or passes
-/// 16,777,216 octets, `Config` where the configuration is refused, `Memory` where memory ran out.
-/// Where the file can't be read or the configuration is refused, standard output says why.
+/// The configuration in the file with this name. `Device` if the file is unreadable or longer than
+/// 16,777,216 octets, `Config` if the configuration is refused, `Memory` if memory ran out. After
+/// `Device` and `Config`, standard output says why.
 pub fn load<R: Print + AllocGlobal>(rt: &R, name: &[u8]) -> Result<Config, ReplayFault>
     ensures read { IfOk result IsOfOctets }
     ensures refused { IfErr result IsFaultOfFile }
@@ -96,8 +96,8 @@ pub fn load<R: Print + AllocGlobal>(rt: &R, name: &[u8]) -> Result<Config, Repla
     config
 }
 
-/// The configuration in the file that the second argument names, as [`load`]; a name that is too
-/// long for a file is one that can't be read.
+/// The configuration in the file named by the second argument, as [`load`]; a name too long for a
+/// file is unreadable.
 fn named_config<R: Env + Print + AllocGlobal>(rt: &R) -> Result<Config, ReplayFault>
     ensures read { IfOk result IsOfOctets }
     ensures refused { IfErr result IsFaultOfFile }
@@ -112,14 +112,14 @@ fn named_config<R: Env + Print + AllocGlobal>(rt: &R) -> Result<Config, ReplayFa
     }
 }
 
-/// The number of turns that the third argument says; `None` where it says none.
+/// The number of turns in the third argument; `None` for any other text.
 pub fn turns<R: Env>(rt: &R) -> Option<Turns> {
     let mut room = [0u8; MOST_DIGITS];
     Turns::of(text(rt, 3, &mut room)?)
 }
 
-/// Serves as many turns as the third argument says by the configuration that the second one names,
-/// and prints what was counted.
+/// Serves the turns of the third argument by the configuration named by the second, and prints the
+/// counts.
 fn serve<R>(rt: &R) -> Result<(), Fault>
 where
     R: Env + Print + AllocGlobal + Net + Clock + RandomSource,
@@ -130,7 +130,7 @@ where
     serve_config(rt, rt.alloc(), config, turns, &mut io::writer(rt))
 }
 
-/// Replays standard input. What was printed before a fault is written out, too.
+/// Replays standard input. Lines printed before a fault are written out, too.
 fn replay<R: Input + Print + AllocGlobal>(rt: &R) -> Result<(), Fault>
     ensures { IfErr result IsFaultOfReplay }
 {

@@ -1,11 +1,11 @@
-//! The line that the program prints once it has served.
+//! The line printed after serving.
 
 ghost use Rattle.std.specs.Prelude.{◌≡◌};
 
 use serving_loop::Served;
 use std::fmt;
 
-/// The line that the program prints once it has served: `turns T lost L`.
+/// The line printed after serving: `turns T lost L`.
 #[derive(Clone, Copy, Debug, Drop)]
 pub(crate) struct Counted {
     /// How many turns were made.
@@ -15,7 +15,7 @@ pub(crate) struct Counted {
 }
 
 impl Counted {
-    /// Of what was counted, what is printed.
+    /// The printed part of the counts.
     pub(crate) fn of(served: Served) -> Counted
         ensures { (result.turns ≡ served.turns) × (result.lost ≡ served.lost) }
     {

@@ -1,4 +1,4 @@
-//! The faults that end the program.
+//! The faults at which the program ends.
 
 ghost use Rattle.std.specs.Prelude.{◌≡◌};
 ghost use Rattle.std.specs.IoError.{error_kind};
@@ -13,7 +13,7 @@ use thiserror::Error;
 /// Why the program stops.
 #[derive(Clone, Copy, PartialEq, Eq, Debug, Error)]
 pub enum Fault {
-    /// The arguments are none that it takes.
+    /// The arguments are of no command.
     #[error("usage: forwarder check FILE, replay, or serve FILE TURNS")]
     Usage,
     /// The command stopped.

@@ -9,7 +9,7 @@ use std::io;
 use std::io::{ErrorKind, Read};
 use std::os::fd::{AsRawFd, OwnedFd};
 
-/// A file that is read. Its name is octets, which need not be text.
+/// A file for reading. Its name is octets, which need not be text.
 #[derive(Drop)]
 pub(crate) struct Opened {
     descriptor: OwnedFd,
@@ -32,7 +32,7 @@ impl Opened {
         })
     }
 
-    /// The system's reason why the last reading failed; `None` where it gave none.
+    /// The system's reason why the last reading failed; `None` if it gave none.
     pub(crate) fn failure(&self) -> Option<io::Error> {
         self.failed.map(io::Error::from_raw_os_error)
     }

@@ -6,11 +6,11 @@ use suffix_routes::{ConfigFault, Excerpt, Place};
 use toml::de::Error;
 use toml::{Table, Value};
 
-/// The key that each configuration has at its top.
+/// The key at the top of each configuration.
 const VERSION: &str = "version";
 
-/// The fault, and after it what may be mended: why the reader of TOML stopped, where `version` is
-/// instead, or a hint. Out of memory, the text is not read again, and the fault is said alone.
+/// The fault, and then what to mend: why the reader of TOML stopped, where `version` is instead, or
+/// a hint. Out of memory, the text is not read again, and only the fault is printed.
 pub(crate) fn say_refused<R: Print + AllocGlobal>(rt: &R, octets: &[u8], fault: &ConfigFault) {
     match fault {
         ConfigFault::Toml(_) => match toml::table_from_slice(rt.alloc(), octets) {
@@ -30,7 +30,7 @@ pub(crate) fn say_refused<R: Print + AllocGlobal>(rt: &R, octets: &[u8], fault: 
     }
 }
 
-/// That the text is no TOML, why its reader stopped, and a hint.
+/// Prints that the text is no TOML, why the reader stopped, and a hint.
 fn say_not_toml<R: Print>(rt: &R, octets: &[u8], fault: &ConfigFault, error: &Error) {
     let hint = match error.span() {
         Some(span) => hint_for_text(octets, span.start),
@@ -42,8 +42,8 @@ fn say_not_toml<R: Print>(rt: &R, octets: &[u8], fault: &ConfigFault, error: &Er
     }
 }
 
-/// That `version` is missing, and which key of the document may be meant, or below which key there
-/// is one.
+/// Prints that `version` is missing, and which key of the document may be meant, or below which key
+/// there is a `version`.
 fn say_elsewhere<R: Print>(rt: &R, fault: &ConfigFault, document: &Table) {
     for key in document.keys() {
         if let Some(hint) = hint_for_key(key.as_bytes(), "`version`") {

@@ -1,4 +1,4 @@
-//! Says on standard output what stopped a command. If that fails too, only the status says so.
+//! Says on standard output why a command stopped. If this fails too, only the status says so.
 
 ghost use Rattle.std.specs.Prelude.{◌≡◌};
 ghost use Rattle.std.specs.IoError.{error_kind};
@@ -11,12 +11,12 @@ use std::io::ErrorKind;
 use std::{io, str};
 use suffix_routes::Peer;
 
-/// A line that a person reads.
+/// A line for a person.
 pub(crate) fn say<R: Print, T: Display>(rt: &R, line: &T) {
     let _ = println!(rt; "{line}");
 }
 
-/// Prints what failed, and the reason.
+/// Prints the failed thing, and the reason.
 pub(crate) fn say_of<R: Print, T: Display, U: Display>(rt: &R, what: &T, reason: &U) {
     let _ = println!(rt; "{what}: {reason}");
 }
@@ -30,12 +30,12 @@ fn say_of_file<R: Print, T: Display>(rt: &R, name: &[u8], reason: &T) {
     }
 }
 
-/// Whether memory ran out, of which nothing is said.
+/// Whether memory ran out, about which nothing is printed.
 fn is_want_of_memory(error: &io::Error) -> bool {
     error.kind() == ErrorKind::OutOfMemory
 }
 
-/// The fault of a file that the system doesn't open.
+/// The fault of a file that the system does not open.
 pub(crate) fn unopened<R: Print>(rt: &R, name: &[u8], error: io::Error) -> ReplayFault
     ensures { result ≡ device_fault (error_kind error) }
 {
@@ -45,7 +45,7 @@ pub(crate) fn unopened<R: Print>(rt: &R, name: &[u8], error: io::Error) -> Repla
     ReplayFault::from(error)
 }
 
-/// Why a file that was opened gave no octets: the system's reason, or that it has too many.
+/// Why an opened file gave no octets: the system's reason, or too many octets.
 pub(crate) fn say_unread<R: Print>(rt: &R, name: &[u8], file: &Opened) {
     match file.failure() {
         Some(error) => say_of_file(rt, name, &error),
@@ -53,7 +53,7 @@ pub(crate) fn say_unread<R: Print>(rt: &R, name: &[u8], file: &Opened) {
     }
 }
 
-/// The fault of an address that can't be listened at.
+/// The fault of an address without a listener.
 pub(crate) fn unlistened<R: Print>(rt: &R, listen: Peer, error: io::Error) -> ReplayFault
     ensures { result ≡ device_fault (error_kind error) }
 {

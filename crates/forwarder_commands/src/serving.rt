@@ -25,9 +25,8 @@ use std::rt::Clock;
 use suffix_routes::Config;
 use wires::Wire;
 
-/// A wire that listens at the address of the configuration, made with its limits. `Device` where
-/// the address can't be listened at, which standard output says with the system's reason; `Memory`
-/// where memory ran out.
+/// A wire that listens at the address of the configuration, with its limits. `Device` if the system
+/// refuses the address, with the system's reason on standard output; `Memory` if memory ran out.
 fn wire_of<'a, R: Print + Net + Clock + RandomSource, A: Allocator + Copy>(
     rt: &'a R,
     alloc: A,
@@ -107,9 +106,8 @@ fn serve_as_one<R: Net + Clock, A: Allocator + Copy, T: Write>(
 }
 
 /// Serves as many turns as were asked for by the configuration, at its address, under its limits,
-/// and writes a line with the counts. `Device` where the address can't be listened at, which
-/// standard output says with the system's reason, or the writer fails; `Memory` where memory ran
-/// out.
+/// and writes a line with the counts. `Device` if the address can't be listened at, which standard
+/// output says with the system's reason, or the writer fails; `Memory` if memory ran out.
 pub fn serve_config<R, A, T>(
     rt: &R,
     alloc: A,

@@ -8,8 +8,8 @@ use Rattle.step_actions.specs.declared.decision.Change.{Change}
 use Rattle.step_actions.specs.declared.decision.Change.TheVariants.{Nothing}
 use Rattle.step_actions.specs.Decision.{FitsChange, changed}
 
--- The forwarder acted on an event: what was done is the event's row of the table. Where memory ran
--- out nothing changed, and it never runs out for what takes no memory.
+-- The forwarder acted on an event by the event's row of the table. If memory ran out nothing
+-- changed; events without allocations never run out of memory.
 pub record Acts (before : Running) (handed : Handed) (result : Result Outcome AllocError)
     (after : Running) : Type 0 where
   pub row : IfOk result (λ outcome. Row before.config before.state handed outcome after.state)
@@ -18,13 +18,13 @@ pub record Acts (before : Running) (handed : Handed) (result : Result Outcome Al
       → IsOk result
   pub err : OnErr result (after ≡ before)
 
--- The forwarder is no later than the moment, which may be, and the change fits it.
+-- The forwarder is no later than the moment, which is allowed, and the change fits.
 pub record CanApply {A : Type 0} (before : Running) (moment : ℕ) (change : Change A) : Type 0 where
   pub later : before.state.moment ≤ moment
   pub in_time : moment ≤ 2 ^ 62
   pub fits : FitsChange before.config moment before.state change
 
--- The change is in place. Where memory ran out nothing changed, and a change of no list takes none.
+-- The change is in place. If memory ran out nothing changed; a change of no list needs no memory.
 pub record Applies {A : Type 0} (before : Running) (moment : ℕ) (change : Change A)
     (result : Result (Unit {0}) AllocError) (after : Running) : Type 0 where
   pub ok : OnOk result (after.state ≡ changed moment before.state change)

@@ -13,8 +13,8 @@ use std::hash::BuildHasher;
 use step_actions::{Decision, TurnRef};
 use step_values::Event;
 
-/// The decision on an event; `None` where it is a restart. The slot, whatever it was, serves a
-/// look-up, and the decision may borrow it. `Err` where memory ran out.
+/// The decision on an event; `None` for a restart. The slot may be any: it serves a look-up, and
+/// the decision may borrow it.
 pub(crate) fn decide<'a, 's, H: BuildHasher + Drop, A: Allocator + Copy>(
     turn: &TurnRef<'a, H, A>,
     slot: &'s mut LookUpSlot,

@@ -1,6 +1,5 @@
 //! The decisions of the forwarder, one step at a time. A step takes a moment, random words and an
-//! event, and returns what is to be done. It reads no clock, opens no socket and draws nothing at
-//! random.
+//! event, and returns actions. It reads no clock, opens no socket and draws nothing at random.
 #![tactic(auto)]
 
 mod deciding;

@@ -1,5 +1,4 @@
-//! Changes of a forwarder's lists: the asks that are under way and the questions that wait, up to
-//! forgetting all.
+//! Changes of a forwarder's lists: the open asks and the waiting questions, up to forgetting all.
 
 ghost use Rattle.std.specs.Prelude.{◌≡◌, ◌<◌, ◌∷◌, ◌++◌, [], length, IsSome, OnOk, OnErr};
 ghost use Rattle.std.specs.Option.{IfSome};
@@ -13,7 +12,7 @@ use std::alloc::{AllocError, Allocator};
 use std::hash::BuildHasher;
 use waiting_questions::{SentOn, WaitingQuestions};
 
-/// Lists an ask for which there is room. `Err` where memory ran out: nothing has changed.
+/// Lists an ask for which there is room.
 pub fn list_ask<A: Allocator>(
     inquiries: &mut Inquiries<A>,
     ask: KeyedAsk<A>,
@@ -31,7 +30,7 @@ pub fn list_ask<A: Allocator>(
     }
 }
 
-/// Closes the ask on the path; those that waited for it wait no more.
+/// Closes the ask on the path; the questions waiting for it wait no more.
 pub fn close_inquiry<A: Allocator>(
     inquiries: &mut Inquiries<A>,
     waiting: &mut WaitingQuestions<A>,
@@ -67,8 +66,8 @@ fn end_or_replace<A: Allocator>(
     }
 }
 
-/// Closes the ask on the path, and lists the next one, if any. Those that waited for it wait no
-/// more, or wait on with what they are sent on with.
+/// Closes the ask on the path, and lists the next, if any. The questions waiting for it wait no
+/// more, or wait on as redirected.
 pub fn send_on<A: Allocator>(
     inquiries: &mut Inquiries<A>,
     waiting: &mut WaitingQuestions<A>,
@@ -99,7 +98,7 @@ pub fn end_closed<A: Allocator>(inquiries: &mut Inquiries<A>, closed: Option<Pat
     }
 }
 
-/// Forgets all entries, asks and waiting questions. It does not allocate.
+/// Forgets all entries, asks and waiting questions.
 pub fn forget_all<H: BuildHasher + Drop, A: Allocator + Copy>(
     cache: &mut Cache<H, A>,
     inquiries: &mut Inquiries<A>,

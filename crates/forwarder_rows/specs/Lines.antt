@@ -1,7 +1,7 @@
 -- Lines of texts.
 use Rattle.std.specs.Prelude.{ℕ, ◌+◌, List, [], ◌∷◌, ◌==◌, if◌then◌else◌}
 
--- the number of line feeds before the first octet in which two texts differ
+-- the number of line feeds before the first difference of two texts
 abbrev pub line_feeds_before : List ℕ → List ℕ → ℕ
 line_feeds_before [] given = 0
 line_feeds_before (a ∷ wanted) [] = 0

@@ -1,4 +1,4 @@
-//! Steps with the beginnings of a message in its place.
+//! Steps with the beginnings of a message in the message's place.
 
 ghost use Rattle.std.specs.Prelude.{◌≤◌};
 
@@ -9,13 +9,13 @@ use replay_script::{MOST_LINES, ReplayFault};
 use std::alloc::AllocError;
 use std::io::Write;
 
-/// The octets of a message's header, the least that it has (RFC 1035 4.1.1).
+/// The octets of a message's header, the least of a message (RFC 1035 4.1.1).
 const LEAST: usize = 12;
 
 /// Makes a step with each beginning of a line's message, from no octets on, on a forwarder that has
-/// run the lines before. Prints a line for each beginning that is too short for a header and has
-/// actions. After each one that has actions the forwarder runs those lines again. With ample memory
-/// none is refused.
+/// run the lines before. Prints a line for each beginning shorter than a header if the step has
+/// actions. After a step with actions the forwarder runs the lines before again. With ample memory
+/// no step is refused.
 pub(crate) fn tell_beginnings<W: Write>(
     script: Script<'_, '_>,
     number: u32,
@@ -51,7 +51,7 @@ fn hand_beginnings<'a, W: Write>(
     Ok(())
 }
 
-/// The octets that an event carries.
+/// The octets of an event.
 pub(crate) fn octets_of<'e>(event: &'e Event<Heap<'_>>) -> &'e [u8] {
     match event {
         Event::Client { bytes, .. } | Event::Delivery { bytes, .. } => bytes.as_slice(),
@@ -59,7 +59,7 @@ pub(crate) fn octets_of<'e>(event: &'e Event<Heap<'_>>) -> &'e [u8] {
     }
 }
 
-/// Makes a step with the first `end` octets of a message. True where it has no action.
+/// Makes a step with the first `end` octets of a message. True if the step has no action.
 fn is_idle_at<'a>(
     heap: Heap<'a>,
     forwarder: &mut Runner<'a>,
@@ -71,7 +71,7 @@ fn is_idle_at<'a>(
     Ok(outcome.actions.is_empty())
 }
 
-/// A copy of an event with its first `end` octets alone.
+/// A copy of an event with the first `end` octets alone.
 fn cut_to<'a>(
     heap: Heap<'a>,
     event: &Event<Heap<'a>>,

@@ -3,7 +3,7 @@
 ghost use Rattle.std.specs.Prelude.{◌≡◌, ◌↔◌, IsNone, IfSome};
 ghost use Rattle.forwarder_rows.specs.Lines.{line_feeds_before};
 
-/// The first line, counted from 0, in which the texts differ; `None` where they are equal.
+/// The first different line of the texts, from 0; `None` if they are equal.
 pub fn differing_line(expected: &[u8], printed: &[u8]) -> Option<usize>
     ensures equal { IsNone result ↔ (expected.now ≡ printed.now) }
     ensures line { IfSome result (λ line. line ≡ line_feeds_before expected.now printed.now) }

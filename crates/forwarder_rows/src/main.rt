@@ -1,4 +1,4 @@
-//! Runs each worked row of a folder, and prints each difference from its expected lines.
+//! Runs each worked row of a folder, and prints each difference from the expected lines.
 #![tactic(auto)]
 
 mod beginnings;
@@ -33,7 +33,7 @@ fn main(rt: HostRuntime) -> ExitCode {
     }
 }
 
-/// Runs the rows of the folder that the only argument names; `None` where there are other
+/// Runs the rows of the folder named by the only argument; `None` for any other number of
 /// arguments.
 fn run<R: Env + Files + Print + AllocGlobal + Clone + Drop>(rt: &R) -> io::Result<Option<Tally>> {
     let mut args = env::args(rt)?.skip(1);

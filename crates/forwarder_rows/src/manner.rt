@@ -12,11 +12,11 @@ use std::{fs, io};
 /// How the file of a row is run.
 #[derive(Clone, Copy)]
 pub(crate) enum Manner {
-    /// It is a script, which is replayed.
+    /// A script, replayed.
     Plain,
-    /// It is a script, whose lines are run one by one in this way.
+    /// A script, with its lines run one by one in this way.
     Stepped(Way),
-    /// It is a configuration, which is checked.
+    /// A configuration, checked.
     Check,
 }
 
@@ -42,9 +42,9 @@ impl Manner {
 /// The output of the program for a row.
 #[derive(Drop)]
 pub(crate) struct Told {
-    /// The lines that it prints.
+    /// The printed lines.
     pub stdout: Vec<u8>,
-    /// The line with its fault, or nothing.
+    /// The line with the fault, or nothing.
     pub stderr: String,
 }
 
@@ -70,7 +70,7 @@ pub(crate) fn told_by<R: Files + AllocGlobal>(
     Ok(Told { stdout, stderr })
 }
 
-/// Prints how many routes the configuration has that the reader gives.
+/// Prints the number of routes of the reader's configuration.
 fn check<R: Read, W: Write>(
     alloc: Global,
     reader: &mut R,

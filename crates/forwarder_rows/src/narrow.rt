@@ -1,5 +1,5 @@
-//! Steps that get no large block of memory: a body that takes one for each question, or that says
-//! without a cause that memory ran out, prints something else.
+//! Steps without large blocks of memory: a body with a large block for each question, or with a
+//! groundless report of no memory, prints different lines.
 
 ghost use Rattle.std.specs.Prelude.{◌≤◌};
 
@@ -9,10 +9,10 @@ use forwarder_core::{Handed, Outcome};
 use replay_script::{MOST_LINES, ReplayFault};
 use std::io::Write;
 
-/// The most octets of a block beyond those of the event.
+/// The most octets of a block in addition to the event's octets.
 const SPARE: usize = 2048;
 
-/// Rows in which five questions wait: their list then has room for eight.
+/// Rows with five waiting questions: their list then has room for eight.
 const FIVE_WAIT: [&str; 8] = [
     "a_set_or_no_data_takes_a_denial_back",
     "as_many_inquiries_as_may_be_open",
@@ -24,7 +24,7 @@ const FIVE_WAIT: [&str; 8] = [
     "types_and_classes_served",
 ];
 
-/// Rows in which a look-up uses five entries of the cache: the list of their slots then has room
+/// Rows with a look-up that uses five entries of the cache: the list of their slots then has room
 /// for eight.
 const FIVE_ENTRIES: [&str; 11] = [
     "a_later_alias_leads_to_itself",
@@ -40,7 +40,7 @@ const FIVE_ENTRIES: [&str; 11] = [
     "up_to_eight_aliases_and_a_set_are_answered_and_kept",
 ];
 
-/// Rows with a reply of many records: their list and the text of the answer are larger than it.
+/// Rows with a reply of many records: their list and the answer's text are larger than the reply.
 const MANY_RECORDS: [&str; 4] = [
     "a_set_is_too_large_over_tcp",
     "a_set_of_255_records_is_sent_over_tcp",
@@ -60,13 +60,13 @@ pub(crate) fn is_wide(row: &str) -> bool {
     }
 }
 
-/// Whether a name is one of these.
+/// Whether `names` has this name.
 fn is_among(names: &[&str], name: &str) -> bool {
     names.iter().any(|other| *other == name)
 }
 
-/// Runs one line with no block of more than [`SPARE`] octets beyond those of its event, and prints
-/// its actions.
+/// Runs one line without blocks of more than [`SPARE`] octets in addition to the event's, and
+/// prints its actions.
 pub(crate) fn run_narrow<'a, W: Write>(
     script: Script<'a, '_>,
     forwarder: &mut Runner<'a>,
@@ -82,7 +82,7 @@ pub(crate) fn run_narrow<'a, W: Write>(
     Ok(())
 }
 
-/// What is printed of a step with no large block.
+/// The printed lines of a step without large blocks.
 fn narrow_lines<'a>(
     script: Script<'a, '_>,
     forwarder: &mut Runner<'a>,
@@ -96,7 +96,7 @@ fn narrow_lines<'a>(
     told_of(script, number, &outcome?)
 }
 
-/// The lines that a row has of an outcome, and one more if a piece was not kept.
+/// The lines of an outcome in a row, and one more if a piece was not kept.
 fn told_of<'a>(
     script: Script<'a, '_>,
     number: u32,

@@ -10,14 +10,14 @@ use replay_script::{MOST_LINES, ReplayFault};
 use std::alloc::Global;
 use std::io::Write;
 
-/// The most lines of a script in which a restart is tried after each line.
+/// The most lines of a script with restarts tried after each line.
 const MOST_RESTARTED: u32 = 64;
 
-/// The most lines of a script in which the beginnings of its messages are tried.
+/// The most lines of a script with the beginnings of its messages tried.
 const MOST_CUT: u32 = 16;
 
-/// Runs a script in this way. Prints its actions, as with ample memory, what the way reports of
-/// each line, and one more line for each fault that a probe finds.
+/// Runs a script in this way. Prints its actions, as with ample memory, the way's report of each
+/// line, and one more line for each fault found by a probe.
 pub(crate) fn run_stepped<W: Write>(
     alloc: Global,
     text: &[u8],
@@ -44,7 +44,7 @@ fn run_within<W: Write>(
     run_lines(script, &mut forwarder, writer)
 }
 
-/// Runs the lines of a script one after another.
+/// Runs the lines of a script in order.
 fn run_lines<'a, W: Write>(
     script: Script<'a, '_>,
     forwarder: &mut Runner<'a>,

@@ -1,4 +1,4 @@
-//! A restart after a line of a script: it has no action, and nothing of the state before is left.
+//! A restart after a line of a script: no action, and nothing left of the state before.
 
 ghost use Rattle.std.specs.Prelude.{◌≤◌};
 
@@ -8,8 +8,8 @@ use network_model::run_list;
 use replay_script::{MOST_LINES, ReplayFault};
 use std::io::Write;
 
-/// Prints a line where a restart after line `number` has an action, or where the steps after it
-/// differ from a run over the lines after it alone.
+/// Prints a line if a restart after line `number` has an action, or if the later steps differ from
+/// a run over the later lines alone.
 pub(crate) fn tell_restart<W: Write>(
     script: Script<'_, '_>,
     number: u32,
@@ -22,8 +22,8 @@ pub(crate) fn tell_restart<W: Write>(
     tell_rest(script, number, &mut forwarder, writer)
 }
 
-/// Restarts a forwarder at the last moment, which must not count. Prints a line where the step has
-/// an action, does not keep a piece, or leaves more due.
+/// Restarts a forwarder at the last moment, which must not count. Prints a line if the step has an
+/// action, loses a piece, or leaves more due.
 fn tell_deed<W: Write>(
     forwarder: &mut Runner<'_>,
     number: u32,
@@ -37,8 +37,8 @@ fn tell_deed<W: Write>(
     Ok(())
 }
 
-/// Prints a line where a restarted forwarder does something else after line `number` than a run
-/// over the lines after it alone.
+/// Prints a line if a restarted forwarder differs after line `number` from a run over the later
+/// lines alone.
 fn tell_rest<'a, W: Write>(
     script: Script<'a, '_>,
     number: u32,
@@ -75,8 +75,7 @@ fn told_of_steps<'a>(
     Ok(told)
 }
 
-/// The outcomes, as text, of a forwarder at the lines after line `number`. A line that is refused
-/// ends them.
+/// The outcomes, as text, of a forwarder at the lines after line `number`, up to a refused line.
 fn told_behind<'a>(
     script: Script<'a, '_>,
     number: u32,
@@ -124,7 +123,7 @@ fn run_behind<'a>(
     Ok(run_list(script.heap, &config, &handed)?)
 }
 
-/// The inputs of the lines after line `number`. A line that is refused ends them.
+/// The inputs of the lines after line `number`, up to a refused line.
 fn handed_behind<'a>(
     script: Script<'a, '_>,
     number: u32,
@@ -148,8 +147,7 @@ fn handed_behind<'a>(
     Ok(handed)
 }
 
-/// An outcome as text: the lines that it prints, how many pieces were not kept, and whether more is
-/// due.
+/// An outcome as text: its printed lines, the number of pieces not kept, and whether more is due.
 fn told_of<'a>(
     script: Script<'a, '_>,
     number: u32,

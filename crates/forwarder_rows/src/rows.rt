@@ -13,18 +13,18 @@ use std::{fs, io};
 enum Kind {
     /// A script.
     Replay,
-    /// A script whose lines have the same words.
+    /// A script with equal words for all lines.
     Steps,
-    /// A script whose lines have the same words, and whose refused allocations are counted.
+    /// A script with equal words for all lines, and with counts of refused allocations.
     Counted,
-    /// A long script, which is not probed.
+    /// A long script, without probes.
     Long,
     /// A configuration.
     Check,
 }
 
 impl Kind {
-    /// The folder that has the rows of this kind.
+    /// The folder of the rows of this kind.
     fn folder(self) -> &'static str {
         match self {
             Kind::Replay => "replay",
@@ -35,7 +35,7 @@ impl Kind {
         }
     }
 
-    /// The manners in which each row of this kind is run; its output has to be the same each time.
+    /// The manners in which each row of this kind is run; its output has to be equal each time.
     fn manners(self) -> &'static [Manner] {
         match self {
             Kind::Replay => &[
@@ -56,7 +56,7 @@ impl Kind {
 struct Folder<'f> {
     kind: Kind,
     path: &'f str,
-    /// The names of its files.
+    /// The names of the folder's files.
     names: &'f [String],
 }
 
@@ -84,8 +84,7 @@ pub(crate) fn run_all<R: Files + Print + AllocGlobal + Clone + Drop>(
     Ok(tally)
 }
 
-/// Runs the rows of one kind. A folder without rows and a file that belongs to no row count as
-/// differences.
+/// Runs the rows of one kind. A folder without rows and a file without a row count as differences.
 fn run_folder<R: Files + Print + AllocGlobal + Clone + Drop>(
     rt: &R,
     kind: Kind,
@@ -106,7 +105,7 @@ fn run_folder<R: Files + Print + AllocGlobal + Clone + Drop>(
     Ok(())
 }
 
-/// Runs the row that a file of a folder with these names is, if it is one.
+/// Runs the row of a file in a folder with these names, if the file is a row.
 fn run_file<R: Files + Print + AllocGlobal>(
     rt: &R,
     folder: Folder<'_>,
@@ -128,8 +127,8 @@ fn run_file<R: Files + Print + AllocGlobal>(
     }
 }
 
-/// Runs one row in each manner, and prints where its output differs from its files. Without a file
-/// `NAME.stderr` it has to end well.
+/// Runs a row in each manner, and prints the differences from its files. Without a file
+/// `NAME.stderr` the row has to end well.
 fn run_row<R: Files + Print + AllocGlobal>(
     rt: &R,
     folder: Folder<'_>,
@@ -150,7 +149,7 @@ fn run_row<R: Files + Print + AllocGlobal>(
     Ok(())
 }
 
-/// Runs one row in one manner, and prints where its output differs from its files.
+/// Runs a row in one manner, and prints the differences from its files.
 fn is_as_expected<R: Files + Print + AllocGlobal>(
     rt: &R,
     manner: Manner,
@@ -163,7 +162,7 @@ fn is_as_expected<R: Files + Print + AllocGlobal>(
     Ok(prints && ends)
 }
 
-/// Whether a row prints what its file `NAME.stdout` has, which has to be there.
+/// Whether a row prints the text of its file `NAME.stdout`, which has to be there.
 fn prints_as_expected<R: Files + Print + AllocGlobal>(
     rt: &R,
     manner: Manner,
@@ -179,7 +178,7 @@ fn prints_as_expected<R: Files + Print + AllocGlobal>(
     is_told(rt, manner, path.as_str(), &expected, text)
 }
 
-/// Whether a row ends as its file `NAME.stderr` says, or well without such a file.
+/// Whether a row ends with the text of its file `NAME.stderr`, or well without such a file.
 fn ends_as_expected<R: Files + Print + AllocGlobal>(
     rt: &R,
     manner: Manner,
@@ -193,7 +192,7 @@ fn ends_as_expected<R: Files + Print + AllocGlobal>(
     is_told(rt, manner, path.as_str(), &expected, text)
 }
 
-/// The octets of a file with expected output; `None` where it is not among the folder's names.
+/// The octets of a file with expected output; `None` if the folder does not have the file.
 fn expected_in<R: Files + AllocGlobal>(
     rt: &R,
     path: &str,
@@ -205,7 +204,7 @@ fn expected_in<R: Files + AllocGlobal>(
     }
 }
 
-/// Whether a text is the expected one; where it is not, prints the first line that differs.
+/// Whether a text is the expected text; otherwise prints the first different line.
 fn is_told(
     rt: &impl Print,
     manner: Manner,
@@ -226,8 +225,8 @@ fn is_told(
     Ok(false)
 }
 
-/// The line of a text at a place counted from 0, with its line feed; empty where there is none, and
-/// `no text` where its octets are no UTF-8.
+/// The line of a text at a place from 0, with its line feed; empty after the last, and `no text` if
+/// the octets are not UTF-8.
 fn line_at(text: &[u8], place: usize) -> &str {
     let mut lines = text.split_inclusive(|octet| *octet == b'\n');
     lines

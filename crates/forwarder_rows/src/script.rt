@@ -1,4 +1,4 @@
-//! A script, and forwarders that run its lines with memory that can be refused.
+//! A script, and forwarders that run its lines with refusable memory.
 
 ghost use Rattle.std.specs.Prelude.{◌≤◌};
 
@@ -10,36 +10,36 @@ use std::alloc::Global;
 use std::io::Write;
 use suffix_routes::Config;
 
-/// Memory that can be refused.
+/// Refusable memory.
 pub(crate) type Heap<'a> = &'a Refusing<Global>;
 
 /// A forwarder whose memory can be refused.
 pub(crate) type Runner<'a> = Forwarder<DefaultHasher, Heap<'a>>;
 
-/// The words of a script's first line: identifier 8 and port 1032 by the first word, and by each
-/// further one the next identifier and the next port.
+/// The words of a script's first line: identifier 8 and port 1032 by the first word, and the next
+/// identifier and port by each further word.
 const FIRST_WORDS: [u32; 8] = [
     524_296, 589_833, 655_370, 720_907, 786_444, 851_981, 917_518, 983_055,
 ];
 
-/// How the lines of a script are run. All but `Narrow` probe them: each allocation of each step is
-/// refused in turn. If the script is short, a restart is tried after each line, and the beginnings
-/// of each message in its place.
+/// The way of running a script's lines. All but `Narrow` probe them: each allocation of each step
+/// is refused in turn. In a short script, a restart is tried after each line, and the beginnings of
+/// each message in the message's place.
 #[derive(Clone, Copy, PartialEq, Eq)]
 pub(crate) enum Way {
-    /// Each has the words of its number.
+    /// Each line has the words of its number.
     OwnWords,
-    /// Each has the words of the first one, and each after which more is due is reported.
+    /// Each line has the words of the first, and each line that leaves more due is reported.
     SameWords,
-    /// Each has the words of the first one, and each after which more is due is reported. The
-    /// refused allocations of each are counted.
+    /// Each line has the words of the first, and each line that leaves more due is reported. The
+    /// refused allocations of each line are counted.
     Counted,
-    /// Each has the words of its number, and no large block of memory.
+    /// Each line has the words of its number, and no large block of memory.
     Narrow,
 }
 
 impl Way {
-    /// The words of each line, where all have the first one's.
+    /// The words of each line, if all have the first line's.
     fn words(self) -> Option<[u32; 8]> {
         match self {
             Way::OwnWords | Way::Narrow => None,
@@ -48,24 +48,24 @@ impl Way {
     }
 }
 
-/// A script, the memory that its run takes, and how its lines are run.
+/// A script, the memory of its run, and the way of running its lines.
 #[derive(Clone, Copy)]
 pub(crate) struct Script<'a, 's> {
-    /// The memory of what is printed.
+    /// The memory of the printed text.
     pub alloc: Global,
     /// The memory of the forwarders and their inputs.
     pub heap: Heap<'a>,
-    /// Its configuration.
+    /// The configuration.
     pub config: &'s [u8],
-    /// Its event lines, without the line feed that ends the last one.
+    /// The event lines, without the line feed at the end of the last.
     pub events: &'s [u8],
     /// How many event lines there are.
     pub count: u32,
-    /// How its lines are run.
+    /// The way of running the lines.
     pub way: Way,
 }
 
-/// A script's parts, with the memory of its run; `Line(0)` where it has no line `---`.
+/// A script's parts, with the memory of its run; `Line(0)` without a line `---`.
 pub(crate) fn script_in<'a, 's>(
     alloc: Global,
     heap: Heap<'a>,
@@ -89,7 +89,7 @@ pub(crate) fn script_in<'a, 's>(
     })
 }
 
-/// The number of lines, which are parted by line feeds; an empty text is one line.
+/// The number of lines, parted by line feeds; an empty text is one line.
 fn count_lines(lines: &[u8]) -> u32 {
     let mut count = 0u32;
     for _line in lines.split(|octet| *octet == b'\n') {
@@ -119,8 +119,7 @@ pub(crate) fn run_first<'a>(script: Script<'a, '_>, count: u32) -> Result<Runner
     Ok(forwarder)
 }
 
-/// Runs the first `count` lines of a script, with ample memory, on a forwarder that forgets all
-/// before.
+/// Runs the first `count` lines of a script, with ample memory, on this forwarder after a restart.
 pub(crate) fn run_again<'a>(
     script: Script<'a, '_>,
     count: u32,
@@ -153,7 +152,7 @@ pub(crate) fn handed_in<'a>(
     Ok(handed)
 }
 
-/// The lines that a row has of an outcome.
+/// The lines of an outcome in a row.
 pub(crate) fn lines_of<'a>(
     script: Script<'a, '_>,
     number: u32,

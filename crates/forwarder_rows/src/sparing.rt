@@ -1,4 +1,4 @@
-//! Steps whose allocations are refused in turn, and which are then made again with memory.
+//! Steps with each allocation refused in turn, made again with memory afterwards.
 
 ghost use Rattle.std.specs.Prelude.{◌≤◌};
 
@@ -20,17 +20,17 @@ struct Trial<'t, 'a, 's> {
     handed: &'t Handed<Heap<'a>>,
 }
 
-/// The allocations of a step that are refused.
+/// The refused allocations of a step.
 #[derive(Clone, Copy)]
 enum Refused {
-    /// The one after this many, alone.
+    /// The allocation after this many, alone.
     One(u64),
-    /// Each one after this many.
+    /// All allocations after this many.
     Rest(u64),
 }
 
 impl Refused {
-    /// Makes the memory refuse those allocations from now on.
+    /// Begins these refusals.
     fn begin(self, heap: Heap<'_>) {
         match self {
             Refused::One(granted) => heap.refuse_one(granted),
@@ -38,8 +38,9 @@ impl Refused {
         }
     }
 
-    /// Ends the refusals of `begin`. Returns true where the one allocation is still to be refused:
-    /// of one more than were granted one is. For `Rest` this can't be seen, and false is returned.
+    /// Ends the refusals of `begin`. Returns true if the single refusal is still to come: of one
+    /// allocation more than granted, one is refused. For `Rest` this is not visible, and false is
+    /// returned.
     fn end(self, heap: Heap<'_>) -> bool {
         let probes = match self {
             Refused::One(granted) => granted.saturating_add(1),
@@ -57,25 +58,25 @@ impl Refused {
 /// How a step ended whose allocations were to be refused.
 #[derive(Clone, Copy, PartialEq, Eq)]
 enum End {
-    /// It was made, with no more allocations than were granted.
+    /// The step was made, with the granted allocations alone.
     Spared,
-    /// It was made, although one was refused.
+    /// The step was made in spite of a refused allocation.
     Borne,
-    /// It was refused, and made again with ample memory.
+    /// The step was refused, and made again with ample memory.
     Again,
 }
 
 /// The steps with allocations refused, counted.
 #[derive(Clone, Copy, Default, PartialEq, Eq)]
 struct Counts {
-    /// Those that were refused.
+    /// Refused steps.
     refused: u32,
-    /// Those that left a piece unkept.
+    /// Steps that left a piece unkept.
     unkept: u32,
 }
 
 impl Counts {
-    /// Counts a step that left this many pieces unkept, or that was refused, where it left none.
+    /// Counts a step with this many unkept pieces; a step with none was refused.
     fn count(&mut self, unkept: u32) {
         if unkept > 0 {
             self.unkept = self.unkept.saturating_add(1);
@@ -85,21 +86,21 @@ impl Counts {
     }
 }
 
-/// A step that was made.
+/// A step, made.
 #[derive(Drop)]
 struct Made {
     end: End,
-    /// It had no action.
+    /// Whether the step has no action.
     is_idle: bool,
-    /// Its lines in a row.
+    /// The step's lines in a row.
     lines: Vec<u8>,
-    /// The number of pieces of a reply that it could not keep.
+    /// The number of pieces of a reply that found no memory.
     unkept: u32,
 }
 
-/// Runs one line and prints its actions. Then makes its step again with each of its allocations
-/// refused in turn, alone and with all after it. Prints a line for each fault of these steps, and
-/// their counts where the script has them.
+/// Runs one line and prints its actions. Then makes the step again with each of its allocations
+/// refused in turn, alone and with all later ones. Prints a line for each fault of these steps, and
+/// their counts if the script has counts.
 pub(crate) fn run_line<'a, W: Write>(
     script: Script<'a, '_>,
     forwarder: &mut Runner<'a>,
@@ -121,14 +122,14 @@ pub(crate) fn run_line<'a, W: Write>(
     refuse_each(&trial, &whole, writer)
 }
 
-/// Whether an event is a client's message: its question may wait with others, which allocates and
-/// has no action.
+/// Whether an event is a client's message: its question may join waiting questions, which allocates
+/// and has no action.
 fn is_of_client(event: &Event<Heap<'_>>) -> bool {
     matches!(event, Event::Client { .. })
 }
 
-/// Prints a line where a step bears the refusal of its first allocation, has an action without an
-/// allocation, or, unless it is of a client, allocates without an action.
+/// Prints a line if a step is made in spite of its first allocation's refusal, has an action
+/// without an allocation, or, unless the event is a client's, allocates without an action.
 fn tell_first<W: Write>(
     writer: &mut W,
     number: u32,
@@ -147,7 +148,7 @@ fn tell_first<W: Write>(
     Ok(())
 }
 
-/// Makes a step again and again, with each of its allocations refused in turn, and tells the
+/// Makes a step again and again, with each of its allocations refused in turn, and prints the
 /// counts. `whole` is the step with nothing refused.
 fn refuse_each<W: Write>(
     trial: &Trial<'_, '_, '_>,
@@ -173,8 +174,8 @@ fn refuse_each<W: Write>(
     Err(ReplayFault::Memory)
 }
 
-/// Prints the counts of the steps with one allocation refused alone, where the script has them.
-/// Also prints a line where those with all later ones refused too have other counts.
+/// Prints the counts of the steps with a single refusal, if the script has counts. Also prints a
+/// line if the steps with all later allocations refused too have different counts.
 fn tell_counts<W: Write>(
     trial: &Trial<'_, '_, '_>,
     alone: Counts,
@@ -195,8 +196,8 @@ fn tell_counts<W: Write>(
     Ok(())
 }
 
-/// Makes a step with the allocation after `granted` ones refused alone. Prints a line unless it is
-/// refused, and then made again with memory, or made with one piece not kept.
+/// Makes a step with the allocation after `granted` ones refused alone. Prints a line unless the
+/// step is refused and then made again with memory, or made with one piece not kept.
 fn refuse_one<W: Write>(
     trial: &Trial<'_, '_, '_>,
     whole: &Made,
@@ -214,10 +215,10 @@ fn refuse_one<W: Write>(
     Ok(made.end)
 }
 
-/// Makes a step with each allocation after `granted` ones refused. Prints a line unless it is
-/// refused, and then made again with memory, or made with some pieces not kept, one fewer than with
-/// one allocation less. Returns the number of these pieces; with one allocation less it was
-/// `before`, 0 where the step was refused.
+/// Makes a step with all allocations after `granted` refused. Prints a line unless the step is
+/// refused and then made again with memory, or made with some pieces not kept, one fewer than with
+/// one allocation less. Returns the number of these pieces; with one allocation less the number was
+/// `before`, 0 for a refused step.
 fn refuse_rest<W: Write>(
     trial: &Trial<'_, '_, '_>,
     whole: &Made,
@@ -250,8 +251,8 @@ fn made_anew(trial: &Trial<'_, '_, '_>, refused: Refused) -> Result<Made, Replay
     made_with(trial, &mut forwarder, refused)
 }
 
-/// The step with these allocations refused. Where it is refused, it has changed nothing, so the
-/// same forwarder makes it again with ample memory.
+/// The step with these allocations refused. A refused step has changed nothing, so this forwarder
+/// makes the step again with ample memory.
 fn made_with<'a>(
     trial: &Trial<'_, 'a, '_>,
     forwarder: &mut Runner<'a>,

@@ -2,13 +2,12 @@
 
 ghost use Rattle.std.specs.Prelude.{◌≡◌, ◌<◌, ◌+◌, ◌↔◌, IsTrue, min};
 
-/// The number of rows that ran, and of differences. Each number stays at its highest value.
+/// The numbers of run rows and of differences. Each number stays at its highest value.
 #[derive(Clone, Copy, Debug, Default, PartialEq, Eq)]
 pub struct Tally {
-    /// Rows that ran.
+    /// Run rows.
     pub rows: u64,
-    /// Differences: outputs of rows that are not as expected, and files or folders that are not in
-    /// order.
+    /// Differences: unexpected outputs of rows, and files or folders out of order.
     pub differ: u64,
 }
 

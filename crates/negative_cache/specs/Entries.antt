@@ -1,4 +1,4 @@
--- The content of an entry: a set, NODATA (RFC 2308 2.2), or that a name isn't there (RFC 2308 2.1).
+-- The content of an entry: a set, NODATA (RFC 2308 2.2), or a name error (RFC 2308 2.1).
 use Rattle.std.specs.Prelude.{ℕ, Bool, true, false, ◌==◌, ◌&&◌, List}
 use Rattle.dns_name.specs.Labels.{is_under}
 use Rattle.trust_rank.specs.Values.{Body, rows, no_data, denied}
@@ -25,6 +25,6 @@ is_set h = are_rows h.piece.body
 abbrev pub is_no_data : Held → Bool
 is_no_data h = tells_no_data h.piece.body
 
--- a name error of the class, of the name or of one above it: so the name isn't there (RFC 8020 2)
+-- a name error of the class, of the name or of a name above: there is no such name (RFC 8020 2)
 abbrev pub denies : List (List ℕ) → ℕ → Held → Bool
 denies name class h = is_name_error h.piece && (class == h.piece.slot.class) && is_under name h.piece.slot.key

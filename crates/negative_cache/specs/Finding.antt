@@ -1,5 +1,5 @@
--- Look-ups among the entries: RFC 1034 3.6.2, RFC 2308 2, RFC 8020 2. No two entries are of one
--- slot.
+-- Look-ups among the entries: RFC 1034 3.6.2, RFC 2308 2, RFC 8020 2. No two entries have equal
+-- slots.
 use Rattle.std.specs.Prelude.{ℕ, Bool, nat_eq, nat_lt, if◌then◌else◌, ◌==◌, ◌&&◌, List, [], ◌∷◌, length, filter, Option}
 use Rattle.std.specs.Prelude.{Some, None}
 use Rattle.std.specs.List.{find}
@@ -17,7 +17,7 @@ use Rattle.negative_cache.specs.Entries.{is_set, is_no_data, denies}
 abbrev pub is_of_type : Question → ℕ → Held → Bool
 is_of_type q kind h = same_slot (record { key = q.name; class = q.class; kind = Some kind }) h.piece.slot
 
--- its name has the route of the question's name
+-- the entry's name has the route of the question's name
 abbrev pub is_on_route : List Route → Question → Held → Bool
 is_on_route routes q h = option_eq nat_eq (route_of routes h.piece.slot.key) (route_of routes q.name)
 
@@ -37,12 +37,12 @@ no_data_for moment entries q = find (λ h. is_of_type q q.kind h && (is_alive mo
 abbrev pub is_denial_for : List Route → ℕ → Question → Held → Bool
 is_denial_for routes moment q h = is_alive moment h && is_on_route routes q h && denies q.name q.class h
 
--- of two, the one whose name has more labels
+-- the entry whose name has more labels
 abbrev pub nearer : Held → Option Held → Held
 nearer h None = h
 nearer h (Some other) = if nat_lt (length h.piece.slot.key) (length other.piece.slot.key) then other else h
 
--- the one whose name has the most labels
+-- the entry whose name has the most labels
 abbrev pub nearest : List Held → Option Held
 nearest [] = None
 nearest (h ∷ entries) = Some (nearer h (nearest entries))
@@ -51,12 +51,12 @@ nearest (h ∷ entries) = Some (nearer h (nearest entries))
 abbrev pub denial_for : List Route → ℕ → List Held → Question → Option Held
 denial_for routes moment entries q = nearest (filter (is_denial_for routes moment q) entries)
 
--- the first, if it was found, otherwise the next
+-- the first, if found, otherwise the next
 abbrev pub found_or : (Held → Found) → Option Held → Found → Found
 found_or so (Some h) next = so h
 found_or so None next = next
 
--- The first living one of: set of the type, alias, NODATA of the type, nearest name error at or
+-- The first living entry of: set of the type, alias, NODATA of the type, nearest name error at or
 -- above the name and on its route. So a set below a name error is found until it expires.
 abbrev pub found : List Route → ℕ → List Held → Question → Found
 found routes moment entries q =
@@ -65,7 +65,7 @@ found routes moment entries q =
     (found_or no_data (no_data_for moment entries q)
     (found_or denied (denial_for routes moment entries q) miss)))
 
--- The outcome of a look-up of a question: `local` where the route of its name denies it, otherwise
--- the found entry.
+-- The outcome of a look-up of a question: `local` if the route of its name denies, otherwise the
+-- found entry.
 abbrev pub found_or_local : List Route → ℕ → List Held → Question → Found
 found_or_local routes moment entries q = if is_denied routes q.name then local else found routes moment entries q

@@ -1,4 +1,4 @@
--- Look-ups of stale entries (RFC 8767 5). No two entries are of one slot.
+-- Look-ups of stale entries (RFC 8767 5). No two entries have equal slots.
 use Rattle.std.specs.Prelude.{ℕ, ◌+◌, ◌*◌, Bool, nat_lt, if◌then◌else◌, ◌==◌, ◌&&◌, List, Option, None}
 use Rattle.std.specs.List.{find}
 use Rattle.dns_message.specs.Values.{Question}
@@ -21,8 +21,7 @@ stale_set_for window moment entries q kind =
 abbrev pub stale_alias_for : ℕ → ℕ → List Held → Question → Option Held
 stale_alias_for window moment entries q = if q.kind == 5 then None else stale_set_for window moment entries q 5
 
--- The first of these that is there: the set of the type, and the alias. No denial is found, and
--- none hides an alias.
+-- The set of the type, otherwise the alias. No denial is found, and no denial hides an alias.
 abbrev pub stale : ℕ → ℕ → List Held → Question → Found
 stale window moment entries q =
     found_or rows (stale_set_for window moment entries q q.kind)

@@ -1,4 +1,4 @@
--- The outcome of a look-up as contracts see it.
+-- The outcome of a look-up in contracts.
 use Rattle.std.specs.Prelude.{◌≡◌}
 use Rattle.trust_rank.specs.declared.slot.Slot.{Slot}
 use Rattle.record_cache.specs.Values.{Held}
@@ -6,7 +6,7 @@ use Rattle.negative_cache.specs.declared.found.Found.{Found as OwnedFound}
 use Rattle.negative_cache.specs.declared.found.Found.TheVariants as owned
 
 -- a denial by the configuration, a set, an alias (RFC 1034 3.6.2), NODATA (RFC 2308 2.2), a name
--- error (RFC 2308 2.1, RFC 8020 2), or nothing that lives
+-- error (RFC 2308 2.1, RFC 8020 2), or nothing alive
 pub data Found : Type 0 where
   local : Found
   rows : Held → Found
@@ -24,7 +24,7 @@ found_of (owned.NoData held) = no_data held.now
 found_of (owned.Denied held) = denied held.now
 found_of owned.Miss = miss
 
--- this is the slot of what was found; where nothing was, any is
+-- the slot of the found entry; any slot after a miss
 abbrev pub IsSlotOf : Slot → Found → Type 0
 IsSlotOf slot local = Unit {0}
 IsSlotOf slot (rows h) = slot ≡ h.piece.slot

@@ -6,8 +6,8 @@ use std::hash::BuildHasher;
 use std::marker::Model;
 use suffix_routes::Config;
 
-/// A cache at one moment under one configuration. The outcome of a look-up depends on nothing else.
-/// It is borrowed for one look-up or a few, and does not allocate.
+/// A cache at one moment under one configuration, on which alone the outcome of a look-up depends.
+/// Borrowed for a look-up or a few.
 #[derive(Drop)]
 pub struct CacheAt<'a, H: BuildHasher, A: Allocator = Global> {
     pub cache: &'a Cache<H, A>,

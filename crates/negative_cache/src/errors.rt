@@ -16,9 +16,9 @@ use std::alloc::Allocator;
 use std::hash::BuildHasher;
 use suffix_routes::Config;
 
-/// The nearest living name error of the name of a question, whose ending this is, or of one above
-/// it whose own name has the route of the name. Routes are looked at only where a living one of a
-/// name above is met. The slot becomes that of each name in turn, so that no new key is made.
+/// The nearest living name error of the question's name, whose ending this is, or of a name above
+/// whose own name has the route of the question's name. Routes are compared only if a living name
+/// error of a name above is met. The slot becomes each name's in turn, so no new key is made.
 pub(crate) fn nearest_name_error<'a, H: BuildHasher + Drop, A: Allocator + Copy>(
     at: &CacheAt<'a, H, A>,
     slot: &mut LookUpSlot,
@@ -39,8 +39,8 @@ pub(crate) fn nearest_name_error<'a, H: BuildHasher + Drop, A: Allocator + Copy>
     nearest_above(at, slot, question)
 }
 
-/// The nearest living name error of the names above that of a question whose own name has the route
-/// of the name.
+/// The nearest living name error of the names above the question's whose own name has the route of
+/// the question's name.
 fn nearest_above<'a, H: BuildHasher + Drop, A: Allocator + Copy>(
     at: &CacheAt<'a, H, A>,
     slot: &mut LookUpSlot,
@@ -61,8 +61,8 @@ fn nearest_above<'a, H: BuildHasher + Drop, A: Allocator + Copy>(
     None
 }
 
-/// The living name error of the name of these octets, where that name has the route of the
-/// question's name, which is below it.
+/// The living name error of the name with these octets, if this name has the route of the
+/// question's name below.
 fn name_error_on<'a, H: BuildHasher + Drop, A: Allocator + Copy>(
     at: &CacheAt<'a, H, A>,
     slot: &mut LookUpSlot,
@@ -84,9 +84,9 @@ fn name_error_on<'a, H: BuildHasher + Drop, A: Allocator + Copy>(
     }
 }
 
-/// Whether the name of these octets has the route of the asked name, or both have none. The asked
-/// name is below the other, so their routes are the same exactly where it is under no suffix with
-/// more octets than the other.
+/// Whether the name with these octets has the route of the asked name, or both have none. The asked
+/// name is below, so the routes are equal exactly if the asked name is under no suffix with more
+/// octets than `octets`.
 fn has_route_of<A: Allocator>(config: &Config<A>, octets: &[u8], asked: &[u8]) -> bool
     requires laid { IsLaidOut octets.now }
     requires asked { IsLaidOut asked.now }
@@ -105,8 +105,8 @@ fn has_route_of<A: Allocator>(config: &Config<A>, octets: &[u8], asked: &[u8]) -
     true
 }
 
-/// Whether the name of these octets is under this suffix, and the suffix has more than `size`
-/// octets without its zero octet. The length alone decides for most suffixes.
+/// Whether the name with these octets is under this suffix, and the suffix has more than `size`
+/// octets without the final zero. The length alone decides for most suffixes.
 fn is_under_longer<A: Allocator>(octets: &[u8], suffix: &Name<A>, size: usize) -> bool
     requires { IsLaidOut octets.now }
     ensures { IsTrue result ↔ (IsUnder (labels_of octets.now) suffix.now × (size + 1 < size_of suffix.now)) }
@@ -114,7 +114,7 @@ fn is_under_longer<A: Allocator>(octets: &[u8], suffix: &Name<A>, size: usize) -
     suffix.octets().len() > size && ends_in(octets, suffix.octets())
 }
 
-/// The living name error of the name of these octets, whose slot is made in place of another.
+/// The living name error of the name with these octets, whose slot overwrites the slot.
 fn name_error_of<'a, H: BuildHasher + Drop, A: Allocator + Copy>(
     at: &CacheAt<'a, H, A>,
     slot: &mut LookUpSlot,

@@ -19,11 +19,10 @@ use std::alloc::Allocator;
 use std::hash::BuildHasher;
 use suffix_routes::{Config, Routing};
 
-/// Looks a question up at a moment, in milliseconds. `Local` where the configuration denies its
-/// name. Otherwise the first of these that is held alive: the set of the type, the alias where
-/// another type is asked for (RFC 1034 3.6.2), NODATA of the type (RFC 2308 2.2), and the nearest
-/// name error of the name or of one above it (RFC 8020 2) whose own name has the route of the name.
-/// It does not allocate.
+/// Looks a question up at a moment, in milliseconds. `Local` if the configuration denies the name.
+/// Otherwise the first living entry of: the set of the type, the alias if the type is not CNAME
+/// (RFC 1034 3.6.2), NODATA of the type (RFC 2308 2.2), and the nearest name error of the name or
+/// of a name above (RFC 8020 2) whose own name has the route of the name.
 pub fn find<'a, H: BuildHasher + Drop, A: Allocator + Copy>(
     cache: &'a Cache<H, A>,
     name: &Name<A>,
@@ -50,12 +49,10 @@ pub fn find<'a, H: BuildHasher + Drop, A: Allocator + Copy>(
 }
 
 impl<'a, H: BuildHasher + Drop, A: Allocator + Copy> CacheAt<'a, H, A> {
-    /// Looks a question up as the function `find` does, but for `Local`: whether the route of the
-    /// name denies it is not looked at. Where no entry is of a denied name, it misses at such a
-    /// name. The slot becomes that of the found entry, for `promote`; after a miss it may be any.
-    /// Its value before does not matter: one slot serves many look-ups, and no key is moved. Routes
-    /// are looked at only where a living name error of a name above it is met. It does not
-    /// allocate.
+    /// Like the function `find`, without the check for denying routes: if no entry has a denied
+    /// name, such a name misses. The slot becomes the found entry's, for `promote`; after a miss it
+    /// is any. Its value before does not matter: one slot serves many look-ups, and no key is
+    /// moved. Routes are compared only if a living name error of a name above is met.
     pub fn find(&self, slot: &mut LookUpSlot, question: &QuestionRef<'_>) -> Found<'a, A>
         ensures found { found_of result
             ≡ found self.now.config.routes self.now.moment self.now.cache.entries question.now }
@@ -82,9 +79,8 @@ impl<'a, H: BuildHasher + Drop, A: Allocator + Copy> CacheAt<'a, H, A> {
     }
 }
 
-/// The living alias at the name of a slot of this type, whose ending this is; the slot becomes that
-/// of the alias. A question for CNAME follows none. Where no alias may be of the name, none is
-/// looked up.
+/// The living alias at the name of a slot of this type, whose ending this is; the slot becomes the
+/// alias's. A question for CNAME follows none. If the name may have no alias, none is looked up.
 fn alias_beside<'a, H: BuildHasher + Drop, A: Allocator + Copy>(
     at: &CacheAt<'a, H, A>,
     slot: &mut LookUpSlot,

@@ -1,4 +1,4 @@
-//! The entry of a slot, where it is alive.
+//! The entry of a slot, if alive.
 
 ghost use Rattle.std.specs.Prelude.{◌≡◌};
 ghost use Rattle.std.specs.Option.{option_copied, IfSome};
@@ -52,7 +52,7 @@ fn is_no_data<A: Allocator>(held: &Held<A>) -> bool
     }
 }
 
-/// The entry, where it is a set.
+/// The entry, if a set.
 pub(crate) fn set_in<A: Allocator>(held: Option<&Held<A>>) -> Option<&Held<A>>
     ensures { option_copied result ≡ only is_set (option_copied held.entry) }
 {
@@ -60,7 +60,7 @@ pub(crate) fn set_in<A: Allocator>(held: Option<&Held<A>>) -> Option<&Held<A>>
     if is_set(held) { Some(held) } else { None }
 }
 
-/// The entry, where it is NODATA.
+/// The entry, if NODATA.
 pub(crate) fn no_data_in<A: Allocator>(held: Option<&Held<A>>) -> Option<&Held<A>>
     ensures { option_copied result ≡ only is_no_data (option_copied held.entry) }
 {

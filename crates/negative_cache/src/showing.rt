@@ -1,4 +1,4 @@
-//! The names that a set or NODATA shows to be there.
+//! The names that a set or NODATA shows to exist.
 
 ghost use Rattle.std.specs.Prelude.{◌≡◌, None};
 ghost use Rattle.dns_name.specs.Labels.{labels_of, lowered, IsLaidOut};
@@ -11,8 +11,8 @@ use std::alloc::Allocator;
 use std::hash::BuildHasher;
 use trust_rank::Slot;
 
-/// Removes the name errors of the class, of the name and of the names above it, which a set or
-/// NODATA at the name shows to be there (RFC 8020 2); and nothing else. It does not allocate.
+/// Removes the name errors of the class, of the name and of the names above, which a set or NODATA
+/// at the name shows to exist (RFC 8020 2); and nothing else.
 pub fn shown<H: BuildHasher + Drop, A: Allocator + Copy>(
     cache: &mut Cache<H, A>,
     name: &Name<A>,
@@ -31,7 +31,8 @@ pub fn shown<H: BuildHasher + Drop, A: Allocator + Copy>(
     }
 }
 
-/// Removes the name error of the name of these octets. `held` says what holds of all entries.
+/// Removes the name error of the name with these octets. The clause `held` repeats the facts about
+/// all entries.
 fn forget_name_error<H: BuildHasher + Drop, A: Allocator + Copy>(
     cache: &mut Cache<H, A>,
     octets: &[u8],

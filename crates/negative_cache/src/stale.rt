@@ -17,11 +17,10 @@ use record_cache::{Cache, Held, LookUpSlot};
 use std::alloc::Allocator;
 use std::hash::BuildHasher;
 
-/// Looks a question up among living entries and those that expired fewer than `window` seconds ago,
-/// at most 86,400, at a moment in milliseconds (RFC 8767 5). `Rows` for the set of the type;
-/// otherwise `Alias`, where another type is asked for (RFC 1034 3.6.2); otherwise `Miss`. No denial
-/// is found, and none hides an alias. With a window of 0 it finds a set or an alias where `find`
-/// does. It does not allocate.
+/// Looks a question up among living entries and entries expired fewer than `window` seconds ago, at
+/// most 86,400, at a moment in milliseconds (RFC 8767 5). `Rows` for the set of the type; otherwise
+/// `Alias` if the type is not CNAME (RFC 1034 3.6.2); otherwise `Miss`. No denial is found, and no
+/// denial hides an alias. With a window of 0 the outcomes are the sets and aliases of `find`.
 pub fn find_stale<'a, H: BuildHasher + Drop, A: Allocator + Copy>(
     cache: &'a Cache<H, A>,
     name: &Name<A>,
@@ -40,8 +39,8 @@ pub fn find_stale<'a, H: BuildHasher + Drop, A: Allocator + Copy>(
 }
 
 impl<'a, H: BuildHasher + Drop, A: Allocator + Copy> CacheAt<'a, H, A> {
-    /// Looks a question up as the function `find_stale` does, with a window of at most 86,400
-    /// seconds. The slot may be any, before and after. It does not allocate.
+    /// Looks a question up like the function `find_stale`, with a window of at most 86,400 seconds.
+    /// The slot may be any, before and after.
     pub fn find_stale(
         &self,
         slot: &mut LookUpSlot,
@@ -97,7 +96,8 @@ fn alias_within<'a, H: BuildHasher + Drop, A: Allocator + Copy>(
     set_in(entry_within(cache, slot, moment, window))
 }
 
-/// The entry of a slot, where it is within the window. `held` says what holds of all entries.
+/// The entry of a slot, if within the window. The clause `held` repeats the facts about all
+/// entries.
 fn entry_within<'a, H: BuildHasher + Drop, A: Allocator + Copy>(
     cache: &'a Cache<H, A>,
     slot: &mut LookUpSlot,
@@ -119,7 +119,7 @@ fn entry_within<'a, H: BuildHasher + Drop, A: Allocator + Copy>(
 }
 
 /// Whether an entry is alive at a moment, in milliseconds, or expired fewer than `window` seconds
-/// before it.
+/// before.
 fn is_within<A: Allocator>(held: &Held<A>, moment: u64, window: u64) -> bool
     requires { window ≤ 86400 }
     ensures { result ≡ is_within window moment held.now }

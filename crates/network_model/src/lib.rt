@@ -1,5 +1,5 @@
-//! Runs of the forwarder: over a list; step by step, with the stored history, which is sound
-//! whenever it is seen; and over a wire, by the loop of `serving_loop`.
+//! Runs of the forwarder: over a list; step by step, with the stored history, which is sound at
+//! each moment; and over a wire, by the loop of `serving_loop`.
 #![tactic(auto)]
 
 mod recorded;

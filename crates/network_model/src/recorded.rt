@@ -13,8 +13,7 @@ use std::marker::Model;
 use step_values::{Handed, Step};
 use suffix_routes::Config;
 
-/// A forwarder and the steps that it has made since it was new. They serve truly, whenever they are
-/// seen.
+/// A forwarder and its steps since it was new. They serve truly at each moment.
 #[derive(Drop)]
 pub struct Recorded<H: BuildHasher, A: Allocator = Global> {
     forwarder: Forwarder<H, A>,
@@ -33,7 +32,7 @@ impl<H: BuildHasher, A: Allocator> Model for Recorded<H, A> {
 }
 
 impl<H: BuildHasher + Drop, A: Allocator + Copy> Recorded<H, A> {
-    /// A new forwarder, without steps. `Err` where memory ran out.
+    /// A new forwarder, without steps.
     pub fn new(alloc: A, config: Config<A>, hasher: H) -> Result<Recorded<H, A>, AllocError>
         ensures { IfOk result (λ recorded. recorded
             ≡ record { running = record { config = config; state = start config }; steps = [] }) }
@@ -45,7 +44,7 @@ impl<H: BuildHasher + Drop, A: Allocator + Copy> Recorded<H, A> {
         })
     }
 
-    /// The steps so far, the oldest first. It does not allocate.
+    /// The steps so far, the oldest first.
     pub fn steps(&self) -> &[Step<A>]
         ensures steps { result.now ≡ self.now.steps }
         ensures truly { ServesTruly self.now.running.config result.now }
@@ -53,8 +52,7 @@ impl<H: BuildHasher + Drop, A: Allocator + Copy> Recorded<H, A> {
         self.steps.as_slice()
     }
 
-    /// Makes one step more, and stores what was passed in with its outcome. `Err` where memory ran
-    /// out: nothing has changed.
+    /// Makes a step, and stores its input and outcome.
     pub fn step(&mut self, handed: Handed<A>) -> Result<(), AllocError>
         ensures ok { OnOk result ((outcome : Outcome)
             × (self.new.steps

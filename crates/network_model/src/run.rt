@@ -12,7 +12,7 @@ use std::alloc::{AllocError, Allocator};
 use step_values::{Handed, Step};
 use suffix_routes::Config;
 
-/// The steps of a new forwarder that takes these in their order. `Err` where memory ran out.
+/// The steps of a new forwarder with these inputs in order.
 pub fn run_list<A: Allocator + Copy>(
     alloc: A,
     config: &Config<A>,
@@ -21,11 +21,11 @@ pub fn run_list<A: Allocator + Copy>(
     ensures handed { IfOk result (λ steps. map (λ s. s.handed) steps.items ≡ handed.now) }
     ensures run { IfOk result (λ steps. (last : State)
         × Run config.now (start config.now) steps.items last) }
-    // With one list of owners of the replies: each reply is right for the question that owns it.
-    // Each step reports whether more is due, and no more questions own no reply than may wait. The
-    // listed asks are apart, each goes where it may, and each is wanted by a question that waits,
-    // which wants no other. Each question for which enough stands is answered by its own step,
-    // where the cache has room.
+    // With one list of owners of the replies: each reply is right for its owner's question. Each
+    // step reports whether more is due, and the questions without a reply are no more than may
+    // wait. The listed asks are apart, each goes to a right server, and each is wanted by a waiting
+    // question, which wants no further ask. Each question for which enough data stands is answered
+    // by its own step, if the cache has room.
     ensures truly { IfOk result (λ steps. ServesTruly config.now steps.items) }
 {
     let own = config.copy(alloc)?;

@@ -1,4 +1,4 @@
--- The identifier and the port that random words give an ask by UDP (RFC 5452 9.2).
+-- The identifier and the port of an ask by UDP, from random words (RFC 5452 9.2).
 use Rattle.std.specs.Prelude.{ℕ, ◌+◌, ◌/◌, ◌%◌, Bool, false, ◌==◌, ◌||◌, not, if◌then◌else◌, List, [], ◌∷◌, Option}
 use Rattle.std.specs.Prelude.{Some, None, ◌-◌, ◌^◌, true, get_or}
 use Rattle.std.specs.List.{list_any}

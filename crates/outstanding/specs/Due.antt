@@ -3,7 +3,7 @@ use Rattle.std.specs.Prelude.{ℕ, ◌+◌, nat_le, if◌then◌else◌, List, [
 use Rattle.outstanding.specs.declared.ask.Path.{Path}
 use Rattle.outstanding.specs.Values.{Ask}
 
--- the moment at which an ask is due, this many milliseconds after it was asked, and its path
+-- the moment at which an ask is due, this many milliseconds after asking, and the path
 abbrev pub due_of : ℕ → Ask → ℕ × Path
 due_of ask_ms ask = (ask.asked + ask_ms, ask.path)
 
@@ -12,7 +12,7 @@ abbrev pub sooner : ℕ × Path → Option (ℕ × Path) → Option (ℕ × Path
 sooner first None = Some first
 sooner first (Some second) = if nat_le first.0 second.0 then Some first else Some second
 
--- the least moment at which an ask is due, and the path of that ask; at equal moments the older ask
+-- the least due moment of the asks, and the path of the ask; at equal moments of the older ask
 abbrev pub next_due : ℕ → List Ask → Option (ℕ × Path)
 next_due ask_ms [] = None
 next_due ask_ms (ask ∷ asks) = sooner (due_of ask_ms ask) (next_due ask_ms asks)

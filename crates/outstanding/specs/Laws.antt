@@ -6,7 +6,7 @@ use Rattle.outstanding.specs.Values.{Ask}
 use Rattle.dns_message.specs.Questions.{same_question}
 use Rattle.outstanding.specs.Lists.{on_path, without_path, IsInTime, AreInTurn, MayBegin}
 
--- Where an ask ends, another one for its question may begin, on a path that is free then.
+-- After an ask's end, a further ask for its question may begin, on a path that is free then.
 abbrev pub NextMayBegin : Type 0
 NextMayBegin =
     (asks : List Ask) (path : Path) (ended next : Ask) → AreInTurn asks → on_path path asks ≡ Some ended
@@ -14,11 +14,11 @@ NextMayBegin =
     → AllByRecursion (λ a. a.asked ≤ next.asked) asks → IsInTime next
     → MayBegin next (without_path path asks)
 
--- An ask that ended is listed no more.
+-- An ended ask is listed no more.
 abbrev pub EndedIsUnlisted : Type 0
 EndedIsUnlisted = (asks : List Ask) (path : Path) → on_path path (without_path path asks) ≡ None
 
--- An ask that is not listed is not listed either once another ask has been ended.
+-- An unlisted ask stays unlisted after the end of any ask.
 abbrev pub UnlistedStaysSo : Type 0
 UnlistedStaysSo = (asks : List Ask) (path other : Path) → on_path path asks ≡ None
     → on_path path (without_path other asks) ≡ None

@@ -1,4 +1,4 @@
--- Lists of asks, in the order in which they were asked.
+-- Lists of asks, in the order of asking.
 use Rattle.std.specs.Prelude.{◌≡◌, ◌^◌, ◌≤◌, Bool, false, ◌==◌, not, List, [], ◌∷◌, length, filter, Option, None, true}
 use Rattle.std.specs.List.{find, AllByRecursion}
 use Rattle.dns_message.specs.Values.{Question}
@@ -7,7 +7,7 @@ use Rattle.outstanding.specs.declared.ask.Path.TheVariants.{Udp, Tcp}
 use Rattle.outstanding.specs.Values.{Ask, Inquiries}
 use Rattle.dns_message.specs.Questions.{same_question}
 
--- one port, or one connection
+-- equal ports, or equal connections
 abbrev pub same_path : Path → Path → Bool
 same_path (Udp a) (Udp b) = a == b
 same_path (Tcp a) (Tcp b) = a == b
@@ -47,8 +47,8 @@ pub record AreListed (inquiries : Inquiries) : Type 0 where
   pub by_arrival : AreInTurn inquiries.asks
   pub in_time : AllByRecursion IsInTime inquiries.asks
 
--- an ask may be put after these: its path and its question are not listed, and it was asked no
--- earlier than they
+-- an ask may be put after these: its path and its question are not listed, and no listed ask was
+-- asked later
 pub record MayBegin (ask : Ask) (asks : List Ask) : Type 0 where
   pub path : on_path ask.path asks ≡ None
   pub question : of_question ask.question asks ≡ None

@@ -1,4 +1,4 @@
--- The orders of paths and of questions by which they are searched.
+-- The orders of paths and of questions, for searching.
 use Rattle.std.specs.Prelude.{ℕ, ◌+◌, ◌*◌, ◌%◌, ◌^◌, min, List}
 use Rattle.std.specs.List.{fold}
 use Rattle.std.specs.declared.cmp.Ordering.{Ordering}
@@ -18,7 +18,7 @@ path_cmp = (path_ord.ghosts).cmp
 abbrev pub key_cmp : QuestionKey → QuestionKey → Ordering
 key_cmp = (key_ord.ghosts).cmp
 
--- the number of octets: that of those before the last, multiplied by 0x01000193, and the last,
+-- the number of octets: the number of all but the last, multiplied by 0x01000193, and the last,
 -- modulo 2^32
 unfoldable pub octets_number : List ℕ → ℕ
 octets_number octets = fold (λ number octet. (number * 16777619 + octet) % 2 ^ 32) 0 octets
@@ -27,11 +27,12 @@ octets_number octets = fold (λ number octet. (number * 16777619 + octet) % 2 ^ 
 abbrev pub name_number : List (List ℕ) → ℕ
 name_number labels = octets_number (octets_of labels)
 
--- the key of a question: its name in lower case, with its number, its type and its class
+-- the key of a question: its name in lower case, with the number of the name, its type and its
+-- class
 abbrev pub question_key : Question → QuestionKey
 question_key q = record { number = name_number (lowered q.name); name = lowered q.name; kind = q.kind; class = q.class }
 
--- the number of a path: the port, and for all connections one number above the ports
+-- the number of a path: the port, or for every connection one number above the ports
 abbrev pub path_number : Path → ℕ
 path_number (Udp port) = min port 65536
 path_number (Tcp connection) = 65536

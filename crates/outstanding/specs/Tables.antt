@@ -1,5 +1,5 @@
--- Asks under the keys of a slab, and lists of those keys: one in the order of asking, two that are
--- searched and have numbers.
+-- Asks under the keys of a slab, and lists of the keys: one in the order of asking, and two
+-- searched lists with numbers.
 use Rattle.std.specs.Prelude.{◌≡◌, ◌≢◌, ℕ, ◌<◌, ◌≤◌, ◌^◌, true, List, length, map, Option, Some, None, IsSome}
 use Rattle.std.specs.Prelude.{slice_index}
 use Rattle.std.specs.List.{All, filter_map}
@@ -19,30 +19,30 @@ use Rattle.outstanding.specs.Values.{Ask}
 abbrev pub asks_under : Slab Ask → List ℕ → List Ask
 asks_under s keys = filter_map (λ key. get s key) keys
 
--- the keys are those of the asks, each once
+-- the keys are the keys of the asks, each once
 pub record Covers (s : Slab Ask) (keys : List ℕ) : Type 0 where
   pub present : (i : ℕ) → i < length keys → IsSome (get s (slice_index keys i))
   pub complete : (key : ℕ) → IsSome (get s key) → (i : ℕ) × (i < length keys) × (slice_index keys i ≡ key)
   pub apart : (i j : ℕ) → i < j → j < length keys → slice_index keys i ≢ slice_index keys j
 
--- the asks under these keys rise in an order, by what is read of them
+-- the asks under these keys rise in an order, by a part of each
 abbrev pub Rises : {K : Type 0} → (K → K → Ordering) → (Ask → K) → Slab Ask → List ℕ → Type 0
 Rises R read s keys =
     (i j : ℕ) (a b : Ask) → i < j → j < length keys → get s (slice_index keys i) ≡ Some a
     → get s (slice_index keys j) ≡ Some b
     → R (read a) (read b) ≡ Less
 
--- how the ask under a key compares to what is sought; a key without an ask comes first
+-- the order of the ask under a key and the sought value; a key without an ask comes first
 abbrev pub compared : (Ask → Ordering) → Option Ask → Ordering
 compared f None = Less
 compared f (Some a) = f a
 
--- the ask under the key at place i is what is sought
+-- the ask under the key at place i is the sought one
 pub record IsAt (f : Ask → Ordering) (s : Slab Ask) (keys : List ℕ) (i : ℕ) : Type 0 where
   pub in_range : i < length keys
   pub equal : (a : Ask) → get s (slice_index keys i) ≡ Some a → f a ≡ Equal
 
--- what is sought would go to place i: those before come before it, and the others after
+-- the sought value would go to place i: exactly the asks before place i come before it
 pub record IsGap (f : Ask → Ordering) (s : Slab Ask) (keys : List ℕ) (i : ℕ) : Type 0 where
   pub in_range : i ≤ length keys
   pub before : (j : ℕ) (a : Ask) → j < i → get s (slice_index keys j) ≡ Some a → f a ≡ Less
@@ -52,20 +52,19 @@ pub record IsGap (f : Ask → Ordering) (s : Slab Ask) (keys : List ℕ) (i : �
 abbrev pub keys_of : List NumberedKey → List ℕ
 keys_of keys = map (λ k. k.key) keys
 
--- it has the number of the ask under its key
+-- the item has the number of the ask under its key
 abbrev pub HasNumber : (Ask → ℕ) → Slab Ask → NumberedKey → Type 0
 HasNumber number s k = (a : Ask) → get s k.key ≡ Some a → k.number ≡ number a
 
--- each key has the number of its ask next to it
+-- each key is next to the number of its ask
 abbrev pub AreNumbered : (Ask → ℕ) → Slab Ask → List NumberedKey → Type 0
 AreNumbered number s keys = All (HasNumber number s) keys
 
--- how the ask under a key compares to what is sought, which has this number: numbers that differ
--- decide
+-- the order of the ask under a key and a sought value with this number: different numbers decide
 abbrev pub compared_by_number : ℕ → (Ask → Ordering) → Slab Ask → NumberedKey → Ordering
 compared_by_number number f s k = ordering_then (nat_cmp k.number number) (compared f (get s k.key))
 
--- how the path of an ask compares with this one
+-- the order of an ask's path and this path
 abbrev pub to_path : Path → Ask → Ordering
 to_path path a = path_cmp a.path path
 
@@ -85,7 +84,7 @@ pub record AreIndexed (s : Slab Ask) (by_path by_question by_arrival : List ℕ)
   pub questions_rise : Rises key_cmp (λ a. question_key a.question) s by_question
   pub turns : Covers s by_arrival
 
--- and those two have the numbers of their asks
+-- and both lists have the numbers of their asks
 pub record IsIndexed {A : Type 0} (t : Table A) : Type 0 where
   pub keys : AreIndexed t.asks (keys_of t.by_path.items) (keys_of t.by_question.items) t.by_arrival.keys
   pub path_numbers : AreNumbered (λ a. path_number a.path) t.asks t.by_path.items

@@ -4,7 +4,7 @@ use Rattle.dns_message.specs.Values.{Question}
 use Rattle.suffix_routes.specs.declared.peer.Peer.{Peer}
 use Rattle.outstanding.specs.declared.ask.Path.{Path}
 
--- a question that was sent to a server
+-- a question, sent to a server
 pub record Ask : Type 0 where
   pub question : Question
   pub route : ℕ
@@ -15,7 +15,7 @@ pub record Ask : Type 0 where
   pub id : ℕ
   pub asked : ℕ  -- the moment, in milliseconds
 
--- the listed asks in the order in which they were asked, and the most that there may be
+-- the listed asks in the order of asking, and the largest allowed number of asks
 pub record Inquiries : Type 0 where
   pub capacity : ℕ
   pub asks : List Ask

@@ -1,4 +1,4 @@
-//! One ask, and the path that it went on.
+//! An ask, and its path.
 
 ghost use Rattle.std.specs.Prelude.{◌≡◌};
 ghost use Rattle.outstanding.specs.Lists.{same_path};
@@ -19,7 +19,7 @@ pub enum Path {
 }
 
 impl Path {
-    /// Whether both are one port, or one connection. It does not allocate.
+    /// Whether both are the same port, or the same connection.
     pub fn is_same(self, other: Path) -> bool
         ensures { result ≡ same_path self other }
     {
@@ -30,8 +30,8 @@ impl Path {
         }
     }
 
-    /// The number that a search compares first: the port, and for all connections one number above
-    /// the ports. So numbers that differ decide how paths compare. It does not allocate.
+    /// The number that a search compares first: the port, and for every connection one number above
+    /// the ports. So different numbers decide the order of paths.
     #[inline]
     pub(crate) fn number(self) -> u32
         ensures { result ≡ path_number self }
@@ -43,10 +43,10 @@ impl Path {
     }
 }
 
-/// A question that was sent to a server and may still be answered.
+/// A question, sent to a server, that may still be answered.
 #[derive(Drop)]
 pub struct Ask<A: Allocator = Global> {
-    /// The question, in the spelling that was sent.
+    /// The question, in its sent spelling.
     pub question: Question<A>,
     /// The route of the question's name.
     pub route: RouteId,
@@ -54,9 +54,9 @@ pub struct Ask<A: Allocator = Global> {
     pub server: usize,
     /// The asked server.
     pub peer: Peer,
-    /// The number of tries that the inquiry has used, this one included.
+    /// The number of tries of the inquiry so far, this ask included.
     pub used: u8,
-    /// The path on which the reply has to come.
+    /// The path of the reply.
     pub path: Path,
     /// The identifier of the message (RFC 1035 4.1.1).
     pub id: u16,

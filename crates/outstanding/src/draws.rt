@@ -1,5 +1,5 @@
-//! The port and the identifier of an ask by UDP: both are drawn, so that a forger has to guess them
-//! (RFC 5452 9.2).
+//! The port and the identifier of an ask by UDP: both are drawn, so a forger has to guess them (RFC
+//! 5452 9.2).
 
 ghost use Rattle.std.specs.Prelude.{◌≡◌, None, IfSome};
 ghost use Rattle.outstanding.specs.Draws.{is_freed, is_used, port_of, udp_draw, without_port};
@@ -9,10 +9,10 @@ use crate::ask::Path;
 use crate::inquiries::Inquiries;
 use std::alloc::Allocator;
 
-/// Identifier and port of the first word whose port has no listed ask; the port `freed`, which is
-/// about to be given up, counts as free. A word `w` gives identifier `w mod 65536` and port `1024 +
-/// (w / 65536) mod 64512`. `None` exactly where all eight ports are listed and not freed. So no ask
-/// is listed on the port once the freed one is given up. It does not allocate.
+/// Identifier and port of the first word whose port has no listed ask; the port `freed`, about to
+/// be given up, counts as free. A word `w` gives identifier `w mod 65536` and port
+/// `1024 + (w / 65536) mod 64512`. `None` exactly if all eight ports are listed and not freed. So
+/// no ask is listed on the port once `freed` is given up.
 pub fn draw<A: Allocator>(
     words: [u32; 8],
     inquiries: &Inquiries<A>,
@@ -41,7 +41,7 @@ fn draw_among<A: Allocator>(
     None
 }
 
-/// The port that a random word gives, from 1024 on.
+/// The port of a random word, from 1024 on.
 fn port_from(word: u32) -> u16
     ensures { result ≡ port_of word }
 {

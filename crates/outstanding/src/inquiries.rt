@@ -25,9 +25,9 @@ pub enum Refusal {
     Memory,
 }
 
-/// The listed asks, in the order in which they were asked, at most `capacity` of them. Each is of
-/// one inquiry: no two are on one path, no two have equal questions, and the moments of asking
-/// never fall along the list.
+/// The listed asks, in the order of asking, at most `capacity`. Each is the ask of an inquiry: no
+/// two share a path, no two have equal questions, and the moments of asking never fall along the
+/// list.
 #[derive(Drop)]
 pub struct Inquiries<A: Allocator = Global> {
     capacity: usize,
@@ -47,8 +47,7 @@ impl<A: Allocator> Model for Inquiries<A> {
 }
 
 impl<A: Allocator> Inquiries<A> {
-    /// No asks, with room for `capacity` of them. It does not allocate; `begin` later allocates
-    /// from `alloc`.
+    /// No asks, with room for `capacity`; `begin` later allocates from `alloc`.
     pub fn new(alloc: A, capacity: usize) -> Inquiries<A>
     where
         A: Copy,
@@ -61,12 +60,12 @@ impl<A: Allocator> Inquiries<A> {
         }
     }
 
-    /// Lists an ask, after all others.
+    /// Lists an ask, last.
     ///
-    /// The ask comes back with `Full` exactly where `capacity` asks are listed, and with `Memory`
-    /// where an allocation was refused; then the list is as it was. The caller makes sure that its
-    /// path and its question are not listed, that no listed ask was asked later, and that its
-    /// moment is at most 2^62 milliseconds.
+    /// The ask comes back with `Full` exactly if `capacity` asks are listed, and with `Memory` if
+    /// memory ran out; then the list is unchanged. The caller makes sure that path and question are
+    /// not listed, that no listed ask was asked later, and that the ask's moment is at most 2^62
+    /// milliseconds.
     pub fn begin(&mut self, ask: KeyedAsk<A>) -> Result<(), (KeyedAsk<A>, Refusal)>
         requires { MayBegin ask self.old.asks }
         ensures ok { OnOk result (self.new ≡ record self.old { asks = self.old.asks ++ ask ∷ [] }) }
@@ -87,12 +86,11 @@ impl<A: Allocator> Inquiries<A> {
         Ok(())
     }
 
-    /// Ends the ask on a path, and lists another one after all others: it gets the room of the one
-    /// that ended, so this is never refused and does not allocate. Returns the ended ask, with the
-    /// key of its question.
+    /// Ends the ask on a path, and lists a new ask last, in the room of the ended ask, so this is
+    /// never refused. Returns the ended ask, with the key of its question.
     ///
-    /// The caller makes sure that the path is listed, and that what `begin` requires of the new one
-    /// holds without the ended one.
+    /// The caller makes sure that the path is listed, and that the new ask meets the demands of
+    /// `begin` without the ended ask.
     pub fn replace(&mut self, path: Path, ask: Ask<A>) -> KeyedAsk<A>
         requires listed { IsSome (on_path path self.old.asks) }
         requires begins { MayBegin ask (without_path path self.old.asks) }
@@ -107,9 +105,8 @@ impl<A: Allocator> Inquiries<A> {
         ended
     }
 
-    /// Ends the ask on a path: it is taken out, with the key of its question, and the others stay
-    /// in order. `None` exactly where no ask is listed on the path; then nothing changes. It does
-    /// not allocate.
+    /// Ends the ask on a path and returns it, with the key of its question; the rest stays in
+    /// order. `None` exactly if no ask is listed on the path; then nothing changes.
     pub fn end(&mut self, path: Path) -> Option<KeyedAsk<A>>
         ensures ended { result ≡ on_path path self.old.asks }
         ensures list { self.new ≡ record self.old { asks = without_path path self.old.asks } }
@@ -118,8 +115,8 @@ impl<A: Allocator> Inquiries<A> {
         self.table.take(path)
     }
 
-    /// The ask on a path, with the key of its question. `None` exactly where no ask is listed
-    /// there. It does not allocate. `listed` repeats what holds of each list.
+    /// The ask on a path, with the key of its question. `None` exactly if no ask is listed on the
+    /// path. The clause `listed` repeats the facts about each list.
     pub fn by_path(&self, path: Path) -> Option<&KeyedAsk<A>>
         ensures found { MatchOption result (on_path path self.now.asks ≡ None) (λ ask. on_path path self.now.asks
             ≡ Some ask.now) }
@@ -128,9 +125,8 @@ impl<A: Allocator> Inquiries<A> {
         self.table.on_path(path)
     }
 
-    /// The ask with a question of this key, which is equal to each that has it: the same name,
-    /// letter case aside, the same type and class. `None` exactly where none is listed. It does not
-    /// allocate.
+    /// The ask of a question with this key: equal name, letter case aside, type and class. `None`
+    /// exactly if no such ask is listed.
     pub fn by_question(&self, key: &QuestionKey) -> Option<&Ask<A>>
         ensures found { (question : Question) → key.now ≡ question_key question
             → MatchOption result (of_question question self.now.asks ≡ None)
@@ -140,9 +136,8 @@ impl<A: Allocator> Inquiries<A> {
         self.table.of_question(key)
     }
 
-    /// The least moment at which an ask is due, which is `ask_ms` milliseconds after it was asked,
-    /// and the path of that ask; the older one where more are due then. `None` exactly where no ask
-    /// is listed. It does not allocate.
+    /// The least moment at which an ask is due, `ask_ms` milliseconds after its asking, and the
+    /// path of the ask; at equal moments the older ask. `None` exactly if no ask is listed.
     pub fn next_due(&self, ask_ms: u64) -> Option<(u64, Path)>
         requires { ask_ms ≤ 2 ^ 62 }
         ensures { result ≡ next_due ask_ms self.now.asks }
@@ -151,8 +146,8 @@ impl<A: Allocator> Inquiries<A> {
         Some(due_of(oldest.ask(), ask_ms))
     }
 
-    /// The ask that was asked first, which is due first, with the key of its question. `None`
-    /// exactly where no ask is listed. It does not allocate.
+    /// The oldest ask, which is due first, with the key of its question. `None` exactly if no ask
+    /// is listed.
     pub fn oldest(&self) -> Option<&KeyedAsk<A>>
         ensures first { MatchOption result (self.now.asks ≡ []) (λ ask. slice_get self.now.asks 0 ≡ Some ask.now) }
         ensures listed { AreListed self.now }
@@ -160,7 +155,7 @@ impl<A: Allocator> Inquiries<A> {
         self.table.oldest()
     }
 
-    /// Ends all asks. It does not allocate.
+    /// Ends all asks.
     pub fn clear(&mut self)
         ensures list { self.new ≡ record self.old { asks = [] } }
         ensures listed { AreListed self.new }
@@ -168,7 +163,7 @@ impl<A: Allocator> Inquiries<A> {
         self.table.clear();
     }
 
-    /// The number of listed asks. It does not allocate.
+    /// The number of listed asks.
     pub fn len(&self) -> usize
         ensures count { result ≡ length self.now.asks }
         ensures listed { AreListed self.now }

@@ -1,4 +1,4 @@
-//! An ask as it is kept, with the key of its question.
+//! An ask with the key of its question.
 
 ghost use Rattle.std.specs.Prelude.{◌≡◌};
 ghost use Rattle.outstanding.specs.Orders.{key_cmp, name_number, octets_number, path_cmp, question_key};
@@ -10,12 +10,11 @@ use std::alloc::{Allocator, Global};
 use std::cmp::Ordering;
 use std::marker::Model;
 
-/// A question for comparing: keys are equal exactly where questions are, letter case aside. The
-/// number, which is that of the name, is compared first. A list that is searched has it next to
-/// each key of a slab (`NumberedKey`), so most questions are distinguished without a look at their
-/// names, which are far from one another in memory. It is no hash against strangers: names that
-/// were sought out to have one number are distinguished by their octets, which costs no more than
-/// without numbers.
+/// A question for comparing: keys are equal exactly if questions are, letter case aside. The number
+/// of the name is compared first. A searched list has the number next to each key of a slab
+/// (`NumberedKey`), so most questions are distinguished without a look at their names, which are
+/// far apart in memory. The number is no hash against strangers: names chosen for equal numbers are
+/// distinguished by their octets, at the cost of a search without numbers.
 #[derive(Clone, Copy, PartialEq, Eq, PartialOrd, Ord)]
 pub struct QuestionKey {
     number: u32,
@@ -25,22 +24,21 @@ pub struct QuestionKey {
 }
 
 impl QuestionKey {
-    /// The key of a question. It does not allocate.
+    /// The key of a question.
     pub fn of<A: Allocator>(question: &Question<A>) -> QuestionKey
         ensures { result ≡ question_key question.now }
     {
         QuestionKey::of_ref(&QuestionRef::of(question))
     }
 
-    /// The key of a borrowed question. It does not allocate.
+    /// The key of a borrowed question.
     pub fn of_ref(question: &QuestionRef<'_>) -> QuestionKey
         ensures { result ≡ question_key question.now }
     {
         QuestionKey::of_name(question.key(), question.kind(), question.class())
     }
 
-    /// The key of the question of this type and class for a name, by the key of the name. It does
-    /// not allocate.
+    /// The key of the question of this type and class for a name, by the key of the name.
     pub fn of_name(name: NameKey, kind: u16, class: u16) -> QuestionKey
         ensures { result ≡ record { number = name_number name; name = name; kind = kind; class = class } }
     {
@@ -52,14 +50,14 @@ impl QuestionKey {
         }
     }
 
-    /// The key of the question's name. It does not allocate.
+    /// The key of the question's name.
     pub fn name(&self) -> &NameKey
         ensures { result.now ≡ self.now.name }
     {
         &self.name
     }
 
-    /// The number, which is compared first. It does not allocate.
+    /// The number, compared first.
     #[inline]
     pub fn number(&self) -> u32
         ensures { result ≡ self.now.number }
@@ -67,9 +65,8 @@ impl QuestionKey {
         self.number
     }
 
-    /// The order of this key and another. It does not allocate. Numbers that differ decide alone.
-    /// For equal keys, which a search meets at its end, the zeros after their names are not
-    /// compared.
+    /// The order of two keys. Different numbers decide alone. For equal keys, met at the end of a
+    /// search, the zeros after their names are not compared.
     pub fn compare(&self, other: &QuestionKey) -> Ordering
         ensures { result ≡ key_cmp self.now other.now }
     {
@@ -83,8 +80,8 @@ impl QuestionKey {
     }
 }
 
-/// The factor of the number of the octets before, at each octet. By this prime, which is that of
-/// the FNV hashes of 32 bits, names that differ in few letters get numbers that differ.
+/// The factor of the number so far, at each octet: the prime of the FNV hashes of 32 bits, by which
+/// names with few different letters get different numbers.
 const SPREAD: u32 = 0x01000193;
 
 /// The number of a name, by its octets in lower case.
@@ -98,8 +95,8 @@ fn number_of(octets: &[u8]) -> u32
     number
 }
 
-/// An ask, and the key of its question, which is made once. It is seen as the ask. The key comes
-/// first, where a search by question looks.
+/// An ask with the precomputed key of its question. Contracts see the ask alone. The key comes
+/// first in memory, where a search by question looks.
 #[derive(Drop)]
 pub struct KeyedAsk<A: Allocator = Global> {
     key: QuestionKey,
@@ -119,7 +116,7 @@ impl<A: Allocator> Model for KeyedAsk<A> {
 }
 
 impl<A: Allocator> KeyedAsk<A> {
-    /// An ask with the key of its question, which was made before. It does not allocate.
+    /// An ask with this key, computed before for its question.
     pub fn new(ask: Ask<A>, key: QuestionKey) -> KeyedAsk<A>
         requires { key ≡ question_key ask.question }
         ensures { result ≡ ask }
@@ -127,7 +124,7 @@ impl<A: Allocator> KeyedAsk<A> {
         KeyedAsk { key, ask }
     }
 
-    /// An ask, whose key is made. It does not allocate.
+    /// An ask, with its key computed here.
     pub fn of(ask: Ask<A>) -> KeyedAsk<A>
         ensures { result ≡ ask }
     {
@@ -135,28 +132,28 @@ impl<A: Allocator> KeyedAsk<A> {
         KeyedAsk { key, ask }
     }
 
-    /// The ask. It does not allocate.
+    /// The ask.
     pub fn ask(&self) -> &Ask<A>
         ensures { result.now ≡ self.now }
     {
         &self.ask
     }
 
-    /// The key of its question. It does not allocate.
+    /// The key of the ask's question.
     pub fn key(&self) -> &QuestionKey
         ensures { result.now ≡ question_key self.now.question }
     {
         &self.key
     }
 
-    /// The order of its path and another.
+    /// The order of the ask's path and `path`.
     pub(crate) fn cmp_path(&self, path: Path) -> Ordering
         ensures { result ≡ path_cmp self.now.path path }
     {
         self.ask.path.cmp(&path)
     }
 
-    /// The order of its question and another.
+    /// The order of the ask's question and `key`.
     pub(crate) fn cmp_question(&self, key: &QuestionKey) -> Ordering
         ensures { result ≡ key_cmp (question_key self.now.question) key.now }
     {

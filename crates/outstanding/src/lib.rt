@@ -1,5 +1,4 @@
-//! The open asks: which question went to which server, on which path, and when. No two of them have
-//! one path or equal questions.
+//! The open asks: question, server, path and moment. No two share a path or have equal questions.
 #![tactic(auto)]
 
 mod ask;

@@ -3,7 +3,7 @@
 ghost use Rattle.std.specs.Prelude.{◌≡◌, ◌<◌, ◌^◌};
 
 /// A key of a slab, with the number of its entry. A search compares the numbers in its list, and
-/// goes to the entries under the keys, which are far away in memory, only where numbers are equal.
+/// goes to the entries under the keys, far away in memory, only if numbers are equal.
 #[derive(Clone, Copy, Debug, PartialEq, Eq)]
 pub struct NumberedKey {
     /// The number of the entry under the key.
@@ -13,7 +13,7 @@ pub struct NumberedKey {
 }
 
 impl NumberedKey {
-    /// A key with a number. It does not allocate. The caller makes sure that the key is below 2^32.
+    /// A key with a number. The caller makes sure that the key is below 2^32.
     #[inline]
     pub fn new(number: u32, key: usize) -> NumberedKey
         requires { key < 2 ^ 32 }
@@ -25,7 +25,7 @@ impl NumberedKey {
         }
     }
 
-    /// The key, as a slab takes it. It does not allocate.
+    /// The key, in the slab's type.
     #[inline]
     pub fn key(self) -> usize
         ensures key { result ≡ self.key }

@@ -14,8 +14,7 @@ use std::alloc::Allocator;
 use std::cmp::Ordering;
 use std::collections::VecDeque;
 
-/// The place of the key of the ask on a path among keys in the order of the paths, or the place
-/// where it would go.
+/// The place of a path's ask among keys in the order of the paths, or the place for a new ask.
 pub(crate) fn place_on<A: Allocator>(
     asks: &Slab<KeyedAsk<A>, A>,
     keys: &VecDeque<NumberedKey, A>,
@@ -33,9 +32,9 @@ pub(crate) fn place_on<A: Allocator>(
     keys.binary_search_by(|key| compare_path(asks, *key, number, path))
 }
 
-/// How the path of the ask under a key compares to another, which has this number: numbers that
-/// differ decide, and only where they are equal the ask is looked at. A key without an ask comes
-/// first then.
+/// The order of the path of the ask under a key and `path`, whose number is given: different
+/// numbers decide, and the ask is read only if they are equal. A key without an ask comes first
+/// then.
 #[inline]
 fn compare_path<A: Allocator>(
     asks: &Slab<KeyedAsk<A>, A>,
@@ -54,8 +53,8 @@ fn compare_path<A: Allocator>(
     }
 }
 
-/// The place of the key of the ask with a question among keys in the order of the questions, or the
-/// place where it would go.
+/// The place of a question's ask among keys in the order of the questions, or the place for a new
+/// ask.
 pub(crate) fn place_of<A: Allocator>(
     asks: &Slab<KeyedAsk<A>, A>,
     keys: &VecDeque<NumberedKey, A>,
@@ -73,8 +72,8 @@ pub(crate) fn place_of<A: Allocator>(
     keys.binary_search_by(|key| compare_question(asks, *key, number, question))
 }
 
-/// How the question of the ask under a key compares to another, which has this number: numbers that
-/// differ decide, and only where they are equal the ask is looked at. A key without an ask comes
+/// The order of the question of the ask under a key and this question, whose number is given:
+/// different numbers decide, and the ask is read only if they are equal. A key without an ask comes
 /// first then.
 #[inline]
 fn compare_question<A: Allocator>(

@@ -18,10 +18,10 @@ use slab::Slab;
 use std::alloc::{AllocError, Allocator};
 use std::collections::VecDeque;
 
-/// The asks, each under a key that the slab picks, and the keys in the order of the paths, of the
-/// questions, and of asking. The first two lists have the number of the path or of the question
-/// next to each key, so that a search mostly stays in its list; where a key is put or taken out
-/// there, the keys on the shorter side move.
+/// The asks, each under a slab key, and the keys in the order of the paths, of the questions, and
+/// of asking. The first two lists have the number of the path or of the question next to each key,
+/// so that a search mostly stays in its list; at an insertion or removal the keys on the shorter
+/// side move.
 #[derive(Drop)]
 pub(crate) struct Table<A: Allocator> {
     asks: Slab<KeyedAsk<A>, A>,
@@ -31,7 +31,7 @@ pub(crate) struct Table<A: Allocator> {
 }
 
 impl<A: Allocator> Table<A> {
-    /// No asks. It does not allocate.
+    /// No asks.
     pub(crate) fn new(alloc: A) -> Table<A>
     where
         A: Copy,
@@ -54,7 +54,7 @@ impl<A: Allocator> Table<A> {
         self.by_arrival.len()
     }
 
-    /// The ask that was asked first.
+    /// The oldest ask.
     pub(crate) fn oldest(&self) -> Option<&KeyedAsk<A>>
         requires { IsIndexed self.now }
         ensures { MatchOption result (asks_of self.now ≡ []) (λ ask. slice_get (asks_of self.now) 0 ≡ Some ask.now) }
@@ -88,8 +88,7 @@ impl<A: Allocator> Table<A> {
         }
     }
 
-    /// Makes room for one more ask. `Err` where memory ran out, or where its key doesn't fit into
-    /// 32 bits, as the lists need it.
+    /// Makes room for one more ask. A slab key longer than 32 bits counts as out of memory.
     pub(crate) fn reserve(&mut self) -> Result<(), AllocError>
         requires { IsIndexed self.old }
         ensures indexed { IsIndexed self.new }
@@ -106,7 +105,7 @@ impl<A: Allocator> Table<A> {
         self.by_arrival.reserve(key)
     }
 
-    /// Puts an ask last, whose path and question no other has, where there is room.
+    /// Puts an ask with a new path and a new question last, if there is room.
     pub(crate) fn put(&mut self, ask: KeyedAsk<A>)
         requires indexed { IsIndexed self.old }
         requires room { HasRoom self.old }
@@ -133,7 +132,7 @@ impl<A: Allocator> Table<A> {
         self.by_arrival.put(key);
     }
 
-    /// Takes the ask on a path out, which leaves room for another one.
+    /// Removes the ask on a path, which leaves room for a new one.
     pub(crate) fn take(&mut self, path: Path) -> Option<KeyedAsk<A>>
         requires { IsIndexed self.old }
         ensures indexed { IsIndexed self.new }
@@ -156,7 +155,7 @@ impl<A: Allocator> Table<A> {
         Some(self.asks.remove(key))
     }
 
-    /// Takes all asks out. It does not allocate.
+    /// Removes all asks.
     pub(crate) fn clear(&mut self)
         ensures indexed { IsIndexed self.new }
         ensures list { asks_of self.new ≡ [] }
@@ -168,7 +167,7 @@ impl<A: Allocator> Table<A> {
     }
 }
 
-/// Puts a key at a place, where there is room.
+/// Puts a key at a place, if there is room.
 fn put_key<A: Allocator>(keys: &mut VecDeque<NumberedKey, A>, place: usize, key: NumberedKey)
     requires place { place ≤ deque_len keys.old }
     requires room { deque_len keys.old < deque_capacity keys.old }
@@ -179,7 +178,7 @@ fn put_key<A: Allocator>(keys: &mut VecDeque<NumberedKey, A>, place: usize, key:
     };
 }
 
-/// Takes the key at a place out, which leaves room for another one.
+/// Removes the key at a place, which leaves room for a new one.
 fn take_key<A: Allocator>(keys: &mut VecDeque<NumberedKey, A>, place: usize)
     requires { place < deque_len keys.old }
     ensures items { keys.new.items ≡ remove keys.old.items place }

@@ -2,6 +2,6 @@
 use Rattle.std.specs.Prelude.{map, List}
 use denote.Ref.{Bor}
 
--- what is borrowed, as it is
+-- the borrowed values themselves
 abbrev pub lent : {T : Type 0} → List (Bor T) → List T
 lent refs = map (λ x. x.now) refs

@@ -5,7 +5,7 @@ use Rattle.std.specs.Prelude.{ℕ, ◌<◌, Bool, true, false, ◌==◌, ◌&&�
 abbrev pub AreOctets : List ℕ → Type 0
 AreOctets octets = All (λ octet. octet < 256) octets
 
--- the same octets in the same order
+-- equal octets in equal order
 abbrev pub same_octets : List ℕ → List ℕ → Bool
 same_octets [] [] = true
 same_octets [] (y ∷ ys) = false

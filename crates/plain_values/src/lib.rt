@@ -1,5 +1,5 @@
-//! Lists, octets and results that contracts see as plain values, without their memory. The
-//! definitions of reading with the first fault have no code.
+//! Lists, octets and results with contracts of plain values, without their memory. The definitions
+//! of reading with the first fault have no code.
 #![tactic(auto)]
 
 mod plain_list;

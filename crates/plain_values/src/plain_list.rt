@@ -1,11 +1,11 @@
-//! A list that contracts see as its elements, in order: neither capacity nor allocator shows.
+//! A list, in contracts its elements in order, without capacity and allocator.
 
 ghost use Rattle.std.specs.Prelude.{◌≡◌, ◌<◌, ◌∷◌, ◌++◌, [], List, OnOk, OnErr, IfOk};
 
 use std::alloc::{AllocError, Allocator, Global};
 use std::marker::Model;
 
-/// Elements on the heap, in order. It is made from a `Vec` and turned back into one without
+/// Elements on the heap, in order. Made from a `Vec` and turned back into a `Vec` without
 /// allocating.
 #[derive(Drop)]
 pub struct PlainList<T, A: Allocator = Global> {
@@ -24,7 +24,7 @@ impl<T, A: Allocator> Model for PlainList<T, A> {
 }
 
 impl<T, A: Allocator> PlainList<T, A> {
-    /// No elements; it does not allocate.
+    /// No elements.
     pub fn new(alloc: A) -> PlainList<T, A>
         ensures { result ≡ [] }
     {
@@ -33,14 +33,14 @@ impl<T, A: Allocator> PlainList<T, A> {
         }
     }
 
-    /// The elements of the `Vec`; it does not allocate.
+    /// The elements of the `Vec`.
     pub fn from_vec(items: Vec<T, A>) -> PlainList<T, A>
         ensures { result ≡ items.items }
     {
         PlainList { items }
     }
 
-    /// The `Vec` of these elements; it does not allocate.
+    /// The `Vec` of these elements.
     pub fn into_vec(self) -> Vec<T, A>
         ensures { result.items ≡ self }
     {
@@ -57,7 +57,7 @@ impl<T, A: Allocator> PlainList<T, A> {
 }
 
 impl<T: Drop, A: Allocator> PlainList<T, A> {
-    /// Puts an element last. `Err` where memory ran out, and then nothing has changed.
+    /// Puts an element last.
     pub fn push(&mut self, element: T) -> Result<(), AllocError>
         ensures ok { OnOk result (self.new ≡ self.old ++ element ∷ []) }
         ensures err { OnErr result (self.new ≡ self.old) }
@@ -68,7 +68,7 @@ impl<T: Drop, A: Allocator> PlainList<T, A> {
 }
 
 impl<T: Copy, A: Allocator> PlainList<T, A> {
-    /// The elements of the slice, copied. `Err` where memory ran out.
+    /// The elements of the slice, copied.
     pub fn copied(alloc: A, from: &[T]) -> Result<PlainList<T, A>, AllocError>
         ensures { IfOk result (λ list. list ≡ from.now) }
     {

@@ -1,12 +1,12 @@
-//! Octets that are kept in place where they are few, and on the heap where they are more.
+//! Octets, a few in place, more on the heap.
 
 ghost use Rattle.std.specs.Prelude.{◌≡◌, ◌≤◌, [], length, IfOk, IsOk};
 
 use std::alloc::{AllocError, Allocator, Global};
 use std::marker::Model;
 
-/// The number of octets that are kept in place: with their count and the mark of the variant they
-/// take as much as a vector on the heap, in whole words.
+/// The number of octets in place: with their count and the mark of the variant they take as many
+/// whole words as a vector on the heap.
 const FEW: usize = 30;
 
 /// Octets in place, as many as `len` says.
@@ -71,7 +71,7 @@ impl<A: Allocator> Model for ShortOctets<A> {
 }
 
 impl<A: Allocator> ShortOctets<A> {
-    /// No octets; it does not allocate.
+    /// No octets.
     pub fn new() -> ShortOctets<A>
         ensures { result ≡ [] }
     {
@@ -80,7 +80,7 @@ impl<A: Allocator> ShortOctets<A> {
         }
     }
 
-    /// A copy of the octets. Up to 30 do not allocate; for more, `Err` where memory ran out.
+    /// A copy of the octets. Up to 30 do not allocate.
     pub fn from_slice(alloc: A, octets: &[u8]) -> Result<ShortOctets<A>, AllocError>
         ensures octets { IfOk result (λ copy. copy ≡ octets.now) }
         ensures few { length octets.now ≤ 30 → IsOk result }
@@ -95,8 +95,7 @@ impl<A: Allocator> ShortOctets<A> {
         })
     }
 
-    /// The octets of the vector, which keeps them where they are more than 30. It does not
-    /// allocate.
+    /// The octets of the vector, which keeps them if more than 30.
     pub fn from_vec(octets: Vec<u8, A>) -> ShortOctets<A>
         ensures { result ≡ octets.items }
     {

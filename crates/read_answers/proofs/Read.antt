@@ -8,15 +8,12 @@ use Rattle.dns_message.specs.Values.{Question, Record}
 use Rattle.dns_message.specs.Messages.{Spells}
 use Rattle.dns_message.proofs.CallerLemmas.{one_message_is_spelled}
 use Rattle.trust_rank.specs.Values.{Body, rows, no_data, denied, Piece}
-use Rattle.trust_rank.specs.Walks.{target_of}
 use Rattle.record_cache.specs.Values.{Held}
 use Rattle.record_cache.specs.Ageing.{seconds_left}
 use Rattle.answer_builder.specs.Values.{Told, Asked, Sections, asked_in}
 use Rattle.answer_builder.specs.Answers.{record_of, records_in, aged, soa_records, rcode_of, told_at}
 use Rattle.answer_builder.specs.Answers.{answers_of, last_of, authority_of, sections_of, full_answer}
 use Rattle.answer_builder.specs.Answers.{cut_answer}
-use Rattle.cache_laws.specs.Replacing.{AreOfOneSlot}
-use Rattle.cache_laws.proofs.CallerLemmas.{one_slot}
 use Rattle.step_history.specs.History.{Look, moment_at}
 use Rattle.step_history.specs.Answers.{FollowsAliases, EndsChain}
 use Rattle.step_history.specs.Replies.{FitsTransport}
@@ -80,10 +77,7 @@ no_records ttl p None body h = refl
 
 end_shown : (t : ℕ) (o : Held) (q : Question) (body : Body) → o.piece.body ≡ body → EndsChain q o.piece body
     → EndWith t o body (answers_of (told_at t o)) (soa_records (seconds_left t o) body) (rcode_of body)
-end_shown t o q (rows each) is h =
-    let slot : AreOfOneSlot o.piece.slot (record { key = q.name; class = q.class; kind = Some q.kind }) =
-    one_slot o.piece.slot (record { key = q.name; class = q.class; kind = Some q.kind }) h in
-    (set_shown t o q.kind each slot.kind is, refl, refl)
+end_shown t o q (rows each) is h = (set_shown t o q.kind each h.kind is, refl, refl)
 end_shown t o q (no_data soa) is h = (
   no_records (seconds_left t o) o.piece o.piece.slot.kind o.piece.body
       (λ each e. absurd (let wrong : no_data soa ≡ rows each = sym is ∙ e in cc)),
@@ -99,27 +93,16 @@ end_shown t o q (denied soa) is h = (
 
 -- ---- the aliases
 
-alias_rows : (body : Body) (name : List (List ℕ)) → target_of body ≡ Some name
-    → (datum : List ℕ) × (body ≡ rows (datum ∷ []))
-alias_rows (rows []) name e = absurd (let wrong : None ≡ Some name = e in cc)
-alias_rows (rows (datum ∷ [])) name e = (datum, refl)
-alias_rows (rows (datum ∷ other ∷ more)) name e = absurd (let wrong : None ≡ Some name = e in cc)
-alias_rows (no_data soa) name e = absurd (let wrong : None ≡ Some name = e in cc)
-alias_rows (denied soa) name e = absurd (let wrong : None ≡ Some name = e in cc)
-
 aliases_shown : (l : Look) (t : ℕ) (q last : Question) (os : List Held) (end : Held) → FollowsAliases l q os last
     → BeginWith t os (flat_map answers_of (map (told_at t) (os ++ end ∷ []))) (answers_of (told_at t end))
 aliases_shown l t q last [] end h = append-nil (answers_of (told_at t end))
-aliases_shown l t q last (o ∷ os) end h =
-    let one = alias_rows o.piece.body h.3 h.4 in
-    let slot : AreOfOneSlot o.piece.slot (record { key = q.name; class = q.class; kind = Some 5 }) =
-    one_slot o.piece.slot (record { key = q.name; class = q.class; kind = Some 5 }) h.2 in (
-      answers_of (told_at t o),
-      flat_map answers_of (map (told_at t) (os ++ end ∷ [])),
-      refl,
-      set_shown t o 5 (one.0 ∷ []) slot.kind one.1,
-      aliases_shown l t (asked_at q h.3) last os end h.5,
-    )
+aliases_shown l t q last (o ∷ os) end h = (
+  answers_of (told_at t o),
+  flat_map answers_of (map (told_at t) (os ++ end ∷ [])),
+  refl,
+  set_shown t o 5 (h.4.datum ∷ []) h.2.kind h.4.body,
+  aliases_shown l t (asked_at q h.3) last os end h.5,
+)
 
 -- ---- sections
 

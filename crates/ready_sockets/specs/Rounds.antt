@@ -1,4 +1,4 @@
--- Sockets that may be ready, by their tokens, and which of them is tried next.
+-- Sockets that may be ready, by their tokens, and the next to try.
 use Rattle.std.specs.Prelude.{◌≡◌, ℕ, zero, suc, ◌+◌, ◌%◌, if◌then◌else◌, is_some, ◌-◌, ◌^◌, ◌⊎◌}
 use Rattle.std.specs.Prelude.{min, true, false}
 use Rattle.std.specs.Prelude.{List, [], ◌∷◌, Option, Some, None, filter, slice_get, unwrap_or}
@@ -27,7 +27,7 @@ abbrev pub first_of : Option ℕ → List ℕ → Option ℕ
 first_of (Some token) tokens = Some token
 first_of None tokens = slice_get tokens 0
 
--- the token after the one that was tried last; after the last of them the first
+-- the token after the last tried one; after the last of the list the first
 abbrev pub next_token : ℕ → List ℕ → Option ℕ
 next_token last tokens = first_of (slice_get
     (filter (range_contains nat_cmp (Included (min (last + 1) (2 ^ 64 - 1))) Unbounded) tokens) 0)
@@ -44,7 +44,7 @@ pub record Gains {A : Type 0} (token : ℕ) (before after : Round A) : Type 0 wh
   pub tokens : (after.tokens.keys ≡ insert_key nat_cmp before.tokens.keys token)
       ⊎ (after.tokens.keys ≡ before.tokens.keys)
 
--- A round gives the next one, which is the last that was tried then.
+-- A round gives the next socket, which is then the last tried.
 pub record Gives {A : Type 0} (given : Option Origin) (before after : Round A) : Type 0 where
   pub tried : after ≡ record before
       { last = unwrap_or (next_token before.last before.tokens.keys) before.last }
@@ -114,8 +114,8 @@ Dropped (Client conn) before after = InStreams (Loses (token_of (Client conn))) 
 Dropped (Ask port) before after = InServers (Loses (token_of (Ask port))) before after
 Dropped (Server conn) before after = InServers (Loses (token_of (Server conn))) before after
 
--- The socket that is given on a turn: on the first of four clients' datagrams, on the third
--- clients' streams, on the others asks.
+-- The socket given on a turn: on the first of four clients' datagrams, on the third clients'
+-- streams, on the second and fourth asks.
 pub record GivesOnTurn {A : Type 0} (turn : ℕ) (given : Option Origin)
     (before after : Ready A) : Type 0 where
   pub datagrams : turn ≡ 1 → (given ≡ (if before.datagrams then Some Datagrams else None))
@@ -130,8 +130,7 @@ pub record FindsNow {A : Type 0} (given : Option Origin) (turn turn' : ℕ)
   pub gives : GivesOnTurn turn' given before after
   pub some : is_some given ≡ true
 
--- In `tries` turns that follow each other, the first that gives a socket gives the next one; none
--- where none does.
+-- In `tries` consecutive turns, the first that gives a socket gives the next; none if no turn does.
 abbrev pub Finds : {A : Type 0} → (tries : ℕ) → Option Origin → (turn turn' : ℕ) → Ready A → Ready A
     → Type 0
 Finds zero given turn turn' before after = (given ≡ None) × (turn' ≡ turn) × (after ≡ before)

@@ -12,7 +12,7 @@ token_of (Client conn) = conn % 2 ^ 61 * 8 + 2
 token_of (Ask port) = port * 8 + 3
 token_of (Server conn) = conn % 2 ^ 61 * 8 + 4
 
--- The socket has a token that no other has: each port, and the number of a connection below 2^61.
+-- The socket has a token of its own: each port, and the number of a connection below 2^61.
 abbrev pub HasToken : Origin → Type 0
 HasToken Datagrams = Unit {0}
 HasToken Connections = Unit {0}

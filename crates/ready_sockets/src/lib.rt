@@ -1,5 +1,5 @@
-//! The sockets of a wire that may be ready, by their tokens, and which of them is tried next.
-//! `Origin` names a socket, `Readiness` has those that may be ready.
+//! The sockets of a wire that may be ready, by their tokens, and the next to try. `Origin` names a
+//! socket, `Readiness` has the sockets that may be ready.
 #![tactic(auto)]
 
 mod origin;

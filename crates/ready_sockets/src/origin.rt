@@ -33,8 +33,8 @@ fn numbered(kind: usize, number: u64) -> usize
 }
 
 impl Origin {
-    /// The token by which the system reports that the socket is ready. The connection with a number
-    /// of 2^61 or more shares the token of an earlier one.
+    /// The token for the system's reports about the socket. A connection with a number of 2^61 or
+    /// more shares the token of an earlier one.
     pub fn token(self) -> Token
         ensures { result.0 ≡ token_of self }
     {
@@ -47,7 +47,7 @@ impl Origin {
         })
     }
 
-    /// The socket that has the token; `None` where no kind of socket has such a token.
+    /// The socket with this token; `None` for a token of no kind of socket.
     pub fn of(token: Token) -> Option<Origin>
         ensures some { (origin : Origin) → HasToken origin → token_of origin ≡ token.0
             → result ≡ Some origin }

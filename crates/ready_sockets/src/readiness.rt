@@ -1,4 +1,4 @@
-//! Sockets that may be ready, and which of them is tried next.
+//! Sockets that may be ready, and the next to try.
 
 ghost use Rattle.std.specs.Prelude.{◌≡◌, ◌≤◌, ◌+◌, ◌*◌, ◌%◌, [], true, IsTrue, IfOk, OnErr};
 ghost use Rattle.std.specs.Prelude.{IsSomeAnd, ◌↔◌};
@@ -31,7 +31,7 @@ struct Round<A: Allocator> {
 }
 
 impl<A: Allocator> Round<A> {
-    /// No socket. It does not allocate.
+    /// No socket.
     fn new(alloc: A) -> Round<A>
         ensures { (result.tokens.keys ≡ []) × (result.last ≡ 0) }
     {
@@ -41,7 +41,7 @@ impl<A: Allocator> Round<A> {
         }
     }
 
-    /// The next socket after the one that was tried last; after the last of them the first.
+    /// The next socket after the last tried one; after the last of the list the first.
     fn next(&mut self) -> Option<Origin>
         ensures { Gives result self.old self.new }
     {
@@ -151,8 +151,8 @@ fn both_ways() -> Interest
 }
 
 /// The sockets that may be ready: reported by the system, or to be tried all the same. Each socket
-/// stays until it said that it would block. Contracts see which sockets may be ready, and whose
-/// turn was last.
+/// stays until a call would have blocked. Contracts see which sockets may be ready, and the last
+/// turn.
 #[derive(Drop)]
 pub struct Readiness<A: Allocator> {
     poll: Poll,
@@ -170,8 +170,7 @@ impl<A: Allocator> Model for Readiness<A> {
 }
 
 impl<A: Allocator + Copy> Readiness<A> {
-    /// Only the socket for datagrams may be ready. `Err` where the system refuses, or memory ran
-    /// out.
+    /// Only the socket for datagrams may be ready. `Err` if the system refuses, or memory ran out.
     pub fn new(net: &impl Net, alloc: A) -> io::Result<Readiness<A>>
         ensures { IfOk result (λ readiness. IsBegun readiness.ready × (readiness.turn ≡ 0)) }
     {
@@ -187,21 +186,20 @@ impl<A: Allocator + Copy> Readiness<A> {
         })
     }
 
-    /// Has the system report when the socket can be read. `Err` where the system refuses.
+    /// Has the system report when the socket can be read. `Err` if the system refuses.
     pub fn watch_reads<S: Source>(&self, socket: &mut S, origin: Origin) -> io::Result<()> {
         let registry = self.poll.registry();
         registry.register(socket, origin.token(), Interest::READABLE)
     }
 
-    /// Has the system report when the socket can be read or written. `Err` where the system
-    /// refuses.
+    /// Has the system report when the socket can be read or written. `Err` if the system refuses.
     pub fn watch<S: Source>(&self, socket: &mut S, origin: Origin) -> io::Result<()> {
         let registry = self.poll.registry();
         registry.register(socket, origin.token(), both_ways())
     }
 
-    /// Waits until a socket is ready, for `pause` milliseconds at most, and notes the sockets that
-    /// the system reports. Those that were noted stay noted.
+    /// Waits until a socket is ready, for `pause` milliseconds at most, and notes the sockets
+    /// reported by the system. Noted sockets stay noted.
     pub fn wait(&mut self, pause: u64)
         requires { pause ≤ 5 }
         ensures stay { NotedStay self.old.ready self.new.ready }
@@ -211,7 +209,7 @@ impl<A: Allocator + Copy> Readiness<A> {
         self.note_events(polled);
     }
 
-    /// Notes the sockets that the events report, unless the poll failed that gave them.
+    /// Notes the sockets reported by the events, unless the poll failed.
     fn note_events(&mut self, polled: io::Result<()>)
         ensures stay { NotedStay self.old.ready self.new.ready }
         ensures err { OnErr polled (self.new.ready ≡ self.old.ready) }
@@ -222,7 +220,7 @@ impl<A: Allocator + Copy> Readiness<A> {
         }
     }
 
-    /// Notes that the socket may be ready. Where memory ran out nothing changes.
+    /// Notes that the socket may be ready. Out of memory, nothing changes.
     pub fn add(&mut self, origin: Origin)
         ensures noted { Noted origin self.old.ready self.new.ready }
         ensures rest { self.new ≡ record self.old { ready = self.new.ready } }
@@ -230,7 +228,7 @@ impl<A: Allocator + Copy> Readiness<A> {
         self.ready.add(origin);
     }
 
-    /// Notes the socket no longer: it said that it would block.
+    /// Notes the socket no longer: a call would have blocked.
     pub fn remove(&mut self, origin: Origin)
         ensures dropped { Dropped origin self.old.ready self.new.ready }
         ensures rest { self.new ≡ record self.old { ready = self.new.ready } }
@@ -254,9 +252,9 @@ impl<A: Allocator + Copy> Readiness<A> {
         self.ready.servers.tokens.is_empty()
     }
 
-    /// The next socket that is tried: of clients and of asks alternately, and of clients' datagrams
-    /// and streams alternately. `None` where none may be ready. Mostly only datagrams may be ready,
-    /// and then no turn of the others is gone through.
+    /// The next socket to try: of clients and of asks alternately, and of clients' datagrams and
+    /// streams alternately. `None` if none may be ready. Mostly only datagrams may be ready, and
+    /// then the turns of the rest are skipped at once.
     pub fn next(&mut self) -> Option<Origin>
         ensures finds { Finds 4 result self.old.turn self.new.turn self.old.ready self.new.ready }
         ensures rest { self.new ≡ record self.old { turn = self.new.turn; ready = self.new.ready } }
@@ -274,7 +272,7 @@ impl<A: Allocator + Copy> Readiness<A> {
         None
     }
 
-    /// The next socket of those whose turn it is.
+    /// The next socket of the kind whose turn it is.
     fn next_on_turn(&mut self) -> Option<Origin>
         ensures turn { self.new.turn ≡ self.old.turn % 4 + 1 }
         ensures gives { GivesOnTurn self.new.turn result self.old.ready self.new.ready }

@@ -30,32 +30,32 @@ has_slot slot entries = list_any (of_slot slot) entries
 abbrev pub without : Slot → List Held → List Held
 without slot entries = filter (λ h. not (of_slot slot h)) entries
 
--- the entry of a slot goes to the front; where there is none, nothing moves
+-- the entry of a slot goes to the front; without an entry, nothing moves
 abbrev pub promoted : Slot → List Held → List Held
 promoted slot entries = filter (of_slot slot) entries ++ without slot entries
 
--- the number of a name error; none where the slot is of a type
+-- the number of a name error; none for a slot with a type
 abbrev pub of_name_error : Option ℕ → ℕ → Option ℕ
 of_name_error None number = Some number
 of_name_error (Some kind) number = None
 
--- the number of what is of type CNAME; none elsewhere
+-- the number of an entry of type CNAME; none elsewhere
 abbrev pub of_alias : Option ℕ → ℕ → Option ℕ
 of_alias None number = None
 of_alias (Some kind) number = if kind == 5 then Some number else None
 
--- the ending of octets: 0 for fewer than eight, otherwise 1 more than the last eight as one number
--- modulo 251
+-- the ending of octets: 0 for fewer than eight, otherwise the last eight as a number modulo 251,
+-- and 1
 abbrev pub ending_of : List ℕ → ℕ
 ending_of octets =
     if nat_lt (length octets) 8 then 0 else from_be_bytes w64 (drop (length octets - 8) octets) % 251 + 1
 
--- the ending of a name: 0 below eight octets, otherwise 1 more than the last eight as a number
--- modulo 251; so a name above it has the same one, or 0
+-- the ending of a name: 0 below eight octets, otherwise the last eight as a number modulo 251, and
+-- 1; so a name above has the same ending, or 0
 abbrev pub ending : List (List ℕ) → ℕ
 ending name = ending_of (octets_of name)
 
--- the octets of the name of a name error, the zero octet at its end left out
+-- the octets of a name error's name, without the final zero
 abbrev pub name_error_size : Slot → Option ℕ
 name_error_size slot = of_name_error slot.kind (length (octets_of slot.key))
 
@@ -63,11 +63,11 @@ name_error_size slot = of_name_error slot.kind (length (octets_of slot.key))
 abbrev pub name_error_ending : Slot → Option ℕ
 name_error_ending slot = of_name_error slot.kind (ending slot.key)
 
--- the ending of the owner of what is of type CNAME
+-- the ending of the owner of an entry of type CNAME
 abbrev pub alias_ending : Slot → Option ℕ
 alias_ending slot = of_alias slot.kind (ending slot.key)
 
--- there is a number, and it is this one
+-- there is a number, equal to this number
 abbrev pub is_number : ℕ → Option ℕ → Bool
 is_number n None = false
 is_number n (Some m) = m == n
@@ -80,11 +80,11 @@ has_number number n entries = list_any (λ h. is_number n (number h.piece.slot))
 abbrev pub has_name_error : ℕ → List Held → Bool
 has_name_error size entries = has_number name_error_size size entries
 
--- a name error is there whose name has no ending or this one
+-- some name error's name has no ending or this ending
 abbrev pub may_deny_at : ℕ → List Held → Bool
 may_deny_at n entries = has_number name_error_ending 0 entries || has_number name_error_ending n entries
 
--- a name error is there whose name has no ending or that of the name, as each name above it has
+-- some name error's name has no ending or the name's ending, as each name above the name has
 abbrev pub may_deny : List (List ℕ) → List Held → Bool
 may_deny name entries = may_deny_at (ending name) entries
 
@@ -96,12 +96,13 @@ may_have_alias_at n entries = has_number alias_ending n entries
 abbrev pub may_have_alias : List (List ℕ) → List Held → Bool
 may_have_alias name entries = may_have_alias_at (ending name) entries
 
--- no two entries are of one slot
+-- no two entries have equal slots
 abbrev pub AreApart : List Held → Type 0
 AreApart [] = Unit {0}
 AreApart (h ∷ entries) = AllByRecursion (λ e. of_slot h.piece.slot e ≡ false) entries × AreApart entries
 
--- no more than the capacity, which is above 0; each well formed, no two of one slot
+-- at most as many entries as the capacity, which is above 0; each well formed, no two with equal
+-- slots
 pub record AreHeld (cache : Cache) : Type 0 where
   pub some : 0 < cache.capacity
   pub few : length cache.entries ≤ cache.capacity

@@ -9,7 +9,7 @@ use Rattle.record_cache.specs.Entries.{of_slot, has_slot, without}
 use Rattle.record_cache.specs.declared.cache.Offered.{Offered}
 use Rattle.record_cache.specs.declared.cache.Offered.TheVariants.{Kept, Outranked, NotKept, Unkept}
 
--- a living entry of its slot has a higher rank (RFC 2181 5.4.1)
+-- a living entry of the piece's slot has a higher rank (RFC 2181 5.4.1)
 abbrev pub outranks : ℕ → Piece → Held → Bool
 outranks moment piece h = of_slot piece.slot h && (is_alive moment h && nat_lt piece.rank h.piece.rank)
 
@@ -17,7 +17,7 @@ outranks moment piece h = of_slot piece.slot h && (is_alive moment h && nat_lt p
 abbrev pub is_outranked : ℕ → Piece → List Held → Bool
 is_outranked moment piece entries = not (is_name_error piece) && list_any (outranks moment piece) entries
 
--- how an offer ends; `room` says whether there is memory for one more entry
+-- the result of an offer; `room` is true if there is memory for one more entry
 abbrev pub answer : ℕ → Bool → Piece → List Held → Offered
 answer moment room piece entries =
     if is_outranked moment piece entries
@@ -32,7 +32,7 @@ answer moment room piece entries =
 abbrev pub kept : ℕ → Held → List Held → List Held
 kept capacity h entries = take capacity (h ∷ without h.piece.slot entries)
 
--- the list after an offer that ended so
+-- the list after an offer with this result
 abbrev pub offered : Offered → ℕ → ℕ → Piece → List Held → List Held
 offered Kept capacity moment piece entries = kept capacity (record { piece = piece; accepted = moment }) entries
 offered Outranked capacity moment piece entries = entries

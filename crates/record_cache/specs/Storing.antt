@@ -25,12 +25,12 @@ hashed hash slot = record { hash = hash slot; slot = slot }
 abbrev pub keyed : (Slot → ℕ) → List Held → List (HashedSlot × Held)
 keyed hash entries = map (λ h. (hashed hash h.piece.slot, h)) entries
 
--- the number of an entry, where there is an entry and it has one
+-- the number of an entry, if there is an entry and a number
 abbrev pub number_in : (Slot → Option ℕ) → Option Held → Option ℕ
 number_in number None = None
 number_in number (Some h) = number h.piece.slot
 
--- the numbers under which the entry of a slot is counted
+-- the numbers for counting the entry of a slot
 abbrev pub marks_of : Slot → Marks
 marks_of slot = record { size = name_error_size slot; ending = name_error_ending slot; alias = alias_ending slot }
 
@@ -48,7 +48,7 @@ pub record AreFew (marks : Marks) : Type 0 where
   pub ending : IfSome marks.ending (λ n. n < 256)
   pub alias : IfSome marks.alias (λ n. n < 256)
 
--- 1 where it is this number
+-- 1 for an equal number, otherwise 0
 abbrev pub told : ℕ → Option ℕ → ℕ
 told n number = if is_number n number then 1 else 0
 
@@ -57,23 +57,23 @@ abbrev pub counted : (Slot → Option ℕ) → ℕ → List Held → ℕ
 counted number n [] = 0
 counted number n (h ∷ entries) = told n (number h.piece.slot) + counted number n entries
 
--- the counts are those of the entries
+-- the counts are the entries' counts
 abbrev pub AreCounted : (Slot → Option ℕ) → List ℕ → List Held → Type 0
 AreCounted number counts entries = (n : ℕ) → get_or counts n 0 ≡ counted number n entries
 
--- the number has a place, and what is counted there can be taken from it
+-- the number has a place, with a count above 0
 abbrev pub HasOne : List ℕ → Option ℕ → Type 0
 HasOne counts number = IfSome number (λ n. (n < 256) × (0 < get_or counts n 0))
 
--- the number has a place, and there is room for one more
+-- the number has a place, with room for one more
 abbrev pub HasRoom : List ℕ → Option ℕ → Type 0
 HasRoom counts number = IfSome number (λ n. (n < 256) × (get_or counts n 0 + 1 < 2 ^ 64))
 
--- the one counts one more of a number than the other
+-- the second counts are the first with one more of a number
 abbrev pub OneMore : List ℕ → Option ℕ → List ℕ → Type 0
 OneMore more number less = (n : ℕ) → get_or more n 0 ≡ told n number + get_or less n 0
 
--- the counts with one more entry that has these marks
+-- the counts with one more entry with these marks
 pub record AreOneMore (more : Tables) (marks : Marks) (less : Tables) : Type 0 where
   pub sizes : OneMore more.sizes.counts marks.size less.sizes.counts
   pub endings : OneMore more.endings.counts marks.ending less.endings.counts

@@ -1,8 +1,8 @@
--- A cache and its entries as contracts see them.
+-- A cache and its entries in contracts.
 use Rattle.std.specs.Prelude.{ℕ, List}
 use Rattle.trust_rank.specs.Values.{Piece}
 
--- a piece, and the moment at which it was accepted (ms)
+-- a piece, and the moment of its acceptance (ms)
 pub record Held : Type 0 where
   pub piece : Piece
   pub accepted : ℕ

@@ -22,13 +22,13 @@ use trust_rank::{Piece, Slot};
 /// How an offer ended.
 #[derive(Clone, Copy, Debug, PartialEq, Eq)]
 pub enum Offered {
-    /// The piece is the entry of its slot, and the most recently used one.
+    /// The piece is the entry of its slot, most recently used.
     Kept,
     /// A living entry of a higher rank stays (RFC 2181 5.4.1).
     Outranked,
     /// The piece has no lifetime: its slot has no entry now.
     NotKept,
-    /// Its slot had no entry, and memory for one ran out.
+    /// The slot had no entry, and memory for an entry ran out.
     Unkept,
 }
 
@@ -56,8 +56,7 @@ impl<H: BuildHasher, A: Allocator> Model for Cache<H, A> {
 }
 
 impl<H: BuildHasher + Drop, A: Allocator + Copy> Cache<H, A> {
-    /// No entries, and room for `capacity` of them, which is at least 1. `Err` where memory ran
-    /// out.
+    /// No entries, with room for `capacity`, which is at least 1.
     pub fn new(alloc: A, capacity: usize, hasher: H) -> Result<Cache<H, A>, AllocError>
         requires { 0 < capacity }
         ensures { IfOk result (λ cache. cache ≡ record { capacity = capacity; entries = [] }) }
@@ -72,13 +71,13 @@ impl<H: BuildHasher + Drop, A: Allocator + Copy> Cache<H, A> {
         })
     }
 
-    /// Offers a piece that was accepted at a moment, in milliseconds.
+    /// Offers a piece, accepted at a moment in milliseconds.
     ///
-    /// `Outranked`, where its slot has a living entry of a higher rank (RFC 2181 5.4.1), which a
-    /// name error never minds: nothing changes. Otherwise `NotKept`, where its lifetime is 0: the
-    /// entry of its slot is removed. Otherwise `Kept`: it goes to the front, in place of its slot's
-    /// entry; for a new slot a full cache drops its last entry. `Unkept`, where its slot has no
-    /// entry and an allocation was refused: nothing changes.
+    /// `Outranked` if the slot has a living entry of a higher rank (RFC 2181 5.4.1), which a name
+    /// error overrides: nothing changes. Otherwise `NotKept` if the lifetime is 0: the entry of the
+    /// slot is removed. Otherwise `Kept`: the piece goes to the front, in place of the slot's
+    /// entry; for a new slot a full cache drops its last entry. `Unkept` if the slot has no entry
+    /// and memory ran out: nothing changes.
     pub fn offer(&mut self, piece: Piece<A>, moment: u64) -> Offered
         ensures answer { result ≡ answer moment (found_room result) piece self.old.entries }
         ensures list { self.new ≡ record self.old {
@@ -104,7 +103,7 @@ impl<H: BuildHasher + Drop, A: Allocator + Copy> Cache<H, A> {
         }
     }
 
-    /// Whether its slot has an entry that outranks it when it is accepted; a name error is never
+    /// Whether the slot has an entry that outranks `held` at its acceptance; a name error is never
     /// outranked.
     fn is_outranked(&self, held: &Held<A>) -> bool
         ensures { result ≡ is_outranked held.now.accepted held.now.piece self.now.entries }
@@ -119,8 +118,8 @@ impl<H: BuildHasher + Drop, A: Allocator + Copy> Cache<H, A> {
         }
     }
 
-    /// The entry of a slot, alive or expired; the order stays. `None` where the slot has none. It
-    /// does not allocate. `held` repeats what holds of all entries.
+    /// The entry of a slot, alive or expired; the order stays. `None` if the slot has none. The
+    /// clause `held` repeats the facts about all entries.
     pub fn peek(&self, slot: &Slot) -> Option<&Held<A>>
         ensures found { MatchOption result (entry_of slot.now self.now.entries ≡ None)
             (λ held. entry_of slot.now self.now.entries ≡ Some held.now) }
@@ -130,8 +129,8 @@ impl<H: BuildHasher + Drop, A: Allocator + Copy> Cache<H, A> {
         self.entries.peek(&key)
     }
 
-    /// The entry of a slot, as `peek`. The slot keeps its hash, with which `promote_found` finds the
-    /// entry again. It does not allocate. `held` repeats what holds of all entries.
+    /// The entry of a slot, as `peek`. The slot keeps its hash, with which `promote_found` finds
+    /// the entry again. `held` repeats what holds of all entries.
     pub fn look_up(&self, slot: &mut LookUpSlot) -> Option<&Held<A>>
         ensures found { MatchOption result (entry_of slot.old self.now.entries ≡ None)
             (λ held. entry_of slot.old self.now.entries ≡ Some held.now) }
@@ -143,8 +142,7 @@ impl<H: BuildHasher + Drop, A: Allocator + Copy> Cache<H, A> {
         self.entries.peek(&*key)
     }
 
-    /// Makes the entry of a slot the most recently used; nothing where the slot has none. It does
-    /// not allocate.
+    /// Makes the entry of a slot the most recently used; without an entry, nothing.
     pub fn promote(&mut self, slot: &Slot)
         ensures { self.new ≡ record self.old { entries = promoted slot.now self.old.entries } }
     {
@@ -153,8 +151,8 @@ impl<H: BuildHasher + Drop, A: Allocator + Copy> Cache<H, A> {
     }
 
     /// Makes the entry of a slot the most recently used, as `promote`, with the hash of the slot's
-    /// last look-up. The hash is computed again only where it finds nothing: the slot was changed
-    /// since, or another cache made the hash. It does not allocate.
+    /// last look-up. The hash is computed again only if it finds nothing: the slot was changed
+    /// since, or another cache made the hash.
     pub fn promote_found(&mut self, slot: &LookUpSlot)
         ensures { self.new ≡ record self.old { entries = promoted slot.now self.old.entries } }
     {
@@ -164,14 +162,14 @@ impl<H: BuildHasher + Drop, A: Allocator + Copy> Cache<H, A> {
         }
     }
 
-    /// Removes the entry of a slot; nothing where the slot has none. It does not allocate.
+    /// Removes the entry of a slot; without an entry, nothing.
     pub fn forget(&mut self, slot: &Slot)
         ensures { self.new ≡ record self.old { entries = without slot.now self.old.entries } }
     {
         take_out(&self.hasher, &mut self.entries, &mut self.tables, slot);
     }
 
-    /// Removes all entries. It does not allocate.
+    /// Removes all entries.
     pub fn clear(&mut self)
         ensures { self.new ≡ record self.old { entries = [] } }
     {
@@ -179,8 +177,8 @@ impl<H: BuildHasher + Drop, A: Allocator + Copy> Cache<H, A> {
         self.tables = Tables::new();
     }
 
-    /// The number of entries, expired ones included. `held` repeats what holds of all entries. It
-    /// does not allocate.
+    /// The number of entries, with expired ones. The clause `held` repeats the facts about all
+    /// entries.
     pub fn len(&self) -> usize
         ensures count { result ≡ length self.now.entries }
         ensures held { AreHeld self.now }
@@ -188,9 +186,9 @@ impl<H: BuildHasher + Drop, A: Allocator + Copy> Cache<H, A> {
         self.entries.len()
     }
 
-    /// Whether a name error is held, alive or expired, of a name with `size` octets, without its
-    /// zero octet. Where none is, no look-up for one is needed. It does not allocate, and looks at
-    /// no entry. `held` repeats what holds of all entries.
+    /// Whether there is a name error, alive or expired, for a name of `size` octets, without the
+    /// final zero. If not, no look-up is needed. Reads no entry. The clause `held` repeats the
+    /// facts about all entries.
     pub fn has_name_error(&self, size: usize) -> bool
         ensures told { result ≡ has_name_error size self.now.entries }
         ensures held { AreHeld self.now }
@@ -198,9 +196,9 @@ impl<H: BuildHasher + Drop, A: Allocator + Copy> Cache<H, A> {
         self.tables.sizes.has(size)
     }
 
-    /// Whether a name error, alive or expired, may be of a name with this ending or of one above
-    /// it: its name is short, or has the same ending. Where none may, no look-up for one is needed.
-    /// It does not allocate, and looks at no entry. `held` repeats what holds of all entries.
+    /// Whether a name with this ending, or a name above, may have a name error, alive or expired:
+    /// some name error's name is short, or has the same ending. If not, no look-up is needed. Reads
+    /// no entry. The clause `held` repeats the facts about all entries.
     pub fn may_deny(&self, ending: usize) -> bool
         ensures told { result ≡ may_deny_at ending self.now.entries }
         ensures held { AreHeld self.now }
@@ -209,9 +207,9 @@ impl<H: BuildHasher + Drop, A: Allocator + Copy> Cache<H, A> {
         endings.has(0) || endings.has(ending)
     }
 
-    /// Whether an entry of type CNAME, alive or expired, may be of a name with this ending: its
-    /// owner has it too. Where none may, no look-up for one is needed. It does not allocate, and
-    /// looks at no entry. `held` repeats what holds of all entries.
+    /// Whether a name with this ending may have an entry of type CNAME, alive or expired: some
+    /// alias's owner has the ending too. If not, no look-up is needed. Reads no entry. The clause
+    /// `held` repeats the facts about all entries.
     pub fn may_have_alias(&self, ending: usize) -> bool
         ensures told { result ≡ may_have_alias_at ending self.now.entries }
         ensures held { AreHeld self.now }
@@ -220,8 +218,8 @@ impl<H: BuildHasher + Drop, A: Allocator + Copy> Cache<H, A> {
     }
 }
 
-/// Puts an entry first, in place of its slot's or of the last one of a full cache. `false` where
-/// its slot has no entry and an allocation was refused: nothing has changed.
+/// Puts an entry first, in place of its slot's entry or of the last entry of a full cache. `false`
+/// if the slot has no entry and memory ran out: nothing has changed.
 fn put_first<H: BuildHasher, A: Allocator + Copy>(
     hasher: &H,
     entries: &mut LruCache<HashedSlot, Held<A>, CarriedHashes, A>,
@@ -264,7 +262,7 @@ fn take_out<H: BuildHasher, A: Allocator + Copy>(
     tables.remove(marks_in(taken));
 }
 
-/// The numbers under which the entry is counted, if there is an entry.
+/// The numbers for counting the entry, if there is an entry.
 fn marks_in<A: Allocator>(held: Option<Held<A>>) -> Marks
     ensures marks { result ≡ marks_in held }
     ensures few { AreFew result }

@@ -18,7 +18,7 @@ impl Counts {
         Counts { counts: [0; 256] }
     }
 
-    /// Whether there is one of this number.
+    /// Whether there is an entry of this number.
     pub(crate) fn has(&self, number: usize) -> bool
         ensures { result ≡ nat_lt 0 (get_or self.now.counts number 0) }
     {
@@ -46,14 +46,14 @@ impl Counts {
     }
 }
 
-/// The numbers under which an entry is counted.
+/// The numbers for counting an entry.
 #[derive(Clone, Copy)]
 pub(crate) struct Marks {
     /// The size of the name of a name error.
     pub size: Option<usize>,
     /// The ending of the name of a name error.
     pub ending: Option<usize>,
-    /// The ending of the owner of an alias, or of what denies one.
+    /// The ending of the owner of an alias, or of a denial of the type CNAME.
     pub alias: Option<usize>,
 }
 
@@ -94,7 +94,7 @@ impl Tables {
         self.aliases.add(marks.alias);
     }
 
-    /// Counts an entry with these numbers no more.
+    /// Ends the count of an entry with these numbers.
     pub(crate) fn remove(&mut self, marks: Marks)
         requires sizes { HasOne self.old.sizes.counts marks.size }
         requires endings { HasOne self.old.endings.counts marks.ending }

@@ -1,4 +1,4 @@
-//! The ending of a name: a number that the names above it share, or 0.
+//! The ending of a name: a number shared by the names above, unless theirs is 0.
 
 ghost use Rattle.std.specs.Prelude.{◌≡◌, ◌<◌, ◌+◌, ◌%◌};
 ghost use Rattle.std.specs.Int.{w64, from_be_bytes};
@@ -10,9 +10,8 @@ use dns_name::NameKey;
 /// How many octets an ending is made of.
 const LAST: usize = 8;
 
-/// The ending of the name of a key, a number for `Cache::may_deny` and `Cache::may_have_alias`: 0
-/// for fewer than eight octets, otherwise 1 more than the last eight as one number modulo 251. It
-/// does not allocate.
+/// The ending of a key's name, a number for `Cache::may_deny` and `Cache::may_have_alias`: 0 for
+/// fewer than eight octets, otherwise the last eight as a number modulo 251, and 1.
 pub fn key_ending(key: &NameKey) -> usize
     ensures ending { result ≡ ending key.now }
     ensures few { result < 256 }
@@ -23,8 +22,7 @@ pub fn key_ending(key: &NameKey) -> usize
     }
 }
 
-/// The same of the name that these octets are, as `Name::octets` gives them, letter case aside. It
-/// does not allocate.
+/// The ending of the name with these octets, in the form of `Name::octets`, letter case aside.
 pub fn ending(octets: &[u8]) -> usize
     requires { IsLaidOut octets.now }
     ensures ending { result ≡ ending (lowered (labels_of octets.now)) }
@@ -40,7 +38,7 @@ pub fn ending(octets: &[u8]) -> usize
     }
 }
 
-/// The ending of names that end in these octets.
+/// The ending of names with these last octets.
 fn number_of(last: [u8; LAST]) -> usize
     ensures { result ≡ from_be_bytes w64 last % 251 + 1 }
 {

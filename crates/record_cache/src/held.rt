@@ -1,4 +1,4 @@
-//! One entry.
+//! An entry of the cache.
 
 ghost use Rattle.std.specs.Prelude.{◌≡◌, ◌≤◌, ◌<◌, ◌*◌, ◌==◌, ◌&&◌, nat_lt};
 ghost use Rattle.record_cache.specs.Ageing.{is_alive, seconds_left};
@@ -13,7 +13,7 @@ use std::alloc::{Allocator, Global};
 use std::marker::Model;
 use trust_rank::{Piece, Slot};
 
-/// A piece, and when it was accepted.
+/// A piece, and the moment of its acceptance.
 #[derive(Drop)]
 pub struct Held<A: Allocator = Global> {
     /// The moment of acceptance, in milliseconds.
@@ -31,8 +31,8 @@ impl<A: Allocator> Model for Held<A> {
 }
 
 impl<A: Allocator> Held<A> {
-    /// Whether the entry is alive at a moment, in milliseconds: its lifetime, in seconds, has not
-    /// passed since it was accepted (RFC 1035 3.2.1). It does not allocate.
+    /// Whether the entry is alive at a moment, in milliseconds: its lifetime, in seconds, since
+    /// acceptance has not passed (RFC 1035 3.2.1).
     pub fn is_alive(&self, moment: u64) -> bool
         ensures { result ≡ is_alive moment self.now }
     {
@@ -42,8 +42,8 @@ impl<A: Allocator> Held<A> {
         }
     }
 
-    /// The whole seconds that are left of the entry at a moment, in milliseconds, that is not
-    /// before it was accepted; 0 where it has expired. It does not allocate.
+    /// The whole seconds left of the entry at a moment, in milliseconds, not before its acceptance;
+    /// 0 for an expired entry.
     pub fn seconds_left(&self, moment: u64) -> u64
         requires { self.now.accepted ≤ moment }
         ensures { result ≡ seconds_left moment self.now }
@@ -66,14 +66,14 @@ impl<A: Allocator> Held<A> {
         self.piece.kind.is_none()
     }
 
-    /// Whether its lifetime is 0.
+    /// Whether the lifetime is 0.
     pub(crate) fn has_no_lifetime(&self) -> bool
         ensures { result ≡ (self.now.piece.lifetime == 0) }
     {
         self.piece.lifetime == 0
     }
 
-    /// Whether the entry is alive when the other one is accepted, and has a higher rank (RFC 2181
+    /// Whether the entry is alive at the acceptance of `other`, and has a higher rank (RFC 2181
     /// 5.4.1).
     pub(crate) fn outranks(&self, other: &Held<A>) -> bool
         ensures { result ≡ (is_alive other.now.accepted self.now && nat_lt other.now.piece.rank self.now.piece.rank) }
@@ -81,7 +81,7 @@ impl<A: Allocator> Held<A> {
         self.is_alive(other.accepted) && other.piece.rank < self.piece.rank
     }
 
-    /// The slot of the entry. `formed` repeats what holds of each piece.
+    /// The slot of the entry. The clause `formed` repeats the facts about each piece.
     pub(crate) fn slot(&self) -> Slot
         ensures slot { result ≡ self.now.piece.slot }
         ensures formed { IsPiece self.now.piece }
@@ -89,7 +89,7 @@ impl<A: Allocator> Held<A> {
         self.piece.slot()
     }
 
-    /// The numbers under which the entry is counted.
+    /// The numbers for counting the entry.
     pub(crate) fn marks(&self) -> Marks
         ensures marks { result ≡ marks_of self.now.piece.slot }
         ensures few { AreFew result }

@@ -1,6 +1,5 @@
-//! A cache of the pieces of replies: entries of different slots, each with the moment at which it
-//! was accepted, at most as many as the capacity. A full cache drops the one that was used least
-//! recently.
+//! A cache of the pieces of replies: entries of different slots, each with the moment of its
+//! acceptance, at most as many as the capacity. A full cache drops the least recently used entry.
 #![tactic(auto)]
 
 mod cache;

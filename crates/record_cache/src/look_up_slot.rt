@@ -24,7 +24,7 @@ impl Model for LookUpSlot {
 }
 
 impl LookUpSlot {
-    /// The slot of the root, of no class and no type. It does not allocate.
+    /// The slot of the root, of no class and no type.
     #[tactic(auto, using(dns_name::proofs::CallerLemmas::no_octets_are_laid_out))]
     pub fn new() -> LookUpSlot
         ensures { result ≡ record { class = 0; kind = None; key = [] } }
@@ -42,7 +42,7 @@ impl LookUpSlot {
     }
 
     /// Makes this the slot of the name that these octets are, as `Name::octets` gives them, of a
-    /// class and a type; `None` for a name error. It does not allocate.
+    /// class and a type; `None` for a name error.
     pub fn set(&mut self, octets: &[u8], class: u16, kind: Option<u16>)
         requires { IsLaidOut octets.now }
         ensures { self.new ≡ record { class = class; kind = kind; key = lowered (labels_of octets.now) } }
@@ -53,7 +53,7 @@ impl LookUpSlot {
         slot.kind = kind;
     }
 
-    /// Makes this the slot of another type of its name and class. It does not allocate.
+    /// Makes this the slot of another type of its name and class.
     pub fn set_kind(&mut self, kind: Option<u16>)
         ensures { self.new ≡ record self.old { kind = kind } }
     {

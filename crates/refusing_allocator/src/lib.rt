@@ -1,5 +1,5 @@
-//! An allocator for tests: it grants a given number of allocations, and then refuses each one, or
-//! the next one alone. It may also refuse each large one.
+//! An allocator for tests: it grants a given number of allocations, and then refuses each further
+//! one, or the next alone. It may also refuse large allocations.
 #![tactic(auto)]
 
 use std::alloc::{AllocError, Allocator};
@@ -8,15 +8,15 @@ use std::cell::Cell;
 /// Ample memory: with this count no allocation is refused.
 const AMPLE: u64 = u64::MAX;
 
-/// A handle on the memory of `inner` that a test can make run out.
+/// A handle on the memory of `inner`, which a test can make run out.
 ///
-/// A test makes one, sets its state up with ample memory, calls `allow` or `refuse_one` with 0, 1,
-/// 2, .. before the step that it tests, and looks at what the step does where its first, second,
-/// third, .. allocation is refused: with each one after it, or alone. Collections take it by
+/// A test sets its state up with ample memory, calls `allow` or `refuse_one` with 0, 1, 2, ..
+/// before the tested step, and looks at the step's result with its first, second, third, ..
+/// allocation refused: with all later allocations, or alone. Collections take the allocator by
 /// reference, as `&Refusing<Global>`, so that the test keeps it.
 ///
 /// An allocation is one call of `allocate`; a collection that moves its items to a larger block
-/// asks once for it. Freeing is never refused, and gives no allocation back.
+/// makes one. Freeing is never refused, and gives no allocation back.
 #[derive(Drop)]
 pub struct Refusing<B: Allocator> {
     // The order of the two fields counts: the proofs below `proofs/RefusingAllocator` name their
@@ -25,8 +25,8 @@ pub struct Refusing<B: Allocator> {
     growths: Growths,
 }
 
-/// The number of allocations that are still granted before one is refused, the number after each
-/// that is refused, and the most octets of one that is granted.
+/// The number of allocations granted before a refusal, the number granted after each refusal, and
+/// the most octets of a granted allocation.
 #[derive(Drop)]
 struct Growths {
     left: Cell<u64>,
@@ -47,28 +47,28 @@ impl<B: Allocator> Refusing<B> {
         }
     }
 
-    /// From now on grants `count` more allocations, and refuses each one after them. At `u64::MAX`
-    /// none is refused.
+    /// From now on grants `count` more allocations, and refuses all later ones. At `u64::MAX` none
+    /// is refused.
     pub fn allow(&self, count: u64) {
         self.growths.left.set(count);
         self.growths.refill.set(0);
     }
 
-    /// From now on grants `count` more allocations, refuses the one after them, and grants each
-    /// later one. At `u64::MAX` none is refused.
+    /// From now on grants `count` more allocations, refuses the next, and grants all later ones. At
+    /// `u64::MAX` none is refused.
     pub fn refuse_one(&self, count: u64) {
         self.growths.left.set(count);
         self.growths.refill.set(AMPLE);
     }
 
-    /// From now on refuses each allocation of more than this number of octets, too. Those are not
-    /// counted. At `usize::MAX`, as at first, none is refused for its size.
+    /// From now on also refuses each allocation of more than this number of octets, without
+    /// counting it. At `usize::MAX`, as at first, no allocation is refused for its size.
     pub fn refuse_above(&self, octets: usize) {
         self.growths.most.set(octets);
     }
 }
 
-/// Whether the next allocation is refused. Counts the allocation where it is not.
+/// Whether the next allocation is refused. Counts the allocation otherwise.
 fn is_spent(growths: &Growths) -> bool {
     match growths.left.get() {
         0 => {
@@ -83,14 +83,14 @@ fn is_spent(growths: &Growths) -> bool {
     }
 }
 
-/// Whether the next allocation, of this number of octets, is refused. Counts it where it is not too
-/// large.
+/// Whether the next allocation, of this number of octets, is refused. Counts the allocation unless
+/// too large.
 fn is_refused(growths: &Growths, size: usize) -> bool {
     size > growths.most.get() || is_spent(growths)
 }
 
 unsafe impl<B: Allocator> Allocator for Refusing<B> {
-    // A block is the inner allocator's own, so the right to free it is too.
+    // A block is the inner allocator's own, and so is the right to free the block.
     ghost dealloc_token = { λ heap layout block. B.dealloc_token heap.inner layout block };
 
     fn allocate(&self, size: usize, align: usize) -> Result<*mut u8, AllocError> {

@@ -1,4 +1,4 @@
--- The result of reading a configuration, and the octets that were read.
+-- The result of reading a configuration, and the octets read.
 use Rattle.std.specs.Prelude.{◌≡◌, ℕ, List, take, Option, IfSome, Err, IsUtf8, ◌⊎◌}
 use Rattle.std.specs.Str.Lossy.{utf8_valid_len}
 use Rattle.suffix_routes.specs.Positions.{position_of}
@@ -8,8 +8,8 @@ use Rattle.suffix_routes.specs.declared.fault.ConfigFault.TheVariants.{Toml}
 use Rattle.replay_script.specs.declared.fault.ReplayFault.{ReplayFault}
 use Rattle.replay_script.specs.declared.fault.ReplayFault.TheVariants.{Config, Line, Memory, Device}
 
--- octets that are refused for a fault: the first fault of their text, or the position after all
--- that is text
+-- octets refused for a fault: the first fault of their text, or the position of the first octet
+-- outside UTF-8
 abbrev pub IsRefused : List ℕ → ConfigFault → Type 0
 IsRefused octets fault =
     (IsUtf8 octets × IsReadIn octets (Err fault)) ⊎ ((¬ IsUtf8 octets)
@@ -21,7 +21,7 @@ IsFaultOf octets (Config fault) = IsRefused octets fault
 IsFaultOf octets Memory = Unit {0}
 IsFaultOf octets _ = ⊥
 
--- why a reader that has these octets left gives no configuration
+-- why a reader with these octets left gives no configuration
 abbrev pub IsFaultIn : Option (List ℕ) → ReplayFault → Type 0
 IsFaultIn left (Config fault) = IfSome left (λ octets. IsRefused octets fault)
 IsFaultIn left (Line line) = ⊥

@@ -6,7 +6,7 @@ use Rattle.suffix_routes.specs.declared.fault.ConfigFault.TheVariants.{Memory as
 use Rattle.replay_script.specs.declared.fault.ReplayFault.{ReplayFault}
 use Rattle.replay_script.specs.declared.fault.ReplayFault.TheVariants.{Config, Device, Memory}
 
--- a refused configuration stops a replay; where memory ran out, that is the fault
+-- a refused configuration stops a replay; out of memory is a fault of its own
 abbrev pub replay_fault : ConfigFault → ReplayFault
 replay_fault OutOfMemory = Memory
 replay_fault fault = Config fault

@@ -34,12 +34,12 @@ abbrev pub Shows : {X Y : Type 0} → (X → Y) → Result X Refusal → Result 
 Shows view (Ok x) answer = answer ≡ Ok (view x)
 Shows view (Err refusal) answer = answer ≡ Err refusal
 
--- what is there, else a line of none of the forms
+-- a form, or the refusal of a line of none of the forms
 abbrev pub formed : {X : Type 0} → Option X → Result X Refusal
 formed (Some x) = Ok x
 formed None = Err Form
 
--- what is read, where the line has one of the forms
+-- the value read, if the line has one of the forms
 abbrev pub read_of : {X : Type 0} → Result X Refusal → Option X
 read_of (Ok x) = Some x
 read_of (Err refusal) = None
@@ -50,7 +50,7 @@ read_of (Err refusal) = None
 abbrev pub is_space : ℕ → Bool
 is_space octet = octet == 32
 
--- the first field, and what is after the space after it
+-- the first field, and the text after the space
 unfoldable pub cut : List ℕ → Result (List ℕ × List ℕ) Refusal
 cut text = if nat_lt (position_or_len is_space text) (length text)
     then Ok (before_first is_space text, after_first is_space text) else Err Form
@@ -59,12 +59,12 @@ cut text = if nat_lt (position_or_len is_space text) (length text)
 abbrev pub is_numeral : ℕ → List ℕ → Bool
 is_numeral most text = nat_lt 0 (length text) && (nat_le (length text) most && list_all is_ascii_digit text)
 
--- a decimal number of 1 to `most` digits that fits 64 bits
+-- a decimal number of 1 to `most` digits and at most 64 bits
 unfoldable pub number_in : ℕ → List ℕ → Result ℕ Refusal
 number_in most text = if is_numeral most text then (if nat_lt (decimal_value text) (2 ^ 64) then Ok (decimal_value text)
     else Err Form) else Err Form
 
--- one that fits 16 bits
+-- a number of at most 16 bits
 abbrev pub port_from : ℕ → Result ℕ Refusal
 port_from n = if nat_lt n (2 ^ 16) then Ok n else Err Form
 
@@ -130,7 +130,7 @@ failed_event_in text =
     path_in first.0 first.1 >>= λ on.
     Ok (path_failed on)
 
--- an event that has more than a kind
+-- an event with more than a kind
 abbrev pub event_of_kind : List ℕ → List ℕ → Result Event Refusal
 event_of_kind kind rest =
     if bytes_eq kind (codes "client") then client_event_in rest
@@ -141,12 +141,12 @@ event_of_kind kind rest =
 unfoldable pub event_in : List ℕ → Result Event Refusal
 event_in text = cut text >>= λ first. event_of_kind first.0 first.1
 
--- what happens, which is an event of a kind alone or of a kind with more
+-- the event of a line: a kind alone, or a kind with more
 unfoldable pub happening_in : List ℕ → Result Event Refusal
 happening_in text = if bytes_eq text (codes "tick") then Ok tick
     else (if bytes_eq text (codes "restart") then Ok restart else event_in text)
 
--- a moment in milliseconds, and what happens
+-- a moment in milliseconds, and an event
 unfoldable pub moment_and_event_in : List ℕ → Result (ℕ × Event) Refusal
 moment_and_event_in text =
     cut text >>= λ first.

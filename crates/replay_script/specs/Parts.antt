@@ -7,12 +7,11 @@ use Rattle.std.specs.Str.{bytes_eq}
 abbrev pub is_feed : ℕ → Bool
 is_feed octet = octet == 10
 
--- the octets of the line that separates the parts
+-- the octets of the separating line
 abbrev pub separator : List ℕ
 separator = codes "---"
 
--- whether these octets can be a line of the configuration: they have no line feed, and are not the
--- separating line
+-- these octets can be a line of the configuration: no line feed, and not the separating line
 abbrev pub is_of_config : List ℕ → Bool
 is_of_config line = not (list_any is_feed line) && not (bytes_eq line separator)
 
@@ -25,7 +24,7 @@ pub record FollowsLines (script rest : List ℕ) (lines : List (List ℕ)) : Typ
   pub of_config : list_all is_of_config lines ≡ true
   pub script_is : script ≡ flat_map ended lines ++ rest
 
--- The first separating line follows the configuration, which is lines: at the end of the script, or
+-- The first separating line follows the configuration, as lines: at the end of the script, or
 -- before the event lines.
 pub record AreParts (script config events : List ℕ) : Type 0 where
   pub lines : List (List ℕ)

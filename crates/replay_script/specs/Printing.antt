@@ -1,4 +1,4 @@
--- The lines that a replay prints, and what a writer gets of a text.
+-- The printed lines of a replay, and a writer's part of a text.
 use Rattle.std.specs.Prelude.{◌≡◌, ℕ, ◌+◌, List, [], ◌∷◌, ◌++◌, codes, Option, Result, Ok, Err}
 use Rattle.std.specs.List.{flat_map}
 use Rattle.std.specs.Fmt.{decimal}
@@ -28,8 +28,8 @@ printed_reply number (Udp peer) octets why =
 printed_reply number (Tcp conn) octets why =
     numbered number (codes "reply" ∷ codes "tcp" ∷ decimal conn ∷ decimal (number_of why) ∷ encode_lower octets ∷ [])
 
--- the line of an action that the event line of this number brought about: numbers in decimal
--- digits, octets in hexadecimal ones
+-- the line of an action of the event line with this number: numbers in decimal digits, octets in
+-- hexadecimal digits
 abbrev pub printed : ℕ → Action → List ℕ
 printed number (ask_udp port server octets) =
     numbered number (codes "ask-udp" ∷ decimal port ∷ peer_text server ∷ encode_lower octets ∷ [])
@@ -43,16 +43,16 @@ printed number (send_reply client octets why) = printed_reply number client octe
 abbrev pub printed_all : ℕ → List Action → List ℕ
 printed_all number actions = flat_map (printed number) actions
 
--- the lines of steps, the first of which is that of the event line of this number
+-- the lines of steps, the first from the event line with this number
 abbrev pub printed_steps : ℕ → List Step → List ℕ
 printed_steps number [] = []
 printed_steps number (t ∷ steps) = printed_all number t.outcome.actions ++ printed_steps (number + 1) steps
 
--- the whole begins with what was written
+-- the whole begins with the written text
 abbrev pub Begins : List ℕ → List ℕ → Type 0
 Begins written whole = (left : List ℕ) × (whole ≡ written ++ left)
 
--- A text was written: all of it; or, where memory ran out or the writer failed, a beginning of it.
+-- A text was written whole; or a beginning, if memory ran out or the writer failed.
 abbrev pub Writes : Option (List ℕ) → List ℕ → Result (Unit {0}) ReplayFault → Option (List ℕ) → Type 0
 Writes held text (Ok done) held' = Appends held held' text
 Writes held text (Err fault) held' =

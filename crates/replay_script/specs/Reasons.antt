@@ -5,7 +5,7 @@ use Rattle.step_values.specs.declared.action.Why.TheVariants.{Answered, BadForma
 use Rattle.step_values.specs.declared.action.Why.TheVariants.{QuestionsFull, InquiriesFull, NoPort, Exhausted, Deadline}
 use Rattle.step_values.specs.declared.action.Why.TheVariants.{ChainLong, TooLarge, Stale, LocalDenied}
 
--- the number of a reason, as printed lines have it
+-- the number of a reason in printed lines
 abbrev pub number_of : Why → ℕ
 number_of Answered = 0
 number_of BadFormat = 1

@@ -1,4 +1,4 @@
--- The steps of a replay, and what it prints of them.
+-- The steps of a replay, and their printed lines.
 use Rattle.std.specs.Prelude.{◌≡◌, ◌⊎◌, ℕ, ◌+◌, nat_le, if◌then◌else◌, List, [], ◌∷◌, ◌++◌, length, Option}
 use Rattle.std.specs.Prelude.{IfSome, Result, Ok, Err}
 use Rattle.std.specs.Io.KnownBytes.{Appends}
@@ -22,7 +22,7 @@ use Rattle.replay_script.specs.Words.{words_of}
 
 -- ---- event lines
 
--- lines that begin with one more octet, which is of the first line
+-- lines with a further octet at the front of the first
 abbrev pub begun : ℕ → List (List ℕ) → List (List ℕ)
 begun octet [] = (octet ∷ []) ∷ []
 begun octet (line ∷ lines) = (octet ∷ line) ∷ lines
@@ -36,27 +36,27 @@ abbrev pub with_words : ℕ → Result (ℕ × Event) Refusal → Result Handed 
 with_words number (Ok timed) = Ok (record { now = timed.0; words = words_of number; event = timed.1 })
 with_words number (Err refusal) = Err refusal
 
--- what the event line of this number passes; one past the last that a script may have is refused
+-- the input of the event line with this number; a line after the last allowed number is refused
 abbrev pub handed_in : ℕ → List ℕ → Result Handed Refusal
 handed_in number line = if nat_le number MOST_LINES then with_words number (line_in line) else Err Form
 
 -- ---- runs of lines, of which the first has this number
 
--- Each step was passed what its line says, in order. Lines may be left.
+-- Each step has the input of its line, in order. Lines may be left.
 abbrev pub AreOfLines : ℕ → List (List ℕ) → List Step → Type 0
 AreOfLines number lines [] = Unit {0}
 AreOfLines number [] (t ∷ steps) = ⊥
 AreOfLines number (line ∷ lines) (t ∷ steps) =
     (handed_in number line ≡ Ok t.handed) × AreOfLines (number + 1) lines steps
 
--- The line after those of the steps is refused, and has the number `refused`.
+-- The line after the lines of the steps is refused, and has the number `refused`.
 abbrev pub IsRefusedAfter : ℕ → List (List ℕ) → List Step → ℕ → Type 0
 IsRefusedAfter number [] steps refused = ⊥
 IsRefusedAfter number (line ∷ lines) [] refused = (refused ≡ number) × (handed_in number line ≡ Err Form)
 IsRefusedAfter number (line ∷ lines) (t ∷ steps) refused = IsRefusedAfter (number + 1) lines steps refused
 
--- How a run ends that made these steps: each line was run; or the next is refused; or memory ran
--- out or the writer failed, which may be anywhere.
+-- The end of a run with these steps: each line was run; or the next is refused; or memory ran out
+-- or the writer failed, at any point.
 abbrev pub Ends : ℕ → List (List ℕ) → List Step → Result (Unit {0}) ReplayFault → Type 0
 Ends number lines steps (Ok done) = length steps ≡ length lines
 Ends number lines steps (Err (Config fault)) = ⊥
@@ -64,7 +64,7 @@ Ends number lines steps (Err (Line refused)) = IsRefusedAfter number lines steps
 Ends number lines steps (Err Memory) = Unit {0}
 Ends number lines steps (Err Device) = Unit {0}
 
--- The text written of steps: all lines of each, and of the last one a beginning of its lines.
+-- The written text of steps: all lines of each, and a beginning of the lines of the last.
 abbrev pub IsCutShort : ℕ → List Step → List ℕ → Type 0
 IsCutShort number [] written = written ≡ []
 IsCutShort number (t ∷ steps) written =
@@ -76,8 +76,8 @@ abbrev pub WritesCutShort : Option (List ℕ) → ℕ → List Step → Option (
 WritesCutShort held number steps held' =
     (written : List ℕ) × IsCutShort number steps written × Appends held held' written
 
--- The text written by a run that made these steps: all their lines, unless memory ran out or the
--- writer failed.
+-- The written text of a run with these steps: all their lines, unless memory ran out or the writer
+-- failed.
 abbrev pub Prints : Option (List ℕ) → ℕ → List Step → Result (Unit {0}) ReplayFault → Option (List ℕ) → Type 0
 Prints held number steps (Ok done) held' = Appends held held' (printed_steps number steps)
 Prints held number steps (Err (Config fault)) held' = ⊥
@@ -85,7 +85,7 @@ Prints held number steps (Err (Line refused)) held' = Appends held held' (printe
 Prints held number steps (Err Memory) held' = WritesCutShort held number steps held'
 Prints held number steps (Err Device) held' = WritesCutShort held number steps held'
 
--- A run of lines: its steps are rows one after another, from the forwarder before to the one after.
+-- A run of lines: its steps are rows, in order, from the forwarder before to the forwarder after.
 pub record RunsLines (number : ℕ) (lines : List (List ℕ)) (before : Running) (held : Option (List ℕ))
     (result : Result (Unit {0}) ReplayFault) (after : Running) (held' : Option (List ℕ)) : Type 0 where
   pub steps : List Step
@@ -128,13 +128,13 @@ abbrev pub ReplaysText : List ℕ → Option (List ℕ) → Result (Unit {0}) Re
 ReplaysText script held result held' =
     RunsScript script held result held' ⊎ StopsBefore (IsFaultBefore script) held result held'
 
--- A script was read to its end, all that a reader had left where that is known, and was replayed.
+-- A script was read to its end (all octets left to the reader, if known) and was replayed.
 pub record ReplaysRead (left : Option (List ℕ)) (held : Option (List ℕ)) (result : Result (Unit {0}) ReplayFault)
     (held' : Option (List ℕ)) : Type 0 where
   pub script : List ℕ
   pub whole : IfSome left (λ all. script ≡ all)
   pub replays : ReplaysText script held result held'
 
--- A replay replays what it read; or memory ran out or reading failed, and nothing was written.
+-- A replay replays the octets read; or memory ran out or reading failed, and nothing was written.
 abbrev pub Replays : Option (List ℕ) → Option (List ℕ) → Result (Unit {0}) ReplayFault → Option (List ℕ) → Type 0
 Replays left held result held' = ReplaysRead left held result held' ⊎ StopsBefore IsOfStream held result held'

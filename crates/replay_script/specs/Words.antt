@@ -5,7 +5,7 @@ use Rattle.std.specs.Prelude.{ℕ, ◌+◌, ◌*◌, List, [], ◌∷◌}
 abbrev pub word_at : ℕ → ℕ → ℕ
 word_at line place = (8 * line + place) * 65537
 
--- the eight words that are passed with an event line
+-- the eight words of an event line
 abbrev pub words_of : ℕ → List ℕ
 words_of line =
     word_at line 0 ∷ word_at line 1 ∷ word_at line 2 ∷ word_at line 3 ∷ word_at line 4 ∷ word_at line 5 ∷ word_at line 6

@@ -11,8 +11,8 @@ use forwarder_core::{Action, Actions, Client, Why};
 use std::alloc::{AllocError, Allocator};
 use std::io::Write;
 
-/// Prints the actions of the event line of this number, in order. `Device` where writing fails,
-/// `Memory` where memory ran out; a beginning of their lines is then written.
+/// Prints the actions of the event line with this number, in order. `Device` if writing fails,
+/// `Memory` if memory ran out; then a beginning of their lines is written.
 pub(crate) fn print_all<A: Allocator + Copy, W: Write>(
     alloc: A,
     writer: &mut W,
@@ -31,8 +31,8 @@ pub(crate) fn print_all<A: Allocator + Copy, W: Write>(
     Ok(())
 }
 
-/// Prints an action of the event line of this number. `Device` where writing fails, `Memory` where
-/// memory ran out; a beginning of its line is then written.
+/// Prints an action of the event line with this number. `Device` if writing fails, `Memory` if
+/// memory ran out; then a beginning of the line is written.
 pub fn print<A: Allocator + Copy, W: Write>(
     alloc: A,
     writer: &mut W,
@@ -45,7 +45,7 @@ pub fn print<A: Allocator + Copy, W: Write>(
     write_text(writer, text.as_bytes())
 }
 
-/// The line of an action. `Err` where memory ran out.
+/// The line of an action.
 fn text_of<A: Allocator + Copy>(
     alloc: A,
     line: u32,
@@ -78,7 +78,7 @@ fn text_of<A: Allocator + Copy>(
     }
 }
 
-/// The line of a reply. `Err` where memory ran out.
+/// The line of a reply.
 fn text_of_reply<A: Allocator + Copy>(
     alloc: A,
     line: u32,
@@ -96,7 +96,7 @@ fn text_of_reply<A: Allocator + Copy>(
     }
 }
 
-/// The number of the reason for a reply, as printed lines have it.
+/// The number of a reply's reason in printed lines.
 pub(crate) fn number_of(why: Why) -> u8
     ensures { result ≡ number_of why }
 {

@@ -23,7 +23,7 @@ pub const MOST_LINES: u32 = 8191;
 /// Why a line gives no event.
 #[derive(Clone, Copy, PartialEq, Eq, Debug)]
 pub(crate) enum Refusal {
-    /// It has none of the forms.
+    /// The line has none of the forms.
     Form,
     /// Memory ran out.
     Memory,
@@ -37,14 +37,14 @@ impl From<AllocError> for Refusal {
     }
 }
 
-/// An event with the moment at which it comes, in milliseconds.
+/// An event with its moment, in milliseconds.
 #[derive(Drop)]
 pub(crate) struct TimedEvent<A: Allocator> {
     pub moment: u64,
     pub event: Event<A>,
 }
 
-/// The words that are passed with the event line of this number.
+/// The words of the event line with this number.
 pub(crate) fn words(line: u32) -> [u32; 8]
     requires { line ≤ MOST_LINES }
     ensures { result ≡ words_of line }
@@ -62,8 +62,8 @@ pub(crate) fn words(line: u32) -> [u32; 8]
     ]
 }
 
-/// The moment, words and event of the event line of this number. `Line` where it has none of the
-/// forms, `Memory` where memory ran out.
+/// The moment, words and event of the event line with this number. `Line` if the line has none of
+/// the forms, `Memory` if memory ran out.
 pub fn handed_by<A: Allocator>(alloc: A, number: u32, line: &[u8]) -> Result<Handed<A>, ReplayFault>
     requires { number ≤ MOST_LINES }
     ensures words { IfOk result (λ handed. handed.words ≡ words_of number) }
@@ -116,7 +116,7 @@ fn happening<A: Allocator>(alloc: A, text: &str) -> Result<Event<A>, Refusal>
     }
 }
 
-/// An event that has more than a kind.
+/// An event with more than a kind.
 #[tactic(auto, unfolding(crate::specs::Lines::event_in))]
 fn event_of_kind<A: Allocator>(alloc: A, text: &str) -> Result<Event<A>, Refusal>
     ensures { Gives event_of result (event_in text.now) }
@@ -130,7 +130,7 @@ fn event_of_kind<A: Allocator>(alloc: A, text: &str) -> Result<Event<A>, Refusal
     }
 }
 
-/// The first field, and what is after the space after it.
+/// The first field, and the text after the space.
 #[tactic(auto, unfolding(crate::specs::Lines::cut))]
 fn cut(text: &str) -> Result<(&str, &str), Refusal>
     ensures { Shows (λ parts. (parts.0.now, parts.1.now)) result (cut text.now) }
@@ -195,15 +195,15 @@ fn path(transport: &str, at: &str) -> Result<Path, Refusal>
     }
 }
 
-/// The number that 1 to 20 decimal digits write, and nothing else; `None` also where 64 bits don't
-/// have it.
+/// The number in 1 to 20 decimal digits; `None` for any other text and for numbers of more than 64
+/// bits.
 pub fn decimal(text: &str) -> Option<u64>
     ensures { result ≡ read_of (number_in 20 text.now) }
 {
     number(text, 20).ok()
 }
 
-/// A decimal number of 1 to `most` digits that fits 64 bits.
+/// A decimal number of 1 to `most` digits and at most 64 bits.
 #[tactic(auto, unfolding(crate::specs::Lines::number_in))]
 fn number(text: &str, most: usize) -> Result<u64, Refusal>
     ensures { result ≡ number_in most text.now }
@@ -230,7 +230,7 @@ fn has_digits(text: &str) -> bool
     text.as_bytes().iter().all(|octet| octet.is_ascii_digit())
 }
 
-/// A number that fits 16 bits.
+/// A number of at most 16 bits.
 #[tactic(auto, unfolding(crate::specs::Lines::port_in))]
 fn port(text: &str) -> Result<u16, Refusal>
     ensures { result ≡ port_in text.now }

@@ -10,20 +10,20 @@ use std::io;
 use suffix_routes::ConfigFault;
 use thiserror::Error;
 
-/// The reason why a replay stops. Its text is what the program prints.
+/// The reason of a replay's end. Its text is the printed line.
 #[derive(Clone, Copy, PartialEq, Eq, Debug, Error)]
 pub enum ReplayFault {
-    /// The configuration is refused; not since memory ran out, which is `Memory`.
+    /// The configuration is refused, for a reason other than memory.
     #[error("fault {}", .0.number())]
     Config(ConfigFault),
-    /// The event line of this number, from 1, is refused; 0 where no line `---` ends the
+    /// The event line with this number, from 1, is refused; 0 if no line `---` ends the
     /// configuration.
     #[error("line {0}")]
     Line(u32),
     /// Memory ran out.
     #[error("memory")]
     Memory,
-    /// Reading or writing failed, or the input passes its limit.
+    /// Reading or writing failed, or the input is longer than its limit.
     #[error("device")]
     Device,
 }

@@ -17,8 +17,8 @@ pub(crate) const LARGEST: usize = 16_777_216;
 /// The line between a script's configuration and its event lines.
 const SEPARATOR: &[u8] = b"---";
 
-/// All octets that the reader has left. `Device` where reading fails or there are more than
-/// 16,777,216; it reads at most one more than these. `Memory` where memory ran out.
+/// All octets left to the reader. `Device` if reading fails or there are more than 16,777,216; at
+/// most one octet more is read. `Memory` if memory ran out.
 pub fn read_limited<A: Allocator, R: Read>(
     alloc: A,
     reader: &mut R,
@@ -36,8 +36,8 @@ pub fn read_limited<A: Allocator, R: Read>(
     Ok(octets)
 }
 
-/// A script's configuration, and the event lines after its first line `---`; `None` where it has no
-/// such line.
+/// A script's configuration, and the event lines after its first line `---`; `None` without such a
+/// line.
 pub fn parts(script: &[u8]) -> Option<(&[u8], &[u8])>
     ensures some { IfSome result (λ parts. AreParts script.now parts.0.now parts.1.now) }
     ensures none { IfNone result (HasOnePart script.now) }
@@ -55,7 +55,7 @@ pub fn parts(script: &[u8]) -> Option<(&[u8], &[u8])>
     None
 }
 
-/// The first line, and what is after its line feed; `None` where there is no line feed.
+/// The first line, and the text after its line feed; `None` without a line feed.
 pub(crate) fn first_line(text: &[u8]) -> Option<(&[u8], &[u8])>
     ensures some { IfSome result (λ cut. (list_any is_feed cut.0.now ≡ false)
         × (text.now ≡ ended cut.0.now ++ cut.1.now)) }
@@ -72,9 +72,9 @@ fn first_feed(text: &[u8]) -> Option<usize>
     text.iter().position(|octet| *octet == b'\n')
 }
 
-/// The configuration in these octets; octets that are no UTF-8 are no TOML. `heap` is for the
-/// reading of TOML, `alloc` for all else. `Config` where the configuration is refused, `Memory`
-/// where memory ran out.
+/// The configuration in these octets; octets that are not UTF-8 are no TOML. `heap` is for reading
+/// TOML, `alloc` for everything else. `Config` if the configuration is refused, `Memory` if memory
+/// ran out.
 pub fn config_in<A: Allocator + Copy>(
     heap: Global,
     alloc: A,
@@ -94,9 +94,9 @@ pub fn config_in<A: Allocator + Copy>(
     Ok(config)
 }
 
-/// The configuration that the reader gives; it is read to its end. `heap` is for the reading of
-/// TOML, `alloc` for all else. `Device` where reading fails or passes 16,777,216 octets, `Config`
-/// where the configuration is refused, `Memory` where memory ran out.
+/// The configuration of a reader, which is read to its end. `heap` is for reading TOML, `alloc` for
+/// everything else. `Device` if reading fails or there are more than 16,777,216 octets, `Config` if
+/// the configuration is refused, `Memory` if memory ran out.
 pub fn read_config<A: Allocator + Copy, R: Read>(
     heap: Global,
     alloc: A,

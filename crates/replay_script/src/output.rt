@@ -1,4 +1,4 @@
-//! Text, written whole or up to what failed.
+//! Text, written whole or up to a failure.
 
 ghost use Rattle.std.specs.Prelude.{◌≤◌, [], length, take, IfOk, IfErr};
 ghost use Rattle.std.specs.Io.KnownBytes.{Appends};
@@ -8,8 +8,9 @@ ghost use Rattle.replay_script.specs.Printing.{Writes};
 use crate::fault::ReplayFault;
 use std::io::{ErrorKind, Write};
 
-/// Writes all of the text. `Device` where writing fails, `Memory` where it failed because memory
-/// ran out; a beginning of the text is then written, of which `write_all` of a writer says nothing.
+/// Writes the whole text. `Device` if writing fails, `Memory` if writing failed because memory ran
+/// out; then a beginning of the text is written. The contract of a writer's `write_all` does not
+/// mention such beginnings.
 pub(crate) fn write_text<W: Write>(writer: &mut W, text: &[u8]) -> Result<(), ReplayFault>
     ensures { Writes (W.contents writer.old) text.now result (W.contents writer.new) }
 {
@@ -24,9 +25,9 @@ pub(crate) fn write_text<W: Write>(writer: &mut W, text: &[u8]) -> Result<(), Re
     Err(ReplayFault::Device)
 }
 
-/// Writes some of a text that is not empty, and returns how many octets: none where a signal
-/// interrupted. `Device` where writing fails or the writer takes nothing, `Memory` where memory ran
-/// out; then nothing is written.
+/// Writes some of a non-empty text, and returns the number of octets: none after a signal. `Device`
+/// if writing fails or the writer takes nothing, `Memory` if memory ran out; then nothing is
+/// written.
 fn write_some<W: Write>(writer: &mut W, text: &[u8]) -> Result<usize, ReplayFault>
     ensures within { IfOk result (λ count. count ≤ length text.now) }
     ensures wrote { IfOk result (λ count. Appends (W.contents writer.old) (W.contents writer.new)

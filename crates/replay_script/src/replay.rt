@@ -12,18 +12,19 @@ use std::alloc::{Allocator, Global};
 use std::hash::{BuildHasherDefault, FoldHasher};
 use std::io::{Read, Write};
 
-/// Reads a script whole, runs its events on a new forwarder and prints each action, a line each.
+/// Reads a script whole, runs its events on a new forwarder and prints each action on a line.
 ///
-/// A script is a configuration in TOML, a line `---`, and event lines. `heap` is for the reading of
-/// TOML, `alloc` for all else. Faults come in this order: `Device` where reading fails or passes
-/// 16,777,216 octets, `Line(0)` where there is no line `---`, `Config`, then what the run meets:
-/// `Line` for an event line of none of the forms and for each one past 8,191 (lines before it have
-/// run and are printed), `Device` where writing fails. `Memory` where memory ran out at any place.
+/// A script is a configuration in TOML, a line `---`, and event lines. `heap` is for reading TOML,
+/// `alloc` for everything else. Faults come in this order: `Device` if reading fails or there are
+/// more than 16,777,216 octets, `Line(0)` without a line `---`, `Config`, then the faults of the
+/// run: `Line` for an event line of none of the forms and for each line after line 8,191 (the lines
+/// before have run and are printed), `Device` if writing fails. `Memory` if memory ran out at any
+/// point.
 ///
-/// The lines run one after another, each as a step of `Forwarder::step`, up to the first that is
-/// refused. What is written are the lines of the actions of these steps, in order, and these steps
-/// serve truly. Where memory ran out or writing failed, a beginning of these lines is written.
-/// Where a fault comes before the run, nothing is.
+/// The lines run in order, each as a step of `Forwarder::step`, up to the first refused line. The
+/// written text are the lines of the actions of these steps, in order, and these steps serve truly.
+/// If memory ran out or writing failed, a beginning of these lines is written. After a fault before
+/// the run, nothing is written.
 pub fn replay_run<A: Allocator + Copy, R: Read, W: Write>(
     heap: Global,
     alloc: A,
@@ -36,7 +37,7 @@ pub fn replay_run<A: Allocator + Copy, R: Read, W: Write>(
     replay_text(heap, alloc, &script, writer)
 }
 
-/// The same of a script that is read.
+/// Replays a script that was read.
 fn replay_text<A: Allocator + Copy, W: Write>(
     heap: Global,
     alloc: A,
@@ -54,7 +55,7 @@ fn replay_text<A: Allocator + Copy, W: Write>(
     run_lines(alloc, &mut forwarder, events, writer)
 }
 
-/// Runs the event lines, the last of which may end in a line feed.
+/// Runs the event lines, the last with or without a line feed.
 fn run_lines<A: Allocator + Copy, W: Write>(
     alloc: A,
     forwarder: &mut Forwarder<BuildHasherDefault<FoldHasher>, A>,
@@ -78,7 +79,7 @@ fn run_lines<A: Allocator + Copy, W: Write>(
     Ok(())
 }
 
-/// The first line of these octets, which may end without a line feed, and what is after it.
+/// The first line of these octets, with or without a line feed, and the octets after the line.
 fn next_line(text: &[u8]) -> (&[u8], &[u8])
     requires { 0 < length text.now }
     ensures first { lines_of text.now ≡ result.0.now ∷ lines_of result.1.now }
@@ -90,7 +91,7 @@ fn next_line(text: &[u8]) -> (&[u8], &[u8])
     }
 }
 
-/// Runs the event line of this number: it is one step, whose actions are printed.
+/// Runs the event line with this number as one step, and prints its actions.
 fn run_line<A: Allocator + Copy, W: Write>(
     alloc: A,
     forwarder: &mut Forwarder<BuildHasherDefault<FoldHasher>, A>,

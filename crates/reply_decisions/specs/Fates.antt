@@ -1,4 +1,4 @@
--- The fates of questions that waited for a reply which leads on to a name that it does not answer.
+-- The fates of questions that waited for a reply with aliases to an unanswered name.
 use Rattle.std.specs.Prelude.{◌≡◌, ℕ, ◌+◌, ◌<◌, false, List, [], ◌∷◌, ◌++◌, filter, length, map, Option, Some, None}
 use Rattle.std.specs.List.{AllByRecursion}
 use Rattle.dns_message.specs.Values.{Question}
@@ -16,7 +16,7 @@ use Rattle.alias_chains.specs.Seen.{seen_of, Seen, UsesFew}
 use Rattle.waiting_questions.specs.Onward.{Onward}
 use Rattle.step_actions.specs.Fates.{Becomes, replied, stays, fate_in}
 
--- of all of them, in the order of taking, and the entries that their look-ups used
+-- of all of them, in the order of arrival, and the entries used by their look-ups
 pub record Fates : Type 0 where
   pub each : List Becomes
   pub used : List Held

@@ -1,4 +1,4 @@
--- The walk of a reply that was read.
+-- The walk of a reply.
 use Rattle.std.specs.Prelude.{◌≡◌, ℕ, ◌<◌, List, length}
 use Rattle.plain_values.specs.Octets.{AreOctets}
 use Rattle.dns_message.specs.Values.{Message}
@@ -15,12 +15,13 @@ abbrev pub ShowsOctets : Judged → Type 0
 ShowsOctets (Whole message) = AreOctets message
 ShowsOctets other = Unit {0}
 
--- a read message: the data of each record is of its type's shape, and a section's count has 16 bits
+-- a read message: the data of each record has the shape of its type, and a section's count has 16
+-- bits
 pub record IsRead (m : Message) : Type 0 where
   pub shapes : HasShapes m
   pub few : length m.authority < 65536
 
--- the walk of a message that was read, from the name that the ask is for
+-- the walk of a read message, from the ask's name
 pub record IsWalkFor (c : Config) (a : Ask) (w : Walk) : Type 0 where
   pub message : Message
   pub read : IsRead message
@@ -30,6 +31,6 @@ pub record IsWalkFor (c : Config) (a : Ask) (w : Walk) : Type 0 where
 abbrev pub walk_to : List Piece → List Piece → End → Walk
 walk_to pieces authority e = record { pieces = pieces; authority = authority; end = e }
 
--- the walk that carries these and leads on to this name
+-- the walk with these pieces and name servers that leads on to this name
 abbrev pub walk_on : List Piece → List Piece → List (List ℕ) → Walk
 walk_on pieces authority name = walk_to pieces authority (elsewhere name)

@@ -104,8 +104,8 @@ fn retry<'a, 's, H: BuildHasher + Drop, A: Allocator + Copy>(
     }
 }
 
-/// Closes the ask of a failed attempt; then the next one goes out, or those that wait for it get
-/// the reason.
+/// Closes the ask of a failed attempt; then the next ask goes out, or the questions waiting for it
+/// get the reason.
 pub(crate) fn fail<'a, 's, H: BuildHasher + Drop, A: Allocator + Copy>(
     turn: &TurnRef<'a, H, A>,
     ask: &KeyedAsk<A>,
@@ -129,8 +129,7 @@ pub(crate) fn fail<'a, 's, H: BuildHasher + Drop, A: Allocator + Copy>(
     }
 }
 
-/// Decides that a path can't be used any more: its ask is a failed attempt. Nothing where it has no
-/// ask. `Err` where memory ran out.
+/// Decides on the end of a path: its ask is a failed attempt. Nothing without an ask.
 pub fn on_failed_path<'a, 's, H: BuildHasher + Drop, A: Allocator + Copy>(
     turn: &TurnRef<'a, H, A>,
     path: Path,

@@ -1,12 +1,12 @@
 //! The decision on a message on a path to a server. The public function is `on_delivery`, the last
 //! in this file. A reply takes this way:
 //!
-//! 1. `on_delivery`: nothing where no ask on the path is live; otherwise the octets are judged.
+//! 1. `on_delivery`: nothing if no ask on the path is live; otherwise the octets are judged.
 //! 2. `on_verdict`: nothing for a stranger's, `attempt::fail` for a failure, or `on_whole`.
-//! 3. `on_whole` reads the message: `attempt::fail` where it is malformed, or `on_message`.
-//! 4. `on_message` walks it from the question: `attempt::fail` where the server is lame,
-//!    `sending::send_on` where its aliases lead elsewhere, or `accept`.
-//! 5. `accept` answers all questions that wait for the ask, and keeps the pieces.
+//! 3. `on_whole` reads the message: `attempt::fail` if malformed, or `on_message`.
+//! 4. `on_message` walks the message from the question: `attempt::fail` for a lame server,
+//!    `sending::send_on` if aliases lead elsewhere, or `accept`.
+//! 5. `accept` answers all questions waiting for the ask, and keeps the pieces.
 
 ghost use Rattle.std.specs.Prelude.{◌≡◌, ◌^◌, ◌≤◌, ℕ, true, false, Bool, List, IfOk, Some};
 ghost use Rattle.dns_message.specs.Messages.{message_of};
@@ -104,8 +104,8 @@ fn wants_memory(fault: Fault) -> bool
     matches!(fault, Fault::Memory)
 }
 
-/// Reads a whole message that matches the ask, and decides it. One that can't be read is a failed
-/// attempt; `Err` where memory ran out.
+/// Reads a whole message that matches the ask, and decides it. An unreadable message is a failed
+/// attempt; `Err` only if memory ran out.
 fn on_whole<'a, 's, H: BuildHasher + Drop, A: Allocator + Copy>(
     turn: &TurnRef<'a, H, A>,
     ask: &KeyedAsk<A>,
@@ -123,7 +123,7 @@ fn on_whole<'a, 's, H: BuildHasher + Drop, A: Allocator + Copy>(
     }
 }
 
-/// Decides a delivery that was judged. Nothing for a stranger's octets.
+/// Decides a judged delivery. Nothing for a stranger's octets.
 fn on_verdict<'a, 's, H: BuildHasher + Drop, A: Allocator + Copy>(
     turn: &TurnRef<'a, H, A>,
     ask: &KeyedAsk<A>,
@@ -145,9 +145,9 @@ fn on_verdict<'a, 's, H: BuildHasher + Drop, A: Allocator + Copy>(
     }
 }
 
-/// Decides a delivery on a path to a server. Nothing where no ask on the path is live, or the
-/// octets are not its reply. `Err` where memory ran out. Out of line: inlined, what it may hold
-/// would be on the stack of each client's question.
+/// Decides a delivery on a path to a server. Nothing if no ask on the path is live, or the octets
+/// are not its reply. Out of line: inlined, its frame would be on the stack of each client's
+/// question.
 #[inline(never)]
 pub fn on_delivery<'a, 's, H: BuildHasher + Drop, A: Allocator + Copy>(
     turn: &TurnRef<'a, H, A>,

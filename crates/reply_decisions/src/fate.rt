@@ -1,4 +1,4 @@
-//! The fate of one question that waited for a reply which leads on.
+//! The fate of a question that waited for a reply with aliases to an unanswered name.
 
 ghost use Rattle.std.specs.Prelude.{◌≡◌, ◌++◌, ◌+◌, ◌≤◌, ℕ, List, [], length, IfOk};
 ghost use Rattle.std.specs.List.{AllByRecursion};
@@ -23,17 +23,17 @@ use step_texts::failure;
 use step_values::Why;
 use waiting_questions::Waiting;
 
-/// The aliases of a reply that leads on, and the name that they lead to.
+/// The aliases of a reply, and their target.
 #[derive(Drop)]
 pub struct AliasLead<'a, A: Allocator = Global> {
-    /// Its aliases, as held from the moment at which it came.
+    /// The aliases, held from the moment of the reply.
     pub aliases: &'a [Held<A>],
-    /// The name that they lead to.
+    /// The name at the aliases' end.
     pub name: &'a Name<A>,
 }
 
 impl<'a, A: Allocator> AliasLead<'a, A> {
-    /// The question to which the reply leads one that waited for it. It does not allocate.
+    /// `waiting`'s question, at the name at which the CNAMEs of this reply end.
     pub(crate) fn question(&self, waiting: &Waiting<A>) -> QuestionRef<'a>
         ensures { result ≡ asked_at waiting.now.wanted self.now.name.now }
     {

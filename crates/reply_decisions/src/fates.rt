@@ -1,4 +1,4 @@
-//! The fates of all questions that waited for one reply.
+//! The fates of all questions that waited for a reply.
 
 ghost use Rattle.std.specs.Prelude.{◌≡◌, ◌++◌, ◌+◌, ◌≤◌, ◌∷◌, ℕ, List, [], length, map, option_map, IfOk, MatchOption};
 ghost use Rattle.std.specs.Prelude.{None, Some};
@@ -29,8 +29,7 @@ use step_texts::failure;
 use step_values::{Action, Actions, Why};
 use waiting_questions::{SentOn, Waiting, WaitingFor};
 
-/// The fates of questions, in the order in which they were taken, and the entries that their
-/// look-ups used.
+/// The fates of questions, in the order of arrival, and the entries used by their look-ups.
 #[derive(Drop)]
 pub struct Fates<'a, A: Allocator = Global> {
     each: Vec<Fate<A>, A>,
@@ -52,8 +51,7 @@ impl<'a, A: Allocator> Model for Fates<'a, A> {
 }
 
 /// The fates of the questions that waited for a reply which leads on: each is looked up at the name
-/// that it leads to, in the cache as the step finds it, one after another. `Err` where memory ran
-/// out.
+/// that it leads to, in the cache as the step finds it, one after another.
 pub fn fates_behind<'a, H: BuildHasher + Drop, A: Allocator + Copy>(
     turn: &TurnRef<'a, H, A>,
     lead: &AliasLead<'_, A>,
@@ -158,7 +156,7 @@ impl<'a, A: Allocator + Copy> Fates<'a, A> {
     }
 
     /// The question that the first of those that are sent on wants, and so all of them; `None`
-    /// exactly where none is sent on. It does not allocate.
+    /// exactly if none is sent on.
     pub fn wanted(&self) -> Option<&Question<A>>
         ensures wanted { MatchOption result (first_wanted self.now.each ≡ None) (λ q. first_wanted self.now.each
             ≡ Some q.now) }
@@ -172,8 +170,7 @@ impl<'a, A: Allocator + Copy> Fates<'a, A> {
         None
     }
 
-    /// The same, where those that would be sent on fail, since no port is free for an ask. `Err`
-    /// where memory ran out.
+    /// The same, where those that would be sent on fail, since no port is free for an ask.
     pub fn without_port(
         self,
         alloc: A,
@@ -195,7 +192,7 @@ impl<'a, A: Allocator + Copy> Fates<'a, A> {
     }
 
     /// Puts the replies last. Returns, in order, the aliases and the wanted question of each that
-    /// is sent on, and the slots that look-ups used. `Err` where memory ran out.
+    /// is sent on, and the slots that look-ups used.
     pub fn into_parts<'s>(
         self,
         alloc: A,

@@ -13,7 +13,7 @@ use trust_rank::MOST_ALIASES;
 use waiting_questions::Waiting;
 
 /// Looks a question up at the name that a reply leads on to, once it holds the aliases of the reply
-/// too; `None` where these are too many. The slot may be any: the look-up fills it.
+/// too; `None` if these are too many. The slot may be any: the look-up fills it.
 pub(crate) fn look_on<'a, 's, H: BuildHasher + Drop, A: Allocator + Copy>(
     turn: &TurnRef<'a, H, A>,
     slot: &'s mut LookUpSlot,

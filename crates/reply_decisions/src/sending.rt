@@ -58,7 +58,7 @@ fn put_next<A: Allocator + Copy>(
     Ok(())
 }
 
-/// The server of a route that is asked first once this ask is answered.
+/// The first server to ask on a route once this ask is answered.
 fn preferred_then<'a, H: BuildHasher + Drop, A: Allocator + Copy>(
     turn: &TurnRef<'a, H, A>,
     route: RouteId,
@@ -83,8 +83,8 @@ fn preferred_then<'a, H: BuildHasher + Drop, A: Allocator + Copy>(
     }
 }
 
-/// The first ask for a question once this ask is answered, whose port counts as free. `None` where
-/// no route serves its name, or no port is free. `Err` where memory ran out.
+/// The first ask for a question once this ask is answered, whose port counts as free. `None` if no
+/// route serves the name, or no port is free.
 fn first_ask_then<'a, H: BuildHasher + Drop, A: Allocator + Copy>(
     turn: &TurnRef<'a, H, A>,
     answered: &KeyedAsk<A>,
@@ -107,7 +107,7 @@ fn first_ask_then<'a, H: BuildHasher + Drop, A: Allocator + Copy>(
     new_ask(turn, question, attempt, drawn)
 }
 
-/// Whether another ask of the question is listed than the one that is answered.
+/// Whether an ask of the question other than the answered one is listed.
 fn is_asked_beside<'a, H: BuildHasher + Drop, A: Allocator + Copy>(
     turn: &TurnRef<'a, H, A>,
     question: &Question<A>,
@@ -124,7 +124,7 @@ fn is_asked_beside<'a, H: BuildHasher + Drop, A: Allocator + Copy>(
     }
 }
 
-/// The ask for the question of those that are sent on, if none is listed. Where no port is free for
+/// The ask for the question of those that are sent on, if none is listed. If no port is free for
 /// it, they fail.
 fn ask_for_those<'a, H: BuildHasher + Drop, A: Allocator + Copy>(
     turn: &TurnRef<'a, H, A>,
@@ -201,8 +201,7 @@ fn close_and_send_on<'a, 's, H: BuildHasher + Drop, A: Allocator + Copy>(
 }
 
 /// Accepts a reply with these pieces that leads on to a name. Each question that waits for it is
-/// looked up there, and gets its reply or waits on. The pieces are kept. `Err` where memory ran
-/// out.
+/// looked up there, and gets its reply or waits on. The pieces are kept.
 pub(crate) fn send_on<'a, 's, H: BuildHasher + Drop, A: Allocator + Copy>(
     turn: &TurnRef<'a, H, A>,
     answered: &KeyedAsk<A>,

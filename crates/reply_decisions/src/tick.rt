@@ -1,4 +1,4 @@
-//! The decision on the passing of time: the oldest question or the oldest ask, if it is due.
+//! The decision on passing time: the oldest question or the oldest ask, if due.
 
 ghost use Rattle.std.specs.Prelude.{◌≡◌, Bool, List, ◌^◌, ◌≤◌, false, IfOk, Some, drop, slice_get};
 ghost use Rattle.step_table.specs.Row.{is_due_at};
@@ -16,7 +16,7 @@ use step_texts::failure;
 use step_values::Why;
 use waiting_questions::Waiting;
 
-/// The path of the oldest question's ask, where no other question waits for it.
+/// The path of the oldest question's ask, if no further question waits for it.
 fn left_alone<'a, H: BuildHasher + Drop, A: Allocator + Copy>(
     turn: &TurnRef<'a, H, A>,
     oldest: &Waiting<A>,
@@ -34,7 +34,7 @@ fn left_alone<'a, H: BuildHasher + Drop, A: Allocator + Copy>(
     }
 }
 
-/// Decides that the oldest question has waited as long as it may. Its ask is closed if no other
+/// Decides that the oldest question has reached its deadline. Its ask is closed if no further
 /// question waits for it.
 fn expire<'a, 's, H: BuildHasher + Drop, A: Allocator + Copy>(
     turn: &TurnRef<'a, H, A>,
@@ -52,8 +52,7 @@ fn expire<'a, 's, H: BuildHasher + Drop, A: Allocator + Copy>(
     Ok(Decision::without_cache(turn.alloc, actions, Change::Expire(closed)))
 }
 
-/// Decides that time has passed, on the oldest question or the oldest ask, whichever is due first.
-/// `Err` where memory ran out.
+/// Decides on passing time, for the oldest question or the oldest ask, whichever is due first.
 pub fn on_tick<'a, 's, H: BuildHasher + Drop, A: Allocator + Copy>(
     turn: &TurnRef<'a, H, A>,
 ) -> Result<Decision<'a, 's, A>, AllocError>

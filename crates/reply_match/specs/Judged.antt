@@ -13,7 +13,7 @@ verdict_of (Failed rcode) = verdict.Failed rcode
 verdict_of Malformed = verdict.Malformed
 verdict_of (Whole message) = verdict.Whole
 
--- the view, if any, is of these octets
+-- the view, if any, is a view of these octets
 abbrev pub IsViewOf : List ℕ → Judged → Type 0
 IsViewOf octets (Whole message) = message ≡ octets
 IsViewOf octets other = Unit {0}

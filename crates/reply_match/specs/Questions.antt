@@ -3,7 +3,7 @@ use Rattle.std.specs.Prelude.{Bool, false, Option, Some, None}
 use Rattle.dns_message.specs.Values.{Question}
 use Rattle.dns_message.specs.Questions.{same_question}
 
--- a question was read, and it is equal to this one
+-- a question was read, and is equal to this question
 abbrev pub asks_this : Question → Option Question → Bool
 asks_this question None = false
 asks_this question (Some other) = same_question other question

@@ -19,17 +19,17 @@ is_reply ask from octets =
     && ((header_in octets).opcode == 0) && ((header_in octets).id == ask.id)
     && same_peer from ask.peer
 
--- such a reply, with the ask's question and no other (RFC 5452 9.1)
+-- such a reply, with the ask's question alone (RFC 5452 9.1)
 abbrev pub matches : Ask → Peer → List ℕ → Bool
 matches ask from octets = is_reply ask from octets && asks_this ask.question (one_question octets)
 
--- the verdict on octets that match, by whether they can be read whole
+-- the verdict on matching octets, by whether they can be read whole
 abbrev pub judged_whole : Result Message Fault → Verdict
 judged_whole (Ok message) = Whole
 judged_whole (Err fault) = Malformed
 
--- the first that holds: no match, TC, an RCODE other than 0 and 3, not readable whole; otherwise a
--- whole reply
+-- the first in this order: no match, TC, an RCODE other than 0 and 3, not readable whole; otherwise
+-- a whole reply
 abbrev pub judge : Ask → Peer → List ℕ → Verdict
 judge ask from octets =
     if matches ask from octets

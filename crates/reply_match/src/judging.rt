@@ -15,9 +15,9 @@ use outstanding::Ask;
 use std::alloc::Allocator;
 use suffix_routes::Peer;
 
-/// Judges octets from a peer as the reply to an ask: the first verdict that holds, in their order.
-/// An RCODE other than 0 and 3 comes before a message that can't be read whole. A whole message
-/// comes with its view. It does not allocate, and does not look whether the ask is still open.
+/// Judges octets from a peer as the reply to an ask: the first verdict that holds, in the order of
+/// `Verdict`. So an RCODE other than 0 and 3 comes before an unreadable message. A whole message
+/// comes with its view. Whether the ask is still open is not looked at.
 pub fn judge<'a, A: Allocator>(ask: &Ask<A>, from: Peer, bytes: &'a [u8]) -> Judged<'a>
     ensures verdict { verdict_of result ≡ judge ask.now from bytes.now }
     ensures view { IsViewOf bytes.now result }
@@ -40,8 +40,8 @@ pub fn judge<'a, A: Allocator>(ask: &Ask<A>, from: Peer, bytes: &'a [u8]) -> Jud
     whole_verdict(message)
 }
 
-/// The header of a reply to a standard query that has the ask's identifier and comes from its
-/// server. Anything else is a stranger's before its question is read.
+/// The header of a reply to a standard query with the ask's identifier, from its server. Everything
+/// else is a stranger's before the question is read.
 #[tactic(auto, unfolding(dns_message::specs::Header::header_of))]
 fn reply_header<A: Allocator>(ask: &Ask<A>, from: Peer, bytes: &[u8]) -> Option<Header>
     ensures { MatchOption result (is_reply ask.now from bytes.now ≡ false)
@@ -56,14 +56,14 @@ fn reply_header<A: Allocator>(ask: &Ask<A>, from: Peer, bytes: &[u8]) -> Option<
     if is_reply { Some(header) } else { None }
 }
 
-/// One address and one port.
+/// Equal addresses and equal ports.
 fn is_same_peer(a: Peer, b: Peer) -> bool
     ensures { result ≡ same_peer a b }
 {
     a == b
 }
 
-/// The message has one question, and it is equal to this one.
+/// The message has a single question, equal to `question`.
 fn asks_only<A: Allocator>(
     bytes: &[u8],
     header: &Header,

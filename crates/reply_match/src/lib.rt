@@ -1,4 +1,4 @@
-//! Whether octets that came on the path of an ask are its reply, and what can be done with them.
+//! Whether octets on the path of an ask are its reply, and how far the reply is usable.
 #![tactic(auto)]
 
 mod judging;

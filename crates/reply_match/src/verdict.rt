@@ -9,21 +9,20 @@ use dns_message::MessageRef;
 #[derive(Clone, Copy, Debug, PartialEq, Eq)]
 pub enum Verdict {
     /// No reply to the ask (RFC 5452 9.1): under 12 or over 65,535 octets, QR clear, an opcode
-    /// other than 0, another identifier, another source address or port than those of the asked
-    /// server, a QDCOUNT other than 1, or a question that cannot be read or is not equal to that of
-    /// the ask.
+    /// other than 0, a wrong identifier, source address or port, a QDCOUNT other than 1, or a
+    /// question that is unreadable or not equal to the ask's question.
     Stranger,
     /// TC is set: the server had more to say (RFC 1035 4.1.1).
     Truncated,
     /// The RCODE is this one, neither 0 (NOERROR) nor 3 (NXDOMAIN).
     Failed(u8),
-    /// The message cannot be read whole: its counted records are not all there, or one is none.
+    /// The message is not readable whole: counted records are missing or malformed.
     Malformed,
     /// Header, counted questions and counted records can be read.
     Whole,
 }
 
-/// The verdict on octets, and of a whole message its view, which was made to judge it.
+/// The verdict on octets, with the view of a whole message, made while judging.
 #[derive(Drop)]
 pub enum Judged<'a> {
     /// As [`Verdict::Stranger`].
@@ -39,7 +38,7 @@ pub enum Judged<'a> {
 }
 
 impl Judged<'_> {
-    /// The verdict alone. It does not allocate.
+    /// The verdict alone.
     pub fn verdict(&self) -> Verdict
         ensures { result ≡ verdict_of self.now }
     {

@@ -7,16 +7,16 @@ use Rattle.retry_failover.specs.declared.Next.{Next}
 use Rattle.retry_failover.specs.declared.Next.TheVariants.{AskUdp, AskTcp, GiveUp}
 use Rattle.retry_failover.specs.Table.{after_failure}
 
--- which server is asked, and whether over TCP
+-- the asked server, and whether the ask goes over TCP
 pub record Ask : Type 0 where
   pub server : ℕ
   pub tcp : Bool
 
--- the first ask of an inquiry: by UDP, to the server that the group prefers
+-- the first ask of an inquiry: by UDP, to the preferred server of the group
 abbrev pub begun : ℕ → ℕ → ℕ → Plan
 begun servers tries preferred = record { servers = servers; tries = tries; used = 1; server = preferred; tcp = false }
 
--- the ask that is made next: it uses one try
+-- the next ask, which uses one try
 abbrev pub made : Plan → Next → Option Plan
 made plan (AskUdp server) = Some (record plan { used = plan.used + 1; server = server; tcp = false })
 made plan (AskTcp server) = Some (record plan { used = plan.used + 1; server = server; tcp = true })
@@ -26,14 +26,14 @@ made plan GiveUp = None
 abbrev pub ask_of : Plan → Ask
 ask_of plan = record { server = plan.server; tcp = plan.tcp }
 
--- this ask and those that follow it where the asks fail so, one after the other; failures after the
--- last ask are none of its
+-- this ask and the asks after it, if the asks fail so, in order; failures after the last ask count
+-- nothing
 abbrev pub asks_from : Plan → List Failure → List Ask
 asks_from plan [] = ask_of plan ∷ []
 asks_from plan (failure ∷ failures) =
     ask_of plan ∷ (elim (made plan (after_failure plan failure)) [ None ↦ [] | Some later ↦ asks_from later failures ])
 
--- a reply was truncated that came by UDP; the first argument says whether the ask went over TCP
+-- a truncated reply by UDP; the first argument is true for an ask over TCP
 abbrev pub is_cut : Bool → Failure → Bool
 is_cut false Truncated = true
 is_cut tcp failure = false

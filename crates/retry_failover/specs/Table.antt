@@ -16,6 +16,6 @@ row true tcp failure plan = GiveUp
 row false false Truncated plan = AskTcp plan.server
 row false tcp failure plan = AskUdp (next_server plan)
 
--- what follows a failed ask
+-- the step after a failed ask
 abbrev pub after_failure : Plan → Failure → Next
 after_failure plan failure = row (plan.used == plan.tries) plan.tcp failure plan

@@ -1,9 +1,9 @@
-//! The next step after an ask that failed: another ask of the same group of servers, or none.
+//! The next step after a failed ask: a further ask of the group of servers, or none.
 //!
-//! A question goes to one server at a time. The first ask goes by UDP to the server that the group
-//! prefers. A reply with TC set is asked for again over TCP, at the same server (RFC 2181 9, RFC
-//! 7766 5); after any other failure the next server of the group is asked by UDP, round from the
-//! last to the first. Each ask uses up one try.
+//! A question goes to one server at a time. The first ask goes by UDP to the preferred server of
+//! the group. After a reply with TC set, the same server is asked over TCP (RFC 2181 9, RFC 7766
+//! 5); after any other failure the next server of the group is asked by UDP, round from the last to
+//! the first. Each ask uses up one try.
 #![tactic(auto)]
 
 ghost use Rattle.std.specs.Prelude.{◌≡◌, ◌<◌};
@@ -13,14 +13,14 @@ mod laws;
 
 pub use laws::{asks_are_counted, asks_take_turns, every_server_is_asked};
 
-/// An ask that is under way, and what may follow it.
+/// An open ask, and the number of asks that may follow.
 #[derive(Clone, Copy, Debug, PartialEq, Eq)]
 pub struct Plan {
     /// How many servers the group has.
     pub servers: u8,
-    /// How many asks one question may cost.
+    /// The number of asks that a question may cost.
     pub tries: u8,
-    /// How many it has cost, this ask included.
+    /// The number of asks so far, this ask included.
     pub used: u8,
     /// The asked server, by its place in the group from 0.
     pub server: u8,
@@ -35,13 +35,13 @@ pub enum Failure {
     TimedOut,
     /// Its path failed: a port or a connection.
     Broken,
-    /// The reply has TC set: it is cut (RFC 1035 4.1.1).
+    /// The reply has TC set: truncated (RFC 1035 4.1.1).
     Truncated,
     /// The reply cannot be read whole.
     Malformed,
     /// The reply's RCODE is neither 0 nor 3.
     Rcode,
-    /// The reply is whole, but neither answers nor denies: a referral, for one.
+    /// The reply is whole, but neither answers nor denies: a referral, for instance.
     Lame,
 }
 
@@ -56,10 +56,9 @@ pub enum Next {
     GiveUp,
 }
 
-/// The next step after the failure of an ask. Nothing where all tries are used; otherwise, after a
+/// The next step after the failure of an ask. `Nothing` if all tries are used; otherwise, after a
 /// truncated reply over UDP, the same server over TCP; otherwise the next server of the group by
-/// UDP, the first after the last. It does not allocate. The caller makes sure that the asked server
-/// is one of the group.
+/// UDP, the first after the last. The caller makes sure that the asked server is in the group.
 pub fn after(plan: &Plan, failure: Failure) -> Next
     requires { plan.now.server < plan.now.servers }
     ensures { result ≡ after_failure plan.now failure }

@@ -1,4 +1,4 @@
--- A wire in memory: the values that it stores, and its script.
+-- A wire in memory: its stored values, and its script.
 use Rattle.std.specs.Prelude.{◌≡◌, ◌⊎◌, ℕ, ◌+◌, ◌-◌, ◌^◌, ◌==◌, min, Bool, List, [], ◌∷◌, Option, Some, None}
 use Rattle.std.specs.Prelude.{nat_lt, if◌then◌else◌}
 use Rattle.std.specs.Prelude.{drop}
@@ -20,7 +20,7 @@ stored tells arrivals puts moments words =
 
 -- ---- its script
 
--- a round: its arrival, and the moment and the words of each of its steps
+-- a round: its arrival, and the moment and the words of each step
 pub record Round : Type 0 where
   pub arrival : Arrival
   pub moment : ℕ
@@ -30,9 +30,9 @@ pub record Round : Type 0 where
 abbrev pub round_of : {A : Type 0} → ScriptRound A → Round
 round_of round = record { arrival = arrival_of round.arrival; moment = round.moment; words = round.words }
 
--- A wire in memory: its report, and how many faults it counted; the rounds that have not begun; the
--- moment and the words of the round that began last, before the first one of that one; the numbers
--- of the calls of `arrival` and `put` that it refuses, and how many such calls there were.
+-- A wire in memory: its report, and its number of faults; the rounds to come; the moment and the
+-- words of the present round (before the first round, of the first); the numbers of the refused
+-- calls of `arrival` and `put`, and the number of such calls so far.
 pub record Script : Type 0 where
   pub told : Option Told
   pub faults : ℕ
@@ -42,7 +42,7 @@ pub record Script : Type 0 where
   pub refuse : List ℕ
   pub calls : ℕ
 
--- where nothing is given, nothing arrives at the moment 0, and all words are 0
+-- without a round, nothing arrives at the moment 0, and all words are 0
 abbrev pub no_round : Round
 no_round = record { arrival = nothing; moment = 0; words = 0 ∷ 0 ∷ 0 ∷ 0 ∷ 0 ∷ 0 ∷ 0 ∷ 0 ∷ [] }
 
@@ -51,12 +51,12 @@ abbrev pub standing : List Round → Round
 standing [] = no_round
 standing (round ∷ later) = round
 
--- the round that begins next; after the last one nothing arrives, and the moment and the words stay
+-- the next round; after the last round nothing arrives, and the moment and the words stay
 abbrev pub next_of : Script → List Round → Round
 next_of script [] = record { arrival = nothing; moment = script.moment; words = script.words }
 next_of script (round ∷ later) = round
 
--- the round that comes next
+-- the next round
 abbrev pub next_round : Script → Round
 next_round script = next_of script script.to_come
 
@@ -80,25 +80,25 @@ calls_once script = record script { calls = min (script.calls + 1) (2 ^ 64 - 1) 
 abbrev pub faults_once : Script → Script
 faults_once script = record script { faults = script.faults + 1 }
 
--- the script once memory ran out in a call: the count of faults rises, but for its last value
+-- the script once memory ran out in a call: the count of faults rises, up to its last value
 abbrev pub counts_want : Script → Script
 counts_want script = record script {
   faults = if nat_lt script.faults (2 ^ 64 - 1) then script.faults + 1 else script.faults;
 }
 
--- A script as it is to be, in all but its report.
+-- A script equal in all but its report.
 abbrev pub AllButTold : Script → Script → Type 0
 AllButTold wanted script = script ≡ record wanted { told = script.told }
 
--- A script as it is to be, whose report is the one before and this after it.
+-- An equal script, whose report is the report before, with this report at its end.
 abbrev pub Tells : Script → Option Told → Told → Script → Type 0
 Tells wanted told more script = script ≡ record wanted { told = told_more told more }
 
--- A script as it is to be, which is silent from now on.
+-- An equal script, silent from now on.
 abbrev pub IsSilent : Script → Script → Type 0
 IsSilent wanted script = script ≡ record wanted { told = None }
 
--- The report of the call is stored, and nothing else changes; or memory ran out, which counts as a
--- fault, and nothing is reported from now on.
+-- The report of the call is stored, and nothing else changes; or memory ran out, a fault after
+-- which nothing is reported.
 abbrev pub Stores : Script → Told → Script → Type 0
 Stores old more new = Tells old old.told more new ⊎ IsSilent (counts_want old) new

@@ -26,20 +26,19 @@ pub struct ScriptRound<A: Allocator = Global> {
     pub words: [u32; 8],
 }
 
-/// A wire in memory. Its rounds are given beforehand: the arrival of a round comes at its call of
-/// `arrival`, and the moment and the words of the round are those of all steps in it; after the
-/// last round nothing arrives, and its moment and words go on. The caller chooses which calls it
-/// refuses.
-/// It stores all that it gave and took.
+/// A wire in memory, with its rounds given beforehand. A call of `arrival` begins the next round
+/// and gives its arrival; moment and words of the round are those of all steps until the next.
+/// After the last round nothing arrives, and moment and words stay. The caller chooses the refused
+/// calls. Everything given and taken is stored.
 #[derive(Drop)]
 pub struct ScriptWire<A: Allocator = Global> {
-    /// The rounds that have not begun.
+    /// The rounds to come.
     to_come: VecDeque<ScriptRound<A>, A>,
-    /// The moment of the round that began last; before the first one, of that one.
+    /// The moment of the present round; before the first round, of the first.
     moment: u64,
-    /// The words of the same round.
+    /// The words of this round.
     words: [u32; 8],
-    /// The numbers of the calls of `arrival` and `put` that are refused, counted together from 0.
+    /// The numbers of the refused calls of `arrival` and `put`, counted together from 0.
     refuse: Vec<u64, A>,
     /// How many such calls there were.
     calls: u64,
@@ -65,8 +64,8 @@ impl<A: Allocator> Model for ScriptWire<A> {
 }
 
 impl<A: Allocator + Copy> ScriptWire<A> {
-    /// A wire that gives these rounds, and refuses the calls of `arrival` and `put` with these
-    /// numbers, counted together from 0. It does not allocate.
+    /// A wire with these rounds, which refuses the calls of `arrival` and `put` with these numbers,
+    /// counted together from 0.
     pub fn new(alloc: A, turns: Vec<ScriptRound<A>, A>, refuse: Vec<u64, A>) -> ScriptWire<A>
         ensures told { result.told ≡ Some silence }
         ensures faults { result.faults ≡ 0 }
@@ -87,8 +86,7 @@ impl<A: Allocator + Copy> ScriptWire<A> {
         }
     }
 
-    /// The actions that were put, in order, each with true where its put was not refused. It does
-    /// not allocate.
+    /// The actions so far, in order, each with true if not refused.
     pub fn puts(&self) -> &[(Action<A>, bool)]
         ensures { IfSome self.now.told (λ told. map put_of result.now ≡ told.puts) }
     {
@@ -110,7 +108,7 @@ impl<A: Allocator + Copy> ScriptWire<A> {
         }
     }
 
-    /// Counts a call of `arrival` or `put`, and says whether it is to be refused.
+    /// Counts a call of `arrival` or `put`, and returns whether the script refuses the call.
     fn is_refused(&mut self) -> bool
         ensures refused { result ≡ refuses self.old }
         ensures counts { self.new ≡ calls_once self.old }
@@ -129,7 +127,7 @@ impl<A: Allocator + Copy> ScriptWire<A> {
         }
     }
 
-    /// Stores and returns the moment of the round. Where memory ran out, that counts as a fault and
+    /// Stores and returns the moment of the round. Running out of memory counts as a fault, and
     /// nothing more is reported.
     fn tell_moment(&mut self) -> u64
         ensures of_the_round { result ≡ self.old.moment }
@@ -142,7 +140,7 @@ impl<A: Allocator + Copy> ScriptWire<A> {
         moment
     }
 
-    /// Stores and returns the words of the round. Where memory ran out, that counts as a fault and
+    /// Stores and returns the words of the round. Running out of memory counts as a fault, and
     /// nothing more is reported.
     fn tell_words(&mut self) -> [u32; 8]
         ensures of_the_round { result ≡ self.old.words }
@@ -252,7 +250,7 @@ impl<A: Allocator + Copy> Wire<A> for ScriptWire<A> {
     }
 }
 
-/// The report of a wire, stored. Once memory ran out it reports nothing more.
+/// The report of a wire, stored. Nothing more is reported once memory ran out.
 #[derive(Drop)]
 struct Stored<A: Allocator> {
     alloc: A,
@@ -337,7 +335,7 @@ impl<A: Allocator + Copy> Stored<A> {
         self.push_put(copy, sent)
     }
 
-    /// Stores an arrival. `Err` where memory ran out: nothing more is reported then.
+    /// Stores an arrival. Out of memory, nothing more is reported.
     fn keep_arrival(&mut self, arrival: &Arrival<A>) -> Result<(), AllocError>
         ensures kept { OnOk result (self.new ≡ told_more self.old (arrived (Some (arrival_of arrival.now)))) }
         ensures lost { OnErr result (self.new ≡ None) }
@@ -351,7 +349,7 @@ impl<A: Allocator + Copy> Stored<A> {
         }
     }
 
-    /// Stores that an arrival was refused. Where memory ran out nothing more is reported.
+    /// Stores the refusal of an arrival. Out of memory, nothing more is reported.
     fn keep_refusal(&mut self)
         ensures { (self.new ≡ told_more self.old (arrived None)) ⊎ (self.new ≡ None) }
     {
@@ -361,8 +359,7 @@ impl<A: Allocator + Copy> Stored<A> {
         }
     }
 
-    /// Stores an action and whether it was sent. `Err` where memory ran out: nothing more is
-    /// reported then.
+    /// Stores an action and whether it was sent. Out of memory, nothing more is reported.
     fn keep_put(&mut self, action: &Action<A>, sent: bool) -> Result<(), AllocError>
         ensures kept { OnOk result (self.new ≡ told_more self.old (was_put (action_of action.now) sent)) }
         ensures lost { OnErr result (self.new ≡ None) }
@@ -376,7 +373,7 @@ impl<A: Allocator + Copy> Stored<A> {
         }
     }
 
-    /// Stores a moment in milliseconds. `Err` where memory ran out: nothing more is reported then.
+    /// Stores a moment in milliseconds. Out of memory, nothing more is reported.
     fn keep_moment(&mut self, moment: u64) -> Result<(), AllocError>
         ensures kept { OnOk result (self.new ≡ told_more self.old (moment_was moment)) }
         ensures lost { OnErr result (self.new ≡ None) }
@@ -390,7 +387,7 @@ impl<A: Allocator + Copy> Stored<A> {
         }
     }
 
-    /// Stores words. `Err` where memory ran out: nothing more is reported then.
+    /// Stores words. Out of memory, nothing more is reported.
     fn keep_words(&mut self, words: [u32; 8]) -> Result<(), AllocError>
         ensures kept { OnOk result (self.new ≡ told_more self.old (words_were words)) }
         ensures lost { OnErr result (self.new ≡ None) }
@@ -404,7 +401,7 @@ impl<A: Allocator + Copy> Stored<A> {
         }
     }
 
-    /// The actions that were put.
+    /// The actions so far.
     fn puts(&self) -> &[(Action<A>, bool)]
         ensures { IfSome self.now (λ told. map put_of result.now ≡ told.puts) }
     {
@@ -412,7 +409,7 @@ impl<A: Allocator + Copy> Stored<A> {
     }
 }
 
-/// The moment and the words of a wire of these rounds before the first one begins.
+/// The moment and the words of a wire with these rounds before the first begins.
 #[tactic(auto, using(crate::proofs::Storing::standing_some, crate::proofs::Storing::standing_none))]
 fn stands_at<A: Allocator>(rounds: &[ScriptRound<A>]) -> (u64, [u32; 8])
     ensures { (result.0 ≡ (standing (map round_of rounds.now)).moment)

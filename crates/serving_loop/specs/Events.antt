@@ -15,8 +15,7 @@ use Rattle.wires.specs.Wire.{server_stream, path_gone, Put}
 
 -- ---- streams
 
--- the octets on a client's connection since the beginning or since it closed, once this has come
--- too
+-- the octets on a client's connection since the beginning or the last close, after this arrival
 abbrev pub client_octets_with : ℕ → List ℕ → Option Arrival → List ℕ
 client_octets_with conn octets None = octets
 client_octets_with conn octets (Some nothing) = octets
@@ -27,7 +26,7 @@ client_octets_with conn octets (Some (server_datagram port from datagram)) = oct
 client_octets_with conn octets (Some (server_stream other from piece)) = octets
 client_octets_with conn octets (Some (path_gone path)) = octets
 
--- the same on a connection to a server
+-- the octets on a connection to a server, after this arrival
 abbrev pub server_octets_with : ℕ → List ℕ → Option Arrival → List ℕ
 server_octets_with conn octets None = octets
 server_octets_with conn octets (Some nothing) = octets
@@ -40,8 +39,8 @@ server_octets_with conn octets (Some (server_stream other from piece)) =
 server_octets_with conn octets (Some (path_gone (Udp port))) = octets
 server_octets_with conn octets (Some (path_gone (Tcp other))) = if conn == other then [] else octets
 
--- the octets on a connection: those that were there, followed by those of these arrivals; only
--- those since it closed, where it did
+-- the octets on a connection: the octets before, followed by the octets of these arrivals; after a
+-- close, only later octets
 abbrev pub client_octets : ℕ → List ℕ → List (Option Arrival) → List ℕ
 client_octets conn octets [] = octets
 client_octets conn octets (a ∷ arrivals) = client_octets conn (client_octets_with conn octets a) arrivals
@@ -66,8 +65,8 @@ abbrev pub server_message : ℕ → Peer → List ℕ → Event
 server_message conn from message = delivery (Tcp conn) from message
 
 -- The events of an arrival. Nothing, the end of a client's connection and a refused arrival are no
--- event. A datagram is one, and a piece of a stream is one for each frame that it completes, in
--- order. The end of a path to a server is its failure.
+-- event. A datagram is one event, and a piece of a stream one for each frame that ends in the
+-- piece, in order. The end of a path to a server is its failure.
 abbrev pub events_of : List (Option Arrival) → Option Arrival → List Event
 events_of past None = []
 events_of past (Some nothing) = []
@@ -82,44 +81,44 @@ events_of past (Some (path_gone path)) = path_failed path ∷ []
 
 -- ---- events that the forwarder takes
 
--- an event that the forwarder took, its outcome, unless memory ran out, and what was put of it
+-- an event of the forwarder, its outcome, unless memory ran out, and its puts
 pub record Taken : Type 0 where
   pub handed : Handed
   pub answer : Option Outcome
   pub puts : List Put
 
--- the actions of an outcome; none where memory ran out
+-- the actions of an outcome; none if memory ran out
 abbrev pub actions_in : Option Outcome → List Action
 actions_in None = []
 actions_in (Some outcome) = outcome.actions
 
--- what was put are its actions, in order
+-- the puts are the event's actions, in order
 abbrev pub PutsItsActions : Taken → Type 0
 PutsItsActions x = map (λ p. p.action) x.puts ≡ actions_in x.answer
 
--- the step that was made, if memory was there
+-- the step, unless memory ran out
 abbrev pub step_in : Taken → Option Step
 step_in x = option_map (λ outcome. record { handed = x.handed; outcome = outcome }) x.answer
 
--- the steps that were made: an event that found no memory is none
+-- the steps; an event that found no memory is none
 abbrev pub steps_in : List Taken → List Step
 steps_in taken = filter_map step_in taken
 
--- the path of an ask that the wire refused
+-- the path of a refused ask
 abbrev pub refused_path : Put → Option Path
 refused_path p = if p.sent then None else option_map (λ ask. ask.path) (ask_in p.action)
 
--- the second path, or the first where there is no second
+-- the second path, or the first without a second
 abbrev pub later : Option Path → Option Path → Option Path
 later last None = last
 later last (Some path) = Some path
 
--- the path of the last ask that the wire refused; a step asks once at most
+-- the path of the last refused ask; a step asks once at most
 abbrev pub failed_of : Option Path → List Put → Option Path
 failed_of last [] = last
 failed_of last (p ∷ puts) = failed_of (later last (refused_path p)) puts
 
--- The event, if any, and after each ask that the wire refused the failure of its path.
+-- The event, if any, and after each refused ask the failure of its path.
 abbrev pub IsChain : Option Event → List Taken → Type 0
 IsChain None [] = Unit {0}
 IsChain None (x ∷ taken) = ⊥
@@ -132,14 +131,14 @@ abbrev pub joined : List (List Taken) → List Taken
 joined [] = []
 joined (chain ∷ chains) = chain ++ joined chains
 
--- for each event in order what was taken for it
+-- a chain for each event, in order
 abbrev pub AreChains : List Event → List (List Taken) → Type 0
 AreChains [] [] = Unit {0}
 AreChains [] (chain ∷ chains) = ⊥
 AreChains (event ∷ events) [] = ⊥
 AreChains (event ∷ events) (chain ∷ chains) = IsChain (Some event) chain × AreChains events chains
 
--- whether more is due; not where memory ran out
+-- whether more is due; not if memory ran out
 abbrev pub more_in : Option Outcome → Bool
 more_in None = false
 more_in (Some outcome) = outcome.more
@@ -149,7 +148,7 @@ abbrev pub tells_more : List Taken → Bool
 tells_more [] = false
 tells_more (x ∷ taken) = more_in x.answer
 
--- Ticks, if one is wanted, until one answers that nothing more is due, or finds no memory.
+-- Ticks, if wanted, until a tick reports that nothing more is due, or finds no memory.
 abbrev pub AreTicks : Bool → List (List Taken) → Type 0
 AreTicks false [] = Unit {0}
 AreTicks false (chain ∷ chains) = ⊥
@@ -158,13 +157,13 @@ AreTicks true (chain ∷ chains) = IsChain (Some tick) chain × AreTicks (tells_
 
 -- ---- rounds
 
--- a round: what arrived, what was taken for each of its events, and what was taken for each tick
+-- a round: the arrival, the steps for each of its events, and the steps for each tick
 pub record Round : Type 0 where
   pub arrival : Option Arrival
   pub served : List (List Taken)
   pub ticks : List (List Taken)
 
--- the steps of a round: those of its events, and its ticks
+-- the steps of a round: the events' and the ticks'
 abbrev pub taken_in_round : Round → List Taken
 taken_in_round r = joined r.served ++ joined r.ticks
 
@@ -174,14 +173,14 @@ taken_in [] = []
 taken_in (r ∷ rounds) = taken_in_round r ++ taken_in rounds
 
 -- A whole round after these arrivals: each event of its arrival, then ticks, at most one more than
--- the questions and tries that there can be.
+-- all questions and tries together.
 pub record IsRound (c : Config) (past : List (Option Arrival)) (r : Round) : Type 0 where
   pub served : AreChains (events_of past r.arrival) r.served
   pub ticks : AreTicks true r.ticks
   pub few : length r.ticks ≤ suc (c.limits.questions + c.limits.inquiries * c.limits.tries)
 
--- a piece of a stream: a reader has to hold it, and to give its frames, before these are events,
--- which allocates
+-- a piece of a stream: a reader has to take the piece and give its frames, which allocates, before
+-- they are events
 abbrev pub IsPiece : Option Arrival → Type 0
 IsPiece None = ⊥
 IsPiece (Some nothing) = ⊥
@@ -192,9 +191,8 @@ IsPiece (Some (server_datagram port from datagram)) = ⊥
 IsPiece (Some (server_stream conn from piece)) = Unit {0}
 IsPiece (Some (path_gone path)) = ⊥
 
--- A round in which memory ran out between two events of its arrival, which is a piece of a stream:
--- those before were served. An event that the forwarder lost because memory ran out cuts no round
--- short.
+-- A round in which memory ran out between two events of its arrival, a piece of a stream: the
+-- events before were served. An event lost by the forwarder for lack of memory cuts no round short.
 pub record IsCutShort (past : List (Option Arrival)) (r : Round) : Type 0 where
   pub piece : IsPiece r.arrival
   pub done : List Event
@@ -203,7 +201,7 @@ pub record IsCutShort (past : List (Option Arrival)) (r : Round) : Type 0 where
   pub served : AreChains done r.served
   pub ticks : r.ticks ≡ []
 
--- each is a round of the loop after the arrivals before it
+-- each is a round of the loop after the arrivals before
 abbrev pub AreRounds : Config → List (Option Arrival) → List Round → Type 0
 AreRounds c past [] = Unit {0}
 AreRounds c past (r ∷ rounds) = IsRound c past r × AreRounds c (past ++ r.arrival ∷ []) rounds

@@ -13,8 +13,8 @@ use Rattle.serving_loop.specs.Serving.{Standing, Does, Adds, refused_of, left}
 abbrev pub told_of_puts : List Put → Told
 told_of_puts puts = record silence { puts = puts }
 
--- These actions were put in order. `last` is the path that failed last before them, `failed` the
--- one after them.
+-- These actions were put in order. `last` is the last failed path before, `failed` the last failed
+-- path after.
 pub record Puts (last : Option Path) (actions : List Action) (failed : Option Path) (told told_after : Telling)
     (counts counts_after : Served) : Type 0 where
   pub puts : List Put
@@ -26,11 +26,11 @@ pub record Puts (last : Option Path) (actions : List Action) (failed : Option Pa
   pub lost : counts_after.lost ≡ counts.lost
   pub arrivals : counts_after.refused_arrivals ≡ counts.refused_arrivals
 
--- the most that a forwarder can have left to do
+-- the most work left to a forwarder
 abbrev pub most_left : Running → ℕ
 most_left r = r.config.limits.questions + r.config.limits.inquiries * r.config.limits.tries
 
--- an event that the loop makes itself
+-- an event made by the loop itself
 abbrev pub IsOwn : Event → Type 0
 IsOwn (from_client client octets) = ⊥
 IsOwn (delivery path from octets) = ⊥
@@ -38,13 +38,13 @@ IsOwn (path_failed path) = Unit {0}
 IsOwn tick = Unit {0}
 IsOwn restart = ⊥
 
--- Less is left to do; or nothing was done, no path failed by it, and a tick reported that nothing
--- more is due.
+-- Less is left to do; or nothing was done, no path failed, and a tick reported that nothing more is
+-- due.
 abbrev pub StepsDown : Running → Running → Event → Option Path → Bool → Type 0
 StepsDown before after event failed more = (left after < left before)
     ⊎ ((failed ≡ None) × (left after ≡ left before) × (event ≡ tick → more ≡ false))
 
--- The forwarder took one event.
+-- The forwarder took an event.
 pub record Hands (event : Event) (failed : Option Path) (more : Bool) (before after : Standing) : Type 0 where
   pub taken : Taken
   pub event_is : taken.handed.event ≡ event
@@ -54,7 +54,7 @@ pub record Hands (event : Event) (failed : Option Path) (more : Bool) (before af
   pub bounded : left before.running ≤ most_left before.running
   pub falls : IsOwn event → StepsDown before.running after.running event failed more
 
--- The forwarder took an event, and after it the failures of the paths that failed by it.
+-- The forwarder took an event, and after it the failures of the paths of refused asks.
 pub record HandsOn (event : Event) (more : Bool) (before after : Standing) : Type 0 where
   pub chain : List Taken
   pub is_chain : IsChain (Some event) chain

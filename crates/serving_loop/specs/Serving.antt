@@ -15,7 +15,7 @@ use Rattle.serving_loop.specs.Events.{IsCutShort}
 
 -- ---- the report of a wire
 
--- a moment and words for each event, and what was put of it
+-- a moment and words for each event, and its puts
 abbrev pub told_of : Taken → Told
 told_of x = record { arrivals = []; puts = x.puts; moments = x.handed.now ∷ []; words = x.handed.words ∷ [] }
 
@@ -45,18 +45,18 @@ abbrev pub lost_in : List Taken → ℕ
 lost_in [] = 0
 lost_in (x ∷ taken) = lost_by x.answer + lost_in taken
 
--- 1 for an action other than an ask that the wire refused, otherwise 0
+-- 1 for a refused action other than an ask, otherwise 0
 abbrev pub refused_by : Option SentAsk → Bool → ℕ
 refused_by ask true = 0
 refused_by (Some ask) false = 0
 refused_by None false = 1
 
--- how many of these puts were refused, asks left out
+-- the number of refused puts, without asks
 abbrev pub refused_of : List Put → ℕ
 refused_of [] = 0
 refused_of (p ∷ puts) = refused_by (ask_in p.action) p.sent + refused_of puts
 
--- how many puts of these steps were refused, asks left out
+-- the number of refused puts of these steps, without asks
 abbrev pub refused_in : List Taken → ℕ
 refused_in [] = 0
 refused_in (x ∷ taken) = refused_of x.puts + refused_in taken
@@ -71,27 +71,27 @@ abbrev pub missed_in : List Round → ℕ
 missed_in [] = 0
 missed_in (r ∷ rounds) = missed_by r.arrival + missed_in rounds
 
--- a count that has reached its last value stays there
+-- a count at its last value stays there
 abbrev pub capped : ℕ → ℕ
 capped n = min n (2 ^ 64 - 1)
 
--- a count that rose by `n`, up to its last value
+-- a count after a rise by `n`, up to its last value
 abbrev pub Adds : ℕ → ℕ → ℕ → Type 0
 Adds before n after = before ≤ 2 ^ 64 - 1 → after ≡ capped (before + n)
 
 -- ---- what is done
 
--- where the loop is: the forwarder, what the wire reported with its faults, and the counts
+-- the state of the loop: the forwarder, the wire's report with its faults, and the counts
 pub record Standing : Type 0 where
   pub running : Running
   pub told : Telling
   pub counts : Served
 
--- where the loop is: the forwarder, what the wire reported, and the counts
+-- this state of the loop: the forwarder, the wire's report, and the counts
 abbrev pub standing : Running → Telling → Served → Standing
 standing running told counts = record { running = running; told = told; counts = counts }
 
--- Between the two the forwarder took these events: the steps are a run of it, and all their actions
+-- Between two states the forwarder took these events: the steps are a run, and all their actions
 -- were put.
 pub record Does (before : Standing) (taken : List Taken) (after : Standing) : Type 0 where
   pub config : after.running.config ≡ before.running.config
@@ -103,13 +103,13 @@ pub record Does (before : Standing) (taken : List Taken) (after : Standing) : Ty
   pub turns : after.counts.turns ≡ before.counts.turns
   pub refused_arrivals : after.counts.refused_arrivals ≡ before.counts.refused_arrivals
 
--- what a forwarder has left to do
+-- the work left to a forwarder
 abbrev pub left : Running → ℕ
 left r = left_to_do r.config r.state
 
 -- A call of `serve` takes `wanted` whole rounds, and counts them and, up to 2^64 - 1 each, lost
--- events, refused puts other than asks, and refused arrivals. Where memory ran out it takes fewer,
--- and one cut short.
+-- events, refused puts other than asks, and refused arrivals. If memory ran out there are fewer
+-- rounds, and one cut short.
 abbrev pub Ends : Running → ℕ → List Round → Result Served AllocError → Type 0
 Ends before wanted rounds (Ok counts) = (length rounds ≡ wanted) × AreRounds before.config [] rounds
     × (counts ≡ record {
@@ -123,8 +123,8 @@ Ends before wanted rounds (Err refused) = (whole : List Round)
     × IsCutShort (map (λ (r : Round). r.arrival) whole) last)
 
 -- A call of `serve` (`Ends`): its steps are a run of the forwarder, which serves truly after any
--- earlier ones. Its puts are the actions in order. The wire reports just this, and all of it if it
--- reported before and counted no fault.
+-- earlier steps. Its puts are the actions in order. The wire reports just this, and all of it if
+-- the wire reported before and counted no fault.
 pub record Serves (before : Running) (told_before : Telling) (wanted : ℕ) (result : Result Served AllocError)
     (after : Running) (told_after : Telling) : Type 0 where
   pub rounds : List Round

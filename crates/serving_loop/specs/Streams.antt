@@ -1,4 +1,4 @@
--- The unfinished rest of the streams, and the events that an arrival completes.
+-- The unfinished rest of the streams, and the events completed by an arrival.
 use Rattle.std.specs.Prelude.{◌≡◌, ℕ, suc, ◌≤◌, true, if◌then◌else◌, ◌==◌, List, [], ◌∷◌, ◌++◌, length, map, Option}
 use Rattle.std.specs.Prelude.{Some, None, unwrap_or, Result, OnOk, OnErr}
 use Rattle.std.specs.Ordering.{nat_cmp}
@@ -18,7 +18,7 @@ use Rattle.serving_loop.specs.Events.{AreChains, AreTicks, Round, taken_in_round
 use Rattle.serving_loop.specs.Serving.{Standing, Does, Adds, missed_by}
 use Rattle.serving_loop.specs.Handing.{most_left}
 
--- the octets of a connection that no whole frame has taken yet
+-- the octets of a connection after its last whole frame
 abbrev pub left_on : BTreeMap ℕ (List ℕ) → ℕ → List ℕ
 left_on readers conn = unwrap_or (get nat_cmp readers conn) []
 
@@ -27,7 +27,7 @@ abbrev pub message_from : Sender → List ℕ → Event
 message_from (FromClient conn) message = client_message conn message
 message_from (FromServer conn from) message = server_message conn from message
 
--- the events of an arrival, by what is left of the streams before it
+-- the events of an arrival, by the rest of the streams before
 abbrev pub events_by : {A : Type 0} → Streams A → Option Arrival → List Event
 events_by s None = []
 events_by s (Some nothing) = []
@@ -39,7 +39,7 @@ events_by s (Some (server_stream conn from piece)) =
     map (server_message conn from) (frames_of (left_on s.servers conn ++ piece))
 events_by s (Some (path_gone path)) = path_failed path ∷ []
 
--- what is left on a client's connection after an arrival
+-- the rest on a client's connection after an arrival
 abbrev pub client_left_with : ℕ → List ℕ → Option Arrival → List ℕ
 client_left_with conn left None = left
 client_left_with conn left (Some nothing) = left
@@ -69,13 +69,13 @@ pub record Follows {A : Type 0} (s : Streams A) (a : Option Arrival) (s' : Strea
   pub clients : (conn : ℕ) → left_on s'.clients conn ≡ client_left_with conn (left_on s.clients conn) a
   pub servers : (conn : ℕ) → left_on s'.servers conn ≡ server_left_with conn (left_on s.servers conn) a
 
--- the readers have what is left of the octets that came on each connection
+-- the readers have the rest of the octets on each connection
 pub record Tracks {A : Type 0} (past : List (Option Arrival)) (s : Streams A) : Type 0 where
   pub clients : (conn : ℕ) → left_on s.clients conn ≡ unfinished_of (client_octets conn [] past)
   pub servers : (conn : ℕ) → left_on s.servers conn ≡ unfinished_of (server_octets conn [] past)
 
--- These messages of the reader were served, in order, each as an event; where memory ran out, the
--- first of them alone.
+-- These messages of the reader were served, in order, each as an event; if memory ran out, only the
+-- first of them.
 pub record ServesFrames (sender : Sender) (stream : List ℕ) (result : Result (Unit {0}) AllocError) (rest : List ℕ)
     (before after : Standing) : Type 0 where
   pub chains : List (List Taken)
@@ -86,7 +86,7 @@ pub record ServesFrames (sender : Sender) (stream : List ℕ) (result : Result (
   pub does : Does before (joined chains) after
   pub ok : OnOk result ((missed ≡ []) × (rest ≡ unfinished_of stream))
 
--- These events were served, in order; where memory ran out, the first of them alone.
+-- These events were served, in order; if memory ran out, only the first of them.
 pub record ServesEvents (events : List Event) (result : Result (Unit {0}) AllocError)
     (before after : Standing) : Type 0 where
   pub chains : List (List Taken)
@@ -116,7 +116,7 @@ pub record TakesArrival {A : Type 0} (s : Streams A) (result : Result (Unit {0})
   pub follows : OnOk result (Follows s arrival s')
   pub piece : OnErr result (IsPiece arrival)
 
--- Those before were served, and no tick.
+-- The events before were served, and no tick.
 pub record StopsShort {A : Type 0} (s : Streams A) (r : Round) : Type 0 where
   pub piece : IsPiece r.arrival
   pub done : List Event
@@ -132,7 +132,7 @@ pub record MakesRound {A : Type 0} (s : Streams A) (r : Round) (s' : Streams A) 
   pub few : length r.ticks ≤ suc (most_left before.running)
   pub follows : Follows s r.arrival s'
 
--- A round was made, or memory ran out in it.
+-- A round was made, or memory ran out in the round.
 pub record TakesRound {A : Type 0} (s : Streams A) (result : Result (Unit {0}) AllocError) (s' : Streams A)
     (before after : Standing) : Type 0 where
   pub round : Round

@@ -1,15 +1,14 @@
 //! The counts of a call of `serve`.
 
-/// The counts of a call of `serve`. Each count stays at its last value, 2^64 - 1, once it has
-/// reached it.
+/// The counts of a call of `serve`. Each count stays at its last value, 2^64 - 1.
 #[derive(Clone, Copy, PartialEq, Eq, Debug, Drop)]
 pub struct Served {
-    /// The number of rounds of the loop: a call's `turns` counts these.
+    /// The number of rounds of the loop, which a call's `turns` counts.
     pub turns: u64,
     /// The number of events that found no memory.
     pub lost: u64,
-    /// The number of actions other than asks that the wire refused.
+    /// The number of refused actions other than asks.
     pub refused_puts: u64,
-    /// The number of arrivals that the wire refused.
+    /// The number of refused arrivals.
     pub refused_arrivals: u64,
 }

@@ -13,17 +13,17 @@ use std::hash::BuildHasher;
 use step_values::{Action, Actions, Event, Path};
 use wires::Wire;
 
-/// The result of one event.
+/// The result of an event.
 #[derive(Clone, Copy, Drop)]
 pub(crate) struct Handled {
-    /// The path of an ask that the wire refused.
+    /// The path of a refused ask.
     pub failed: Option<Path>,
     /// Whether something is due already.
     pub more: bool,
 }
 
-/// Gives an event to the forwarder, and after each ask that the wire refuses the failure of its
-/// path. Returns whether more was due after the event.
+/// Gives an event to the forwarder, and after each refused ask the failure of its path. Returns
+/// whether more was due after the event.
 pub(crate) fn hand_on<H: BuildHasher + Drop, A: Allocator + Copy, W: Wire<A>>(
     wire: &mut W,
     forwarder: &mut Forwarder<H, A>,
@@ -62,7 +62,7 @@ pub(crate) fn hand_datagram<H: BuildHasher + Drop, A: Allocator + Copy, W: Wire<
     more
 }
 
-/// Gives ticks to the forwarder until one reports that nothing more is due, or finds no memory.
+/// Gives ticks to the forwarder until a tick reports that nothing more is due, or finds no memory.
 pub(crate) fn tick_on<H: BuildHasher + Drop, A: Allocator + Copy, W: Wire<A>>(
     wire: &mut W,
     forwarder: &mut Forwarder<H, A>,
@@ -75,8 +75,8 @@ pub(crate) fn tick_on<H: BuildHasher + Drop, A: Allocator + Copy, W: Wire<A>>(
     while hand_on(wire, forwarder, counts, &Event::Tick) {}
 }
 
-/// Gives one event to the forwarder, and puts the actions of its step. An event that finds no
-/// memory is lost.
+/// Gives an event to the forwarder, and puts the actions of its step. An event that finds no memory
+/// is lost.
 fn hand<H: BuildHasher + Drop, A: Allocator + Copy, W: Wire<A>>(
     wire: &mut W,
     forwarder: &mut Forwarder<H, A>,
@@ -104,7 +104,7 @@ fn hand<H: BuildHasher + Drop, A: Allocator + Copy, W: Wire<A>>(
     }
 }
 
-/// Puts actions in order. Returns the path of the ask that was refused, if any.
+/// Puts actions in order. Returns the path of the refused ask, if any.
 fn put_all<A: Allocator + Copy, W: Wire<A>>(
     wire: &mut W,
     counts: &mut Served,
@@ -124,7 +124,7 @@ fn put_all<A: Allocator + Copy, W: Wire<A>>(
     failed
 }
 
-/// Puts one action. Returns the path of the ask that was refused last.
+/// Puts an action. Returns the path of the last refused ask.
 fn put<A: Allocator, W: Wire<A>>(
     wire: &mut W,
     counts: &mut Served,

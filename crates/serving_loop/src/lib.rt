@@ -1,4 +1,4 @@
-//! The loop that serves over a wire. The wire's arrivals become events of the forwarder.
+//! The loop of the service over a wire. The wire's arrivals become events of the forwarder.
 #![tactic(auto)]
 
 mod counts;

@@ -18,16 +18,16 @@ use step_values::{Client, Event, Path};
 use wires::{Arrival, Wire};
 
 /// Serves `turns` rounds of the loop over a wire. A round takes one arrival and gives its events to
-/// the forwarder: a datagram is one event, a piece of a stream is one for each frame that it
-/// completes, and the end of a path to a server is its failure. The actions of an event are put at
-/// once, in order. An ask that the wire refuses is the failure of its path, which comes next. Then
-/// ticks follow until one reports that nothing more is due. The wire gives a moment and words for
-/// each event. From a new forwarder the steps that it makes serve truly, for all that the wire may
-/// bring; from another they do after those that it made since it was new.
+/// the forwarder: a datagram is one event, a piece of a stream one for each frame that ends in the
+/// piece, and the end of a path to a server is its failure. The actions of an event are put at
+/// once, in order. A refused ask is the failure of its path, which comes next. Then ticks follow
+/// until a tick reports that nothing more is due. The wire gives a moment and words for each event.
+/// From a new forwarder the steps serve truly, for everything that the wire may bring; from any
+/// other, together with the steps since it was new.
 ///
-/// It returns wherever the calls of its wire do. `Err` only where memory ran out for a frame
-/// reader, for its octets or for a frame; the forwarder is then as after the last event. An event
-/// that finds no memory is lost and counted.
+/// Returns if the calls of the wire do. `Err` only if memory ran out for a frame reader, for its
+/// octets or for a frame; the forwarder is then in the state after the last event. An event that
+/// finds no memory is lost and counted.
 pub fn serve<H: BuildHasher + Drop, A: Allocator + Copy, W: Wire<A>>(
     alloc: A,
     wire: &mut W,
@@ -54,7 +54,7 @@ pub fn serve<H: BuildHasher + Drop, A: Allocator + Copy, W: Wire<A>>(
     Ok(counts)
 }
 
-/// Takes one round: an arrival with its events, then ticks.
+/// Takes a round: an arrival with its events, then ticks.
 fn take_round<H: BuildHasher + Drop, A: Allocator + Copy, W: Wire<A>>(
     wire: &mut W,
     forwarder: &mut Forwarder<H, A>,
@@ -70,7 +70,7 @@ fn take_round<H: BuildHasher + Drop, A: Allocator + Copy, W: Wire<A>>(
     Ok(())
 }
 
-/// Takes one arrival and serves its events; one that the wire refuses is counted.
+/// Takes an arrival and serves its events; a refused arrival is counted.
 fn take_arrival<H: BuildHasher + Drop, A: Allocator + Copy, W: Wire<A>>(
     wire: &mut W,
     forwarder: &mut Forwarder<H, A>,
@@ -90,7 +90,7 @@ fn take_arrival<H: BuildHasher + Drop, A: Allocator + Copy, W: Wire<A>>(
     }
 }
 
-/// Serves the events of one arrival. `Err` where memory ran out for a frame reader, its octets or a
+/// Serves the events of an arrival. `Err` if memory ran out for a frame reader, its octets or a
 /// frame.
 fn serve_arrival<H: BuildHasher + Drop, A: Allocator + Copy, W: Wire<A>>(
     wire: &mut W,
@@ -145,7 +145,7 @@ fn serve_arrival<H: BuildHasher + Drop, A: Allocator + Copy, W: Wire<A>>(
     Ok(())
 }
 
-/// Forgets what is left of the stream on a path that is gone.
+/// Forgets the rest of the stream on an ended path.
 fn forget_path<A: Allocator + Copy>(streams: &mut Streams<A>, path: Path)
     ensures { Follows streams.old (Some (path_gone path)) streams.new }
 {

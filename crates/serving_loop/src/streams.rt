@@ -1,4 +1,4 @@
-//! The frame readers of the streams, by connection, and the messages that they give.
+//! The frame readers of the streams, by connection, and their messages.
 
 ghost use Rattle.std.specs.Prelude.{◌≡◌, ◌==◌, ◌++◌, ℕ, [], if◌then◌else◌, map, OnOk};
 ghost use Rattle.tcp_frames.specs.Frames.{frames_of, unfinished_of};
@@ -19,11 +19,11 @@ use suffix_routes::Peer;
 use tcp_frames::FrameReader;
 use wires::Wire;
 
-/// The octets of streams that are no whole frame yet, by the number of the connection.
+/// The octets of streams after their last whole frames, by the number of the connection.
 #[derive(Drop)]
 pub(crate) struct Streams<A: Allocator> {
     pub alloc: A,
-    /// Of connections that clients opened.
+    /// Of connections opened by clients.
     pub clients: BTreeMap<u64, FrameReader<A>, A>,
     /// Of connections of asks.
     pub servers: BTreeMap<u64, FrameReader<A>, A>,
@@ -62,7 +62,7 @@ pub(crate) struct Piece<A: Allocator> {
     pub bytes: Octets<A>,
 }
 
-/// Takes out the reader of a connection; a new one where there is none.
+/// Takes out the reader of a connection; a new reader if there is none.
 pub(crate) fn take_out<A: Allocator + Copy>(
     alloc: A,
     readers: &mut BTreeMap<u64, FrameReader<A>, A>,
@@ -78,7 +78,7 @@ pub(crate) fn take_out<A: Allocator + Copy>(
     }
 }
 
-/// Puts the reader of a connection in. `Err` where memory ran out.
+/// Puts the reader of a connection in.
 pub(crate) fn put_in<A: Allocator + Copy>(
     readers: &mut BTreeMap<u64, FrameReader<A>, A>,
     conn: u64,
@@ -91,7 +91,7 @@ pub(crate) fn put_in<A: Allocator + Copy>(
     Ok(())
 }
 
-/// Takes a piece of a stream: serves each frame that it completes. `Err` where memory ran out for
+/// Takes a piece of a stream: serves each frame that ends in the piece. `Err` if memory ran out for
 /// the octets of the reader or for a frame.
 pub(crate) fn serve_piece<H: BuildHasher + Drop, A: Allocator + Copy, W: Wire<A>>(
     wire: &mut W,
@@ -110,7 +110,7 @@ pub(crate) fn serve_piece<H: BuildHasher + Drop, A: Allocator + Copy, W: Wire<A>
     serve_frames(wire, forwarder, counts, reader, piece.sender)
 }
 
-/// Serves each whole frame that the reader has. `Err` where memory for a message ran out.
+/// Serves each whole frame in the reader. `Err` if memory for a message ran out.
 fn serve_frames<H: BuildHasher + Drop, A: Allocator + Copy, W: Wire<A>>(
     wire: &mut W,
     forwarder: &mut Forwarder<H, A>,

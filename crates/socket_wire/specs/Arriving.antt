@@ -20,7 +20,7 @@ use Rattle.stream_connections.specs.Listed.{Admits, first_idle, first_resting}
 use Rattle.stream_connections.specs.Open.{AreNone, Connections, without_first}
 use Rattle.ready_sockets.specs.Rounds.{IsBegun}
 
--- with a place for one client more: where there are 1,024, the oldest that waits for nothing goes
+-- with a place for one client more: of 1,024, the oldest that waits for nothing goes
 abbrev pub with_place : {A : Type 0} → Connections A → Connections A
 with_place before = if nat_lt (length before.clients) 1024 then before
     else without_first (first_idle before.clients) before
@@ -45,8 +45,8 @@ abbrev pub Comes : {A : Type 0} → (number now : ℕ) → Connections A → (ne
 Comes number now before next after = IsTakenIn number now before next after
     ⊎ IsLeftOut number before next after
 
--- A client's connection joins the sockets. Where there are 1,024 and each waits for something,
--- nothing changes.
+-- A client's connection joins the sockets. If there are 1,024 and each waits for something, nothing
+-- changes.
 pub record TakesIn {R A Streams Listeners : Type 0} (now : ℕ)
     (before after : Sockets R A Streams Listeners) : Type 0 where
   pub full : 1024 ≤ length before.connections.clients → first_idle before.connections.clients ≡ None
@@ -64,15 +64,15 @@ pub record ClosesResting {R A Streams Listeners : Type 0} (now : ℕ)
     connections = without_first (first_resting now before.connections.clients) before.connections;
   }
 
--- It may be closed where no descriptor is left; otherwise nothing changes.
+-- A resting client may be closed if no descriptor is left; otherwise nothing changes.
 abbrev pub MayCloseResting : {R A Streams Listeners : Type 0} → (now : ℕ) → (is_closed : Bool)
     → (before after : Sockets R A Streams Listeners) → Type 0
 MayCloseResting now true before after = ClosesResting now before after
 MayCloseResting now false before after = after ≡ before
 
--- The consequence of a refused call. Where no descriptor is left, the oldest client that has waited
--- for nothing for a while is closed, if any. For any other reason, such as a taken port or a
--- network that can't be reached, nothing changes.
+-- The consequence of a refused call. If no descriptor is left, the oldest client that has waited
+-- for nothing for a while is closed, if any. For any other reason, such as a taken port or an
+-- unreachable network, nothing changes.
 abbrev pub FreesFor : {R A Streams Listeners : Type 0} → Refusal → (now : ℕ) → (is_closed : Bool)
     → (before after : Sockets R A Streams Listeners) → Type 0
 FreesFor NoDescriptor now is_closed before after =
@@ -83,7 +83,7 @@ FreesFor WouldBlock now is_closed before after = (is_closed ≡ false) × (after
 FreesFor Interrupted now is_closed before after = (is_closed ≡ false) × (after ≡ before)
 FreesFor Failed now is_closed before after = (is_closed ≡ false) × (after ≡ before)
 
--- The consequence of a call, by its answer: none, unless it was refused.
+-- The consequence of a call, by its answer: none, unless refused.
 abbrev pub FreesBy : {R A Streams Listeners T : Type 0} → Result T Error → (now : ℕ)
     → (is_closed : Bool)
     → (before after : Sockets R A Streams Listeners) → Type 0
@@ -91,14 +91,14 @@ FreesBy (Ok value) now is_closed before after = (is_closed ≡ false) × (after 
 FreesBy (Err error) now is_closed before after = FreesFor (refusal_of error) now is_closed before
     after
 
--- the result of a listener that refused: where a descriptor was freed, the next turn may have a
+-- the result of a listener that refused: after a freed descriptor, the next turn may have a
 -- connection
 abbrev pub tried_if : {A : Type 0} → (is_closed : Bool) → Tried A
 tried_if true = Served
 tried_if false = Nothing
 
--- Trying the listener, by its answer: a connection is accepted. Or it refuses, and a descriptor is
--- freed only where none is left.
+-- Trying the listener, by its answer: a connection is accepted. Or the listener refuses, and a
+-- descriptor is freed only if none is left.
 abbrev pub AcceptsBy : {R A Streams Listeners T : Type 0} → Result T Error → (now : ℕ) → Tried A
     → (before after : Sockets R A Streams Listeners) → Type 0
 AcceptsBy (Ok accepted) now tried before after = (tried ≡ Served) × TakesIn now before after
@@ -114,7 +114,7 @@ TakesConnection now (Arrived arrival) before after = ⊥
 TakesConnection now Served before after = TakesIn now before after ⊎ ClosesResting now before after
 TakesConnection now Nothing before after = after ≡ before
 
--- New sockets: those that clients send to and no others, and no number was given.
+-- New sockets: the two for clients alone, and no number was given.
 pub record AreNew {R A Streams Listeners : Type 0} (sockets : Sockets R A Streams Listeners) : Type
     0 where
   pub ready : IsBegun sockets.readiness.ready

@@ -56,8 +56,8 @@ pub record GoesOn {R A Streams Listeners : Type 0} (origin : Origin)
   pub drops : Drops origin before left
   pub later : Later left
 
--- The result of trying this socket: its arrival; or nothing yet, where it was served. It stays
--- noted in both cases. Where nothing was there, the next one is tried.
+-- The result of trying this socket: its arrival; or nothing yet, although served. The socket stays
+-- noted in both cases. If nothing was there, the next socket is tried.
 abbrev pub ComesOf : {R A Streams Listeners : Type 0} → (tried : Result (Tried A) AllocError)
     → Origin
     → (result : Result (Option (Arrival A)) AllocError)
@@ -70,7 +70,7 @@ ComesOf (Ok Served) origin result Later before after = (result ≡ Ok (Some arri
 ComesOf (Ok Nothing) origin result Later before after = GoesOn origin Later before
 ComesOf (Err refusal) origin result Later before after = (result ≡ Err refusal) × (after ≡ before)
 
--- The socket that was given is tried, with its result.
+-- The given socket is tried, with its result.
 pub record TriesGiven {R A Streams Listeners : Type 0} (origin : Origin) (now : ℕ)
     (result : Result (Option (Arrival A)) AllocError) (Later : Sockets R A Streams Listeners
     → Type 0)
@@ -80,7 +80,7 @@ pub record TriesGiven {R A Streams Listeners : Type 0} (origin : Origin) (now : 
   pub attempts : Attempts origin now tried before behind
   pub comes : ComesOf tried origin result Later behind after
 
--- The socket that was given is tried; where none was, none is ready any more.
+-- The given socket is tried; without one, none is ready any more.
 abbrev pub TriesIfGiven : {R A Streams Listeners : Type 0} → Option Origin → (now : ℕ)
     → (result : Result (Option (Arrival A)) AllocError)
     → (Later : Sockets R A Streams Listeners → Type 0)
@@ -99,8 +99,8 @@ pub record TriesNext {R A Streams Listeners : Type 0} (now : ℕ)
   pub gives : GivesNext given before between
   pub tries : TriesIfGiven given now result Later between after
 
--- At most `most` sockets that may be ready are tried one after the other, up to the first that
--- gives something.
+-- At most `most` sockets that may be ready are tried in order, up to the first that gives
+-- something.
 unfoldable pub TriesReady : {R A Streams Listeners : Type 0} → (most now : ℕ)
     → (result : Result (Option (Arrival A)) AllocError)
     → (before after : Sockets R A Streams Listeners) → Type 0

@@ -6,16 +6,16 @@ use Rattle.stream_connections.specs.Listed.{first_number}
 use Rattle.ready_sockets.specs.Rounds.{IsAmong, next_token}
 use Rattle.socket_wire.specs.Trying.{next_from}
 
--- The numbers listed now rise and have this one among them. All of them are among the numbers that
--- are ever listed, which are below `size`.
+-- The numbers listed now rise and have this number among them. All of them are among the numbers
+-- ever listed, which are below `size`.
 pub record StaysListed (size number : ℕ) (ever now : List ℕ) : Type 0 where
   pub rise : IsStrictlySortedBy nat_cmp now
   pub stays : IsAmong number now
   pub known : (other : ℕ) → IsAmong other now → IsAmong other ever
   pub below : (other : ℕ) → IsAmong other ever → other < size
 
--- The number is found within `tries` tries, the first of which begins at `from`. At each try others
--- may be listed.
+-- The number is found within `tries` tries, the first from `from` on. The list may change at each
+-- try.
 abbrev pub IsTriedWithin : {X : Type 0} → (tries size number from : ℕ) → (ℕ → List (ℕ × X)) → Type 0
 IsTriedWithin zero size number from listed = ⊥
 IsTriedWithin (suc tries) size number from listed =
@@ -23,7 +23,7 @@ IsTriedWithin (suc tries) size number from listed =
     ⊎ IsTriedWithin tries size number (next_from size (first_number from (listed 0)))
     (λ try. listed (try + 1))
 
--- A try found the number, or the round goes on; where it found none, the next round begins.
+-- A try found the number, or the round goes on; after a try that found none, the next round begins.
 abbrev pub FindsOr : (number : ℕ) → Option ℕ → (goes_on next_round : Type 0) → Type 0
 FindsOr number (Some found) goes_on next_round = (found ≡ number) ⊎ goes_on
 FindsOr number None goes_on next_round = next_round

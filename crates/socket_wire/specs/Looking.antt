@@ -25,8 +25,7 @@ pub record TakesEventsIfReady {R A Streams Listeners : Type 0}
   pub some : (IsNothing before.readiness.ready → ⊥) → TakesEvents before after
   pub none : IsNothing before.readiness.ready → after ≡ before
 
--- A round of sockets that no event reported is due: they are tried after those that the events
--- reported.
+-- A round of unreported sockets is due: they are tried after the reported ones.
 pub record LooksAtAll {R A Streams Listeners : Type 0} (now : ℕ)
     (before after : Sockets R A Streams Listeners)
     : Type 0 where
@@ -39,8 +38,7 @@ abbrev pub has_asks : {R A Streams Listeners : Type 0} → Sockets R A Streams L
 has_asks sockets = nat_lt 0 (btree_map_len sockets.asks) || nat_lt 0
     (length sockets.connections.servers)
 
--- Where something may be ready, events are taken only where asks are open and none of them may be
--- ready.
+-- If something may be ready, events are taken only if asks are open and none of them may be ready.
 pub record LooksForAsks {R A Streams Listeners : Type 0}
     (before after : Sockets R A Streams Listeners) : Type 0 where
   pub asks : btree_set_len before.readiness.ready.servers.tokens ≡ 0 → has_asks before ≡ true
@@ -48,8 +46,8 @@ pub record LooksForAsks {R A Streams Listeners : Type 0}
   pub no_asks : has_asks before ≡ false → after ≡ before
   pub ready : 0 < btree_set_len before.readiness.ready.servers.tokens → after ≡ before
 
--- Looking what is ready, without a wait. Where no round is due, which is every 5 ms, and nothing may
--- be ready, nothing has changed.
+-- Looking for ready sockets, without a wait. If no round is due (every 5 ms), and nothing may be
+-- ready, nothing has changed.
 pub record Looks {R A Streams Listeners : Type 0} (now : ℕ)
     (before after : Sockets R A Streams Listeners) : Type 0 where
   pub due : 5 ≤ now - before.tried → LooksAtAll now before after
@@ -57,13 +55,13 @@ pub record Looks {R A Streams Listeners : Type 0} (now : ℕ)
   pub goes_on : now - before.tried < 5 → (IsNothing before.readiness.ready → ⊥)
       → LooksForAsks before after
 
--- The end of a turn in which nothing arrived: the wire waits where nothing may be ready any more.
+-- The end of a turn without an arrival: the wire waits if nothing may be ready any more.
 pub record EndsTurn {R A Streams Listeners : Type 0}
     (before after : Sockets R A Streams Listeners) : Type 0 where
   pub more : (IsNothing before.readiness.ready → ⊥) → after ≡ before
   pub none : IsNothing before.readiness.ready → TakesEvents before after
 
--- A turn gives its arrival or refusal; where nothing arrived, it ends.
+-- A turn gives its arrival or refusal, or ends without an arrival.
 abbrev pub GivesOrEnds : {R A Streams Listeners : Type 0}
     → (came : Result (Option (Arrival A)) AllocError)
     → (result : Result (Arrival A) AllocError)
@@ -87,8 +85,8 @@ pub record TriesReported {R A Streams Listeners : Type 0} (now : ℕ)
   pub tries : TriesReady 64 now came before after
   pub gives : result ≡ given_of came
 
--- A turn looks what is ready, and then tries that. It waits at its end alone, so what comes while it
--- waits is tried at another moment.
+-- A turn looks for ready sockets, and then tries them. The wait is at its end alone, so arrivals
+-- during the wait are tried at a later moment.
 pub record TakesTurn {R A Streams Listeners : Type 0} (now : ℕ)
     (result : Result (Arrival A) AllocError)
     (before after : Sockets R A Streams Listeners) : Type 0 where
@@ -99,7 +97,7 @@ pub record TakesTurn {R A Streams Listeners : Type 0} (now : ℕ)
   pub tries : TriesReady 64 now came looked behind
   pub ends : GivesOrEnds came result behind after
 
--- Where no end is to be reported, a turn is taken.
+-- If no end is to be reported, a turn is taken.
 pub record TakesTurnAtOnce {R A Streams Listeners : Type 0} (now : ℕ)
     (result : Result (Arrival A) AllocError)
     (before after : Sockets R A Streams Listeners) : Type 0 where

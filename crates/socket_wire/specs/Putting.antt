@@ -20,29 +20,29 @@ use Rattle.stream_connections.specs.Open.{without_server}
 use Rattle.stream_connections.specs.Queries.{IsBegunWith}
 use Rattle.stream_connections.specs.Serving.{is_over}
 
--- Nothing that is listed has changed, unless the oldest client that has waited for nothing for a
--- while was closed for its descriptor.
+-- Nothing listed has changed, unless the oldest client that has waited for nothing for a while was
+-- closed for its descriptor.
 abbrev pub MayMakeRoom : {A : Type 0} → (now : ℕ) → Connections A → Connections A → Type 0
 MayMakeRoom now before after =
     (after ≡ record before { has_room = after.has_room })
     ⊎ (after ≡ record (without_first (first_resting now before.clients) before)
     { has_room = after.has_room })
 
--- A query by UDP: its port is listed, and no other socket has changed; where it isn't sent none
--- has.
+-- A query by UDP: its port is listed, and no other socket has changed; if not sent, no socket has
+-- changed.
 abbrev pub ListsPort : {X : Type 0} → (port : ℕ) → (is_done : Bool) → List (ℕ × X) → List (ℕ × X)
     → Type 0
 ListsPort {X} port true before after = (socket : X)
     × (after ≡ insert_entry nat_cmp before port socket)
 ListsPort port false before after = after ≡ before
 
--- A query by UDP that was sent: its socket is listed at its port, unless memory ran out.
+-- A sent query by UDP: its socket is listed at its port, unless memory ran out.
 abbrev pub ListsThis : {X : Type 0} → (port : ℕ) → X → (is_done : Bool) → List (ℕ × X)
     → List (ℕ × X) → Type 0
 ListsThis port socket true before after = after ≡ insert_entry nat_cmp before port socket
 ListsThis port socket false before after = after ≡ before
 
--- A query over TCP that is begun: its connection is listed.
+-- A begun query over TCP: its connection is listed.
 pub record Begins {A : Type 0} (conn : ℕ) (server : Peer) (query : List ℕ) (now : ℕ)
     (before after : Connections A)
     : Type 0 where
@@ -74,8 +74,8 @@ is_closed_behind (Some (Ok goes_on)) = not goes_on
 is_closed_behind (Some (Err lost)) = is_over lost
 is_closed_behind None = false
 
--- A reply on the connection with this number, and where that is over then, its end. No other client
--- changes.
+-- A reply on the connection with this number, and the connection's end, if over then. No other
+-- client changes.
 pub record AnswersOn {A : Type 0} (conn : ℕ) (reply : List ℕ) (now : ℕ) (is_done : Bool)
     (before after : Connections A) : Type 0 where
   pub answer : Option (Result Bool Lost)
@@ -86,7 +86,7 @@ pub record AnswersOn {A : Type 0} (conn : ℕ) (reply : List ℕ) (now : ℕ) (i
       (if is_closed_behind answer then without_client conn (record before { clients = clients })
       else record before { clients = clients })
 
--- The effect of an action, whether the wire did it or refused it.
+-- The effect of an action, done or refused.
 abbrev pub Puts : {A X : Type 0} → Action A → (now : ℕ) → (is_done : Bool)
     → (asks asks' : List (ℕ × X))
     → (before after : Connections A) → Type 0

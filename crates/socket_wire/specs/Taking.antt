@@ -29,7 +29,7 @@ use Rattle.stream_connections.specs.declared.servers.ServerStream.{ServerStream 
 use Rattle.stream_connections.specs.Listed.{ServesOn, is_late_on}
 use Rattle.stream_connections.specs.Open.{Connections, ServesServer, without_client, without_server}
 
--- These are the first `count` octets of the buffer, where it has as many.
+-- These are the first `count` octets of the buffer, if the buffer has as many.
 abbrev pub IsPiece : (count : ℕ) (buffer octets : List ℕ) → Type 0
 IsPiece count buffer octets = count ≤ length buffer → octets ≡ take count buffer
 
@@ -46,8 +46,8 @@ IsDatagram buffer (Arrived arrival) = (from : Peer)
 IsDatagram buffer Served = Unit {0}
 IsDatagram buffer Nothing = Unit {0}
 
--- A datagram arrives from this peer with the octets of the buffer's front, as many as were
--- received, unless memory ran out. One of no peer, which came by IPv6, does not.
+-- A datagram arrives from this peer with the received octets at the buffer's front, unless memory
+-- ran out. A datagram without a peer, over IPv6, does not.
 abbrev pub IsReceived : {A : Type 0} → (count : ℕ) → Option Peer → (buffer : List ℕ)
     → (Peer → List ℕ → Arrival A)
     → Result (Tried A) AllocError → Type 0
@@ -56,8 +56,8 @@ IsReceived count (Some from) buffer carrying (Ok tried) = tried
 IsReceived count (Some from) buffer carrying (Err _) = Unit {0}
 IsReceived count None buffer carrying result = result ≡ Ok Served
 
--- The result of reading the socket for clients' datagrams, by its answer: a datagram; or nothing
--- where it refuses, whatever the reason.
+-- The result of reading the socket for clients' datagrams, by its answer: a datagram; or nothing if
+-- refused, whatever the reason.
 abbrev pub HearsDatagram : {A : Type 0} → Result (ℕ × SocketAddr) Error → (buffer : List ℕ)
     → Result (Tried A) AllocError → Type 0
 HearsDatagram (Ok (count, from)) buffer result = IsReceived count (peer_at from) buffer
@@ -96,13 +96,13 @@ is_closed_then (Some heard.Done) found_memory = true
 is_closed_then (Some heard.Failed) found_memory = true
 is_closed_then None found_memory = false
 
--- closed, where it is to be
+-- closed, if so decided
 abbrev pub closed_if : {A : Type 0} → Bool → (Connections A → Connections A) → Connections A
     → Connections A
 closed_if is_to_be close connections = if is_to_be then close connections else connections
 
--- Reading the client with this number. One that has been silent for too long even so is closed. No
--- other changes.
+-- Reading the client with this number. A client silent for too long even so is closed. No other
+-- client changes.
 pub record TakesClient {R A Streams Listeners : Type 0} (conn now : ℕ)
     (result : Result (Tried A) AllocError)
     (before after : Sockets R A Streams Listeners) : Type 0 where
@@ -117,8 +117,9 @@ pub record TakesClient {R A Streams Listeners : Type 0} (conn now : ℕ)
       (record before.connections { clients = clients })
   pub rest : after ≡ record before { connections = after.connections; buffer = after.buffer }
 
--- The arrival of the server on the connection with this number: the octets that were read, unless
--- memory ran out. Nothing arrives where it sends nothing more, the stream failed, or it would wait.
+-- The arrival of the server on the connection with this number: the octets read, unless memory ran
+-- out. Nothing arrives if the server sends nothing more, the stream failed, or the read would
+-- block.
 abbrev pub ArrivesOf : {A : Type 0} → (conn : ℕ) (buffer : List ℕ) → Option (Peer × Heard)
     → Result (Tried A) AllocError → Type 0
 ArrivesOf conn buffer (Some (from, heard.Octets count)) (Ok tried) =
@@ -148,7 +149,7 @@ pub record TakesServer {R A Streams Listeners : Type 0} (conn : ℕ)
       (record before.connections { servers = servers })
   pub rest : after ≡ record before { connections = after.connections; buffer = after.buffer }
 
--- the sockets of asks, without the one at this port where its end is reported
+-- the sockets of asks, without the socket at this port if its end is reported
 abbrev pub left_by : {A X : Type 0} → (port : ℕ) → Result (Tried A) AllocError → List (ℕ × X)
     → List (ℕ × X)
 left_by port (Ok (Arrived (PathGone _))) asks = remove_entry (is_at (nat_cmp port)) asks
@@ -162,14 +163,14 @@ IsOfAsk port buffer (Arrived arrival) = (from : Peer)
 IsOfAsk port buffer Served = Unit {0}
 IsOfAsk port buffer Nothing = Unit {0}
 
--- The path of the ask at this port is gone, and its socket with it.
+-- The path of the ask at this port is gone, and its socket too.
 abbrev pub IsLost : {A X : Type 0} → (port : ℕ) → Tried A → (before after : List (ℕ × X)) → Type 0
 IsLost port tried before after =
     (tried ≡ Arrived (PathGone (path.Udp port)))
     × (after ≡ remove_entry (is_at (nat_cmp port)) before)
 
--- The path of an ask whose socket refused to be read: where it would block nothing is there, and
--- nothing changes; for any other reason the path is gone, and its socket with it.
+-- The path of an ask whose socket refused a read: if the read would block, nothing is there and
+-- nothing changes; for any other reason path and socket are gone.
 abbrev pub LosesAsk : {A X : Type 0} → (port : ℕ) → Refusal → Tried A
     → (before after : List (ℕ × X)) → Type 0
 LosesAsk port WouldBlock tried before after = (tried ≡ Nothing) × (after ≡ before)
@@ -177,8 +178,8 @@ LosesAsk port Interrupted tried before after = IsLost port tried before after
 LosesAsk port NoDescriptor tried before after = IsLost port tried before after
 LosesAsk port Failed tried before after = IsLost port tried before after
 
--- The result of reading the port of an ask, by the answer of its socket: a datagram; or where it
--- refuses, nothing or the end of its path.
+-- The result of reading the port of an ask, by the answer of its socket: a datagram; or if refused,
+-- nothing or the end of its path.
 abbrev pub HearsAsk : {A X : Type 0} → (port : ℕ) → Result (ℕ × SocketAddr) Error
     → (buffer : List ℕ)
     → Result (Tried A) AllocError → (before after : List (ℕ × X)) → Type 0

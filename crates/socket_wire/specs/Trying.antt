@@ -9,8 +9,7 @@ use Rattle.socket_wire.specs.declared.sockets.Sockets.{Sockets}
 use Rattle.stream_connections.specs.Listed.{first_number}
 use Rattle.ready_sockets.specs.Rounds.{Noted}
 
--- where the next turn begins: one after the number that was found; at 0 after the last one and
--- where `size` is reached
+-- the beginning of the next turn: one after the found number; 0 after the last and at `size`
 abbrev pub next_from : (size : ℕ) → Option ℕ → ℕ
 next_from size (Some number) = (number + 1) % size
 next_from size None = 0
@@ -67,7 +66,7 @@ pub record TriesServer {R A Streams Listeners : Type 0} (tried : Bool)
     readiness = record before.readiness { ready = after.readiness.ready };
   }
 
--- At most `most` tries, one after the other; none after the one that found none.
+-- At most `most` tries in order; none after a try that found none.
 unfoldable pub TriesUpTo : {S : Type 0} → (Tries : Bool → S → S → Type 0) → (most : ℕ)
     → (before after : S) → Type 0
 TriesUpTo Tries zero before after = after ≡ before
@@ -75,7 +74,7 @@ TriesUpTo {S} Tries (suc more) before after =
     Tries false before after
     ⊎ ((between : S) × (Tries true before between × TriesUpTo Tries more between after))
 
--- A round counts itself, and has the socket for datagrams tried, and where it is an eighth one the
+-- A round counts itself, and has the socket for datagrams tried, and in an eighth round the
 -- listener.
 pub record BeginsRound {R A Streams Listeners : Type 0}
     (before after : Sockets R A Streams Listeners) : Type 0 where

@@ -13,7 +13,7 @@ abbrev pub behind_words : ℕ → ChaCha → ChaCha
 behind_words zero random = random
 behind_words (suc more) random = behind_words more (next_word 6 random).1
 
--- Words that are not spent are given again; after those come the next eight of the generator.
+-- Unspent words are given again; after spent words come the next eight of the generator.
 pub record GivesWords (result : List ℕ) (before after : Words) : Type 0 where
   pub given : result ≡ after.drawn
   pub unspent : after.is_spent ≡ false

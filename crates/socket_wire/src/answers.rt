@@ -4,7 +4,7 @@ ghost use Rattle.std.specs.Prelude.{◌≡◌, Ok, Err, IfErr, OnOk};
 
 use std::io;
 
-/// Returns the value where the system did what it was asked, otherwise its error.
+/// Returns the value if the system did as asked, otherwise its error.
 pub(crate) fn kept_if<T: Drop>(value: T, answer: io::Result<()>) -> io::Result<T>
     ensures ok { OnOk answer (result ≡ Ok value) }
     ensures err { IfErr answer (λ error. result ≡ Err error) }

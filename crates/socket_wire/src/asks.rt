@@ -10,7 +10,7 @@ use std::net::Net;
 use suffix_routes::Peer;
 
 /// Binds a socket at this port and connects it to the server, so that no stranger's datagram
-/// arrives and a closed port is reported. `Err` where the system refuses.
+/// arrives and a closed port is reported. `Err` if the system refuses.
 pub(crate) fn ask_socket<R: Net, A: Allocator + Copy>(
     rt: &R,
     readiness: &Readiness<A>,

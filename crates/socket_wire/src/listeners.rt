@@ -8,7 +8,7 @@ use std::alloc::Allocator;
 use std::io;
 use std::net::{Net, SocketAddr};
 
-/// Binds a socket that takes datagrams at this address. `Err` where the system refuses.
+/// Binds a socket for datagrams at this address. `Err` if the system refuses.
 pub(crate) fn datagrams_at<A: Allocator + Copy>(
     net: &impl Net,
     readiness: &Readiness<A>,
@@ -20,7 +20,7 @@ pub(crate) fn datagrams_at<A: Allocator + Copy>(
     kept_if(socket, watched)
 }
 
-/// Binds a listener for connections at this address. `Err` where the system refuses.
+/// Binds a listener for connections at this address. `Err` if the system refuses.
 pub(crate) fn connections_at<A: Allocator + Copy>(
     net: &impl Net,
     readiness: &Readiness<A>,

@@ -8,7 +8,7 @@ use std::io;
 use std::rt::Clock;
 use std::time::{Duration, Instant};
 
-/// A clock: ms since it was made, by the system's monotonic clock. One reading serves an arrival and
+/// A clock: ms since its making, by the system's monotonic clock. One reading serves an arrival and
 /// all steps of its turn.
 #[derive(Drop)]
 pub(crate) struct Moments<'a, R: Clock> {
@@ -30,7 +30,7 @@ fn moment_of(spent: Duration) -> u64
 }
 
 impl<'a, R: Clock> Moments<'a, R> {
-    /// Starts with no moment returned yet. `Err` where the clock fails.
+    /// Starts with no moment returned yet. `Err` if the clock fails.
     pub fn new(rt: &'a R) -> io::Result<Moments<'a, R>>
         ensures { IfOk result (λ moments. (moments.last ≡ 0) × (moments.given.calls ≡ [])) }
     {
@@ -61,8 +61,8 @@ impl<'a, R: Clock> Moments<'a, R> {
         self.is_read = false;
     }
 
-    /// Returns the moment, in ms. The last one again, where the clock is not to be read again, fails
-    /// or goes back.
+    /// Returns the moment, in ms. The last moment again, if the clock is not to be read again,
+    /// fails or goes back.
     pub fn now(&mut self) -> u64
         ensures told { result ≡ self.new.last }
         ensures rises { self.old.last ≤ self.new.last }
@@ -79,8 +79,8 @@ impl<'a, R: Clock> Moments<'a, R> {
         self.last
     }
 
-    /// Notes the moment at which this time was spent, by the clock's answer, unless it is an
-    /// earlier one or the clock failed.
+    /// Notes the moment after this time, by the clock's answer, unless earlier than the last or the
+    /// clock failed.
     fn note(&mut self, spent: io::Result<Duration>)
         ensures ok { IfOk spent (λ spent. self.new
             ≡ record self.old { last = max self.old.last (moment_of spent) }) }

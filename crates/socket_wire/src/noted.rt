@@ -77,8 +77,7 @@ impl<'a, R: Net, A: Allocator + Copy> Noted<'a, R, A> {
         came
     }
 
-    /// Does an action, at the moment of its step. `Err` where the system refuses, or memory ran
-    /// out.
+    /// Does an action, at the moment of its step. `Err` if the system refuses, or memory ran out.
     pub fn put<C: Clock>(&mut self, action: &Action<A>, moments: &Moments<'_, C>) -> io::Result<()>
         ensures puts { PutsAction action.now moments.now.last (is_ok result)
             (with_spent action.now self.old.sockets) self.new.sockets }

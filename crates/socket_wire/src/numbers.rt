@@ -17,8 +17,7 @@ impl Numbers {
         Numbers { next: 0 }
     }
 
-    /// Returns a number that was never given before: each is one more than the last. `None` where
-    /// none is left.
+    /// Returns a new number: one more than the last. `None` if none is left.
     pub fn give(&mut self) -> Option<u64>
         ensures next { IfSome result (λ number. (number ≡ self.old.next)
             × (self.new.next ≡ number + 1)) }

@@ -10,8 +10,7 @@ use std::os::fd::AsRawFd;
 /// The octets that are asked for: room for some thousands of questions.
 const ROOM: i32 = 1 << 20;
 
-/// The value of the option: its first four octets are the size that is asked for, in the machine's
-/// byte order.
+/// The value of the option: its first four octets are the asked size, in the machine's byte order.
 fn room_asked() -> [u8; 16]
     ensures { result ≡ to_le_bytes w32 (2 ^ 20) ++ replicate 12 0 }
 {
@@ -20,8 +19,8 @@ fn room_asked() -> [u8; 16]
     value
 }
 
-/// Asks the system to keep more datagrams until they are read. The system may give less; where it
-/// refuses, the buffer stays as it is.
+/// Asks the system to keep more datagrams until read. The system may give less; if refused, the
+/// buffer stays the same.
 pub(crate) fn widen(socket: &UdpSocket) {
     let value = room_asked();
     let _status = unsafe { setsockopt(socket.as_raw_fd(), SOL_SOCKET, SO_RCVBUF, &value, 4) };

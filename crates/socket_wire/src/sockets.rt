@@ -31,8 +31,7 @@ use wires::Arrival;
 /// The largest read, in octets: a datagram has no more.
 const LARGEST: usize = 65_535;
 
-/// The longest wait of a wire, in ms, and the time after which it tries sockets that no event
-/// reported.
+/// The longest wait of a wire, in ms, and the time after which unreported sockets are tried.
 const PAUSE: u64 = 5;
 
 /// The most sockets that a turn tries.
@@ -55,8 +54,8 @@ pub(crate) struct Sockets<'a, R: Net, A: Allocator> {
     words: Words,
     /// The time, in ms, for which a question may wait for its reply.
     deadline: u64,
-    /// The moment, in ms, of the last round of sockets that no event reported, and the number of
-    /// these rounds modulo 256.
+    /// The moment, in ms, of the last round of unreported sockets, and the number of these rounds
+    /// modulo 256.
     tried: u64,
     rounds: u8,
     next_client: u64,
@@ -65,7 +64,7 @@ pub(crate) struct Sockets<'a, R: Net, A: Allocator> {
 }
 
 impl<'a, R: Net, A: Allocator + Copy> Sockets<'a, R, A> {
-    /// Listens at the peer's address by UDP and TCP. `Err` where the system refuses, or memory ran
+    /// Listens at the peer's address by UDP and TCP. `Err` if the system refuses, or memory ran
     /// out.
     pub fn new(
         rt: &'a R,
@@ -112,7 +111,7 @@ impl<'a, R: Net, A: Allocator + Copy> Sockets<'a, R, A> {
         self.words.next()
     }
 
-    /// Takes back the memory of octets that were served, for those that arrive next.
+    /// Takes back the memory of served octets, for the next arrivals.
     pub fn take_back(&mut self, octets: &mut Octets<A>)
         ensures { self.new ≡ self.old }
     {
@@ -135,7 +134,7 @@ impl<'a, R: Net, A: Allocator + Copy> Sockets<'a, R, A> {
         }
     }
 
-    /// Returns the arrival of a socket that the events of a wait reported. It does not wait.
+    /// Returns the arrival of a socket reported by the events of a wait, without waiting.
     pub fn reported(&mut self, now: u64) -> Result<Arrival<A>, AllocError>
         ensures { TriesReported now result self.old self.new }
     {
@@ -156,8 +155,8 @@ impl<'a, R: Net, A: Allocator + Copy> Sockets<'a, R, A> {
         }
     }
 
-    /// Ends a turn in which nothing arrived. Waits where nothing may be ready any more. What is
-    /// reported then is for `reported`, at the moment after the wait.
+    /// Ends a turn without an arrival. Waits if nothing may be ready any more. Sockets reported
+    /// then are for `reported`, at the moment after the wait.
     fn end_turn(&mut self)
         ensures { EndsTurn self.old self.new }
     {
@@ -166,8 +165,8 @@ impl<'a, R: Net, A: Allocator + Copy> Sockets<'a, R, A> {
         }
     }
 
-    /// Looks what is ready, without a wait. Before sockets are tried that no event reported, events
-    /// are taken only where something may be ready. Otherwise the turn waits for them once these
+    /// Looks for ready sockets, without a wait. Before unreported sockets are tried, events are
+    /// taken only if something may be ready. Otherwise the turn waits for events once these sockets
     /// turn out empty.
     fn look(&mut self, now: u64)
         ensures { Looks now self.old self.new }
@@ -185,8 +184,8 @@ impl<'a, R: Net, A: Allocator + Copy> Sockets<'a, R, A> {
         }
     }
 
-    /// Returns the arrival of a socket that may be ready. `None` where none is ready any more, or
-    /// many were tried.
+    /// Returns the arrival of a socket that may be ready. `None` if none is ready any more, or many
+    /// were tried.
     fn try_ready(&mut self, now: u64) -> Result<Option<Arrival<A>>, AllocError>
         ensures { TriesReady 64 now result self.old self.new }
     {

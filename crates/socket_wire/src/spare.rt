@@ -7,7 +7,7 @@ use std::alloc::{AllocError, Allocator};
 use std::marker::Model;
 use std::mem;
 
-/// Memory that held octets which were served, kept for the next ones. Contracts see nothing of it.
+/// Memory of served octets, kept for the next. Contracts see nothing of it.
 #[derive(Drop)]
 pub(crate) struct Spare<A: Allocator> {
     memory: Vec<u8, A>,
@@ -20,14 +20,14 @@ impl<A: Allocator> Model for Spare<A> {
 }
 
 impl<A: Allocator + Copy> Spare<A> {
-    /// Starts with no memory. It does not allocate.
+    /// Starts with no memory.
     pub fn new(alloc: A) -> Spare<A> {
         Spare {
             memory: Vec::new(alloc),
         }
     }
 
-    /// Copies octets into the kept memory, where it has room. `Err` where memory ran out.
+    /// Copies octets into the kept memory, if large enough.
     pub fn copied(&mut self, alloc: A, octets: &[u8]) -> Result<Octets<A>, AllocError>
         ensures { IfOk result (λ copied. copied ≡ octets.now) }
     {
@@ -37,7 +37,7 @@ impl<A: Allocator + Copy> Spare<A> {
         Ok(PlainList::from_vec(memory))
     }
 
-    /// Keeps the memory of octets that were served, in the place of what was kept.
+    /// Keeps the memory of served octets, in place of the kept memory.
     pub fn keep(&mut self, alloc: A, octets: &mut Octets<A>) {
         self.memory = mem::replace(octets, PlainList::new(alloc)).into_vec();
     }

@@ -42,9 +42,9 @@ impl<'a, R: Net + Clock, A: Allocator> Model for MioWire<'a, R, A> {
 }
 
 impl<'a, R: Net + Clock + RandomSource, A: Allocator + Copy> MioWire<'a, R, A> {
-    /// Makes a wire that listens at this address, and has counted no fault. A question on a
-    /// connection waits for its reply for as long as the limits let it. `Err` where the system
-    /// refuses, gives no random octets or no time, or memory ran out.
+    /// Makes a wire that listens at this address, with no fault counted. A question on a connection
+    /// waits for its reply for the time in the limits. `Err` if the system refuses, gives no random
+    /// octets or no time, or memory ran out.
     pub fn new(rt: &'a R, alloc: A, listen: Peer, limits: &Limits) -> io::Result<MioWire<'a, R, A>>
         ensures told { IfOk result (λ wire. wire.told ≡ silence) }
         ensures faults { IfOk result (λ wire. wire.faults ≡ 0) }
@@ -72,7 +72,7 @@ impl<R: Net + Clock, A: Allocator + Copy> Wire<A> for MioWire<'_, R, A> {
             return Ok(Arrival::Nothing);
         }
         let came = match self.sockets.arrival(&mut self.moments) {
-            // What came during the wait has the moment after it.
+            // Arrivals during the wait have the moment after it.
             Ok(Arrival::Nothing) => self.sockets.reported(&mut self.moments),
             came => came,
         };

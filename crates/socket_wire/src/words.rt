@@ -8,8 +8,7 @@ use rand_chacha::ChaCha12Rng;
 use rand_core::SeedableRng;
 use rand_core::utils::NextWord;
 
-/// Random words. The same words are given again until they are spent: words that were sent to
-/// nobody reveal nothing.
+/// Random words. Unspent words are given again: they were sent to nobody and reveal nothing.
 #[derive(Drop)]
 pub(crate) struct Words {
     random: ChaCha12Rng,
@@ -29,7 +28,7 @@ impl Words {
         }
     }
 
-    /// Returns the words that were given last, or new ones where those are spent.
+    /// Returns the last words again, or new words if those are spent.
     pub fn next(&mut self) -> [u32; 8]
         ensures { GivesWords result self.old self.new }
     {

@@ -30,17 +30,17 @@ use Rattle.step_values.specs.declared.action.Why.TheVariants.{Answered, ChainLon
 use Rattle.waiting_questions.specs.Settling.{settled}
 use Rattle.alias_chains.specs.Offering.{pieces_of}
 
--- one more ask by TCP, where the path is a connection
+-- one more ask by TCP, if the path is a connection
 abbrev pub tcp_count_of : Path → ℕ
 tcp_count_of p = if is_tcp p then 1 else 0
 
--- those that did not wait for the ask
+-- the questions that did not wait for the ask
 abbrev pub left_waiting : Option Ask → List Waiting → List Waiting
 left_waiting None xs = xs
 left_waiting (Some a) xs = filter (λ x. not (waits_for a.question x)) xs
 
--- the questions that waited for the ask, by their fates: each waits no more, or waits on with the
--- aliases and the question that it is sent on with
+-- the questions that waited for the ask, by their fates: each waits no more, or waits on with its
+-- redirection
 abbrev pub left_or_sent : Option Ask → List (Option Onward) → List Waiting → List Waiting
 left_or_sent None onward xs = xs
 left_or_sent (Some a) onward xs = settled a.question onward xs
@@ -50,7 +50,7 @@ abbrev pub with_preferred : Option Preferred → List ℕ → List ℕ
 with_preferred None places = places
 with_preferred (Some p) places = slice_set places p.route p.server
 
--- the listed asks without that on a closed path, if any
+-- the listed asks without the ask on a closed path, if any
 abbrev pub without_closed : Option Path → List Ask → List Ask
 without_closed None listed = listed
 without_closed (Some path) listed = without_path path listed
@@ -103,19 +103,19 @@ pub record CanFollow (c : Config) (n : ℕ) (s : State) (listed : List Ask) (a :
   pub kept : IsKeptAsk c n (s.tcp_asks + tcp_count_of a.path) a
   pub counted : s.tcp_asks + tcp_count_of a.path < 2 ^ 64
 
--- a question that may be taken now
+-- a question that may be accepted now
 pub record CanWait (c : Config) (n : ℕ) (s : State) (x : Waiting) : Type 0 where
   pub room : length s.waiting < c.limits.questions
   pub taken : x.taken ≡ n
   pub aliases : HoldsEarlier n x
 
--- the preferred server is one of its route's
+-- the preferred server is of its own route
 abbrev pub IsServed : Config → Option Preferred → Type 0
 IsServed c None = Unit {0}
 IsServed c (Some p) = p.server < length (Rattle.step_table.specs.Attempts.servers_in
     (Rattle.step_table.specs.Attempts.group_of c p.route))
 
--- the aliases that it is sent on with were accepted by now
+-- the aliases of the redirection were accepted by now
 abbrev pub IsSentEarlier : ℕ → Option Onward → Type 0
 IsSentEarlier n None = Unit {0}
 IsSentEarlier n (Some s) = AllByRecursion (IsEarlier n) s.held
@@ -130,7 +130,7 @@ abbrev pub IfFollows : Config → ℕ → State → List Ask → Option Ask → 
 IfFollows c n s listed None = Unit {0}
 IfFollows c n s listed (Some a) = CanFollow c n s listed a
 
--- those that wait for the ask on this path may be sent on now
+-- the questions waiting for the ask on this path may be redirected now
 pub record CanSendOn (c : Config) (n : ℕ) (s : State) (path : Path) (preferred : Preferred)
     (onward : List (Option Onward)) (next : Option Ask) : Type 0 where
   pub those : AreForThose (ask_on path s.asks) onward s.waiting
@@ -149,17 +149,17 @@ FitsChange c n s (AskAgain path b) = Rattle.std.specs.Prelude.IsSome (ask_on pat
     × CanFollow c n s (without_path path s.asks) b.value
 FitsChange c n s (Expire closed) = Unit {0}
 
--- a piece that the cache may keep: the route of the ask that brought it serves its name
+-- a piece for the cache: the route of its ask serves its name
 abbrev pub IsRouted : Config → Piece → Type 0
 IsRouted c p = Rattle.suffix_routes.specs.Serving.serving_route_of c p.slot.key ≡ Some p.route
 
--- what may be done now
+-- the allowed changes of now
 pub record CanChange {A : Type 0} (c : Config) (n : ℕ) (s : State) (d : Decision A) : Type 0 where
   pub fits : FitsChange c n s d.change
   pub few : length (pieces_of d.carried.items) < 2 ^ 32
   pub routed : Rattle.std.specs.List.AllByRecursion (IsRouted c) (pieces_of d.carried.items)
 
--- the done step; rooms says which of the new slots found memory
+-- the done step; rooms has true for each new slot that found memory
 abbrev pub next_of : {A : Type 0} → ℕ → List Bool → State → Decision A → Done
 next_of n rooms s d =
     offering_step n rooms (pieces_of d.carried.items)
@@ -179,7 +179,7 @@ abbrev pub IsQuiet : {A : Type 0} → Result (Decision A) AllocError → Type 0
 IsQuiet (Ok next) = (next.used ≡ []) × (next.change ≡ Nothing)
 IsQuiet (Err refused) = ⊥
 
--- the decision on an event: none for a restart, and any other happens as the row has it
+-- the decision on an event: none for a restart, and for any other event its row
 abbrev pub IsDecided : {A : Type 0} → Turn → Event → Option (Decision A) → Type 0
 IsDecided t e None = e ≡ restart
 IsDecided t e (Some next) = (rooms : List Bool) → Happens t e (next_of t.moment rooms t.state next)
@@ -190,24 +190,24 @@ IsDecidedQuietly (Ok None) = Unit {0}
 IsDecidedQuietly (Ok (Some next)) = (next.used ≡ []) × (next.change ≡ Nothing)
 IsDecidedQuietly (Err refused) = ⊥
 
--- the outcome and the state after are these
+-- outcome and state after are these
 pub record IsOutcome (c : Config) (d : Done) (o : Outcome) (s' : State) : Type 0 where
   pub done : record { actions = o.actions; unkept = o.unkept; state = s' } ≡ d
   pub more : o.more ≡ is_due_at c s'.moment s'
 
--- the answer from the aliases that a question holds and this chain, unless these are more aliases
--- than it may hold
+-- the answer from the held aliases of a question and this chain, unless there are too many aliases
 abbrev pub told_from : Source → Waiting → Action
 told_from d x =
     if nat_le (length x.held + length d.chain) (suc most_aliases)
     then sends Answered x (answer_of x.asked (x.held ++ d.chain) d.moment (transport_of x.client))
     else gives_up ChainLong x
 
--- those that wait for this question get their answers from a chain of pieces, all others wait on
+-- questions that wait for this question get their answers from a chain of pieces, all further
+-- questions wait on
 abbrev pub gives_from : Source → Question → Waiting → Fate
 gives_from d q x = if waits_for q x then gets (told_from d x) else waits x
 
--- replies put one after another
+-- replies in order
 abbrev pub with_reply : List Action → Option Action → List Action
 with_reply actions None = actions
 with_reply actions (Some a) = actions ++ a ∷ []

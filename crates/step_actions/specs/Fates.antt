@@ -18,8 +18,8 @@ use Rattle.step_actions.specs.Kept.{HoldsEarlier}
 use Rattle.step_actions.specs.declared.fate.Fate.{Fate}
 use Rattle.step_actions.specs.declared.fate.Fate.TheVariants.{Reply, Waits}
 
--- the fate of one: its reply, or the aliases and the question that it waits with, none where it
--- waits for its own
+-- the fate of one: its reply, or the aliases and the question that it waits with, none if it waits
+-- for its own
 pub data Becomes : Type 0 where
   replied : Action → Becomes
   stays : Option Onward → Becomes
@@ -61,7 +61,7 @@ abbrev pub began_at : Question → Option (Bor Question) → Question
 began_at q None = q
 began_at q (Some lead) = lead.now
 
--- the question that is wanted where the last alias leads to this name, none where it is its own
+-- the question that is wanted where the last alias leads to this name, none if it is its own
 abbrev pub wanted_at : Question → Option (Bor Question) → Option (List (List ℕ)) → Option Question
 wanted_at q lead (Some target) = Some (asked_at (began_at q lead) target)
 wanted_at q None None = None

@@ -12,7 +12,7 @@ use Rattle.answer_builder.specs.Answers.{IsEarlier}
 use Rattle.step_table.specs.Progress.{AreTakenInTurn, IsTry, IsCacheOf, IsBelow, ArePreferred}
 
 -- a listed ask is for a name of its route; it went to the server at its place, as one of the tries
--- of an inquiry, over a path that was given
+-- of an inquiry, over a drawn path
 pub record IsKeptAsk (c : Config) (moment count : ℕ) (a : Ask) : Type 0 where
   pub earlier : a.asked ≤ moment
   pub on_route : serving_route_of c a.question.name ≡ Some a.route
@@ -20,13 +20,13 @@ pub record IsKeptAsk (c : Config) (moment count : ℕ) (a : Ask) : Type 0 where
   pub tries : IsTry c a
   pub path : IsBelow count a.path
 
--- no alias that the question holds was accepted later
+-- no held alias of the question was accepted later
 abbrev pub HoldsEarlier : ℕ → Waiting → Type 0
 HoldsEarlier moment x = AllByRecursion (IsEarlier moment) x.held
 
 -- the cache has the configured capacity, and each entry is within its name's route; both lists are
--- within their limits and in the order of time; no moment, of a held alias neither, is past the
--- effective one; and each preferred server is one of its group
+-- within their limits and in the order of time; no moment, of a held alias neither, is later than
+-- the effective moment; and each preferred server is of its group
 pub record IsKeptForwarder (c : Config) (store : Cache) (inquiries : Inquiries) (waiting : List Waiting)
     (preferred : List ℕ) (moment count : ℕ)
     : Type 0 where

@@ -2,6 +2,6 @@
 use Rattle.negative_cache.specs.Moments.{CacheAt}
 use Rattle.step_table.specs.State.{Turn}
 
--- the cache in which the step begins, at its moment and under its configuration
+-- the cache at the start of the step, at the step's moment and under its configuration
 abbrev pub cache_at : Turn → CacheAt
 cache_at t = record { cache = t.state.cache; config = t.config; moment = t.moment }

@@ -62,7 +62,7 @@ pub fn by_tcp(drawn: Option<(u16, u64)>) -> Option<(u16, Path)>
     }
 }
 
-/// The port that is given up with a path.
+/// The port given up with a path.
 pub fn freed_port(path: Path) -> Option<u16>
     ensures { result ≡ freed_by path }
 {
@@ -72,7 +72,7 @@ pub fn freed_port(path: Path) -> Option<u16>
     }
 }
 
-/// One ask of an inquiry: which server of the route's group it goes to, and as which of the tries.
+/// An ask of an inquiry: the server in the route's group, and the number of the try.
 #[derive(Clone, Copy)]
 pub struct Attempt {
     pub route: RouteId,
@@ -80,8 +80,7 @@ pub struct Attempt {
     pub used: u8,
 }
 
-/// The ask of a server over the drawn path. `None` where there is no such server, or no path was
-/// drawn. `Err` where memory ran out.
+/// The ask of a server over the drawn path. `None` without such a server, or without a drawn path.
 pub fn new_ask<'a, H: BuildHasher + Drop, A: Allocator + Copy>(
     turn: &TurnRef<'a, H, A>,
     question: &Question<A>,

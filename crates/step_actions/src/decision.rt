@@ -1,4 +1,4 @@
-//! The decision of a step, with all the memory that it needs.
+//! The decision of a step, with all its memory.
 
 ghost use Rattle.std.specs.Prelude.{◌≡◌, []};
 ghost use Rattle.step_values.specs.Values.{actions_of};
@@ -12,7 +12,7 @@ use step_values::Actions;
 use suffix_routes::RouteId;
 use waiting_questions::{KeyedWaiting, SentOn};
 
-/// A server that is asked first from now on: its route, and its place in the route's group.
+/// The first server to ask from now on: its route, and its place in the route's group.
 #[derive(Clone, Copy)]
 pub struct Preferred {
     pub route: RouteId,
@@ -42,33 +42,33 @@ pub struct Sending<A: Allocator = Global> {
 #[derive(Drop)]
 pub enum Change<A: Allocator = Global> {
     Nothing,
-    /// A question waits for an ask that is listed already.
+    /// A question waits for a listed ask.
     Join(Box<KeyedWaiting<A>, A>),
     /// A question waits, and the first ask of its inquiry is listed.
     Open(Box<Opening<A>, A>),
-    /// The ask on this path is closed, and those that waited for it wait no more.
+    /// The ask on this path is closed, and the questions waiting for it wait no more.
     Close(Path, Option<Preferred>),
-    /// The ask on a path is closed, and those that waited for it are sent on.
+    /// The ask on a path is closed, and the questions waiting for it are redirected.
     SendOn(Box<Sending<A>, A>),
-    /// The ask on this path is closed, and another one for its question is listed.
+    /// The ask on this path is closed, and the next for its question is listed.
     AskAgain(Path, Box<Ask<A>, A>),
     /// The oldest question waits no more, and the ask on this path, if any, is closed.
     Expire(Option<Path>),
 }
 
-/// The actions of a step, and what it changes: the entries of the slots that a look-up used are
-/// promoted, and the pieces that an accepted reply carries are offered to the cache, last.
+/// The actions of a step, and its changes: the entries used by a look-up are promoted, and the
+/// pieces of an accepted reply are offered to the cache, last.
 #[derive(Drop)]
 pub struct Decision<'a, 's, A: Allocator = Global> {
     pub actions: Actions<A>,
     pub used: SlotsRef<'a, 's, A>,
     pub change: Change<A>,
-    /// In the order in which they are offered.
+    /// The pieces, in the order of their offers.
     pub carried: Vec<Held<A>, A>,
 }
 
 impl<'a, 's, A: Allocator + Copy> Decision<'a, 's, A> {
-    /// These actions and this change, with no look-up and no accepted reply. It does not allocate.
+    /// These actions and this change, without a look-up and an accepted reply.
     pub fn without_cache(alloc: A, actions: Actions<A>, change: Change<A>) -> Decision<'a, 's, A>
         ensures actions { actions_of result.actions ≡ actions_of actions }
         ensures used { result.used ≡ [] }

@@ -52,9 +52,9 @@ pub fn is_live<A: Allocator>(config: &Config<A>, moment: u64, ask: &Ask<A>) -> b
     moment < timeout(config, ask)
 }
 
-/// The question or the ask that is due first: at equal moments the question. `None` exactly where
+/// The question or the ask that is due first: at equal moments the question. `None` exactly if
 /// nothing waits and no ask is listed. Both lists are in the order of time, so the oldest of each
-/// decide. It does not allocate.
+/// decide.
 pub fn first_due<'a, A: Allocator>(
     config: &Config<A>,
     waiting: &'a WaitingQuestions<A>,

@@ -50,7 +50,7 @@ fn at_name<A: Allocator>(question: &QuestionRef<'_>, name: Name<A>) -> Question<
 }
 
 /// The question that is wanted after a miss: the one to which the last used alias leads, otherwise
-/// the one at which the look-up began. `None` where that is the client's own.
+/// the one at which the look-up began. `None` if that is the client's own.
 fn wanted_after<'a, H: BuildHasher + Drop, A: Allocator + Copy>(
     turn: &TurnRef<'a, H, A>,
     request: &Request<'_>,
@@ -133,8 +133,7 @@ fn missed<'a, H: BuildHasher + Drop, A: Allocator + Copy>(
 
 /// The fate of a question by its look-up. The chain has the aliases that it held before, none of
 /// them accepted after the moment, and then the entries that the look-up used. `lead` is the
-/// question at which the look-up began, where it is not the client's own. `Err` where memory ran
-/// out.
+/// question at which the look-up began, where it is not the client's own.
 pub fn fate_of<'a, H: BuildHasher + Drop, A: Allocator + Copy>(
     turn: &TurnRef<'a, H, A>,
     request: &Request<'_>,

@@ -13,10 +13,10 @@ pub struct Kept<H: BuildHasher, A: Allocator = Global> {
     /// The asks that are under way.
     pub inquiries: Inquiries<A>,
     pub waiting: WaitingQuestions<A>,
-    /// For each route the place of the server that is asked first.
+    /// For each route the place of the first server to ask.
     pub preferred: Vec<usize, A>,
     /// The effective moment, in milliseconds.
     pub moment: u64,
-    /// The number of asks that went by TCP.
+    /// The number of asks by TCP.
     pub tcp_asks: u64,
 }

@@ -1,5 +1,5 @@
-//! The last reply to a question whose tries are used up: from a stale set if one serves, or that
-//! all tries failed.
+//! The last reply to a question without a try left: from a stale set if there is one, otherwise
+//! that all tries failed.
 
 ghost use Rattle.std.specs.Prelude.{◌≡◌, ◌∷◌, ◌++◌, [], IfOk, option_map};
 ghost use Rattle.std.specs.List.{AllByRecursion};
@@ -25,8 +25,8 @@ use step_values::{Action, Actions, Why};
 use trust_rank::MOST_ALIASES;
 use waiting_questions::Waiting;
 
-/// The entries for a question, alive or expired within the configured window: aliases, at most as
-/// many as it may still take, and a set. Without a window nothing is looked up.
+/// The entries for a question, alive or expired within the configured window: aliases, as many as
+/// the question may still take, and a set. Without a window nothing is looked up.
 fn found_past<'a, H: BuildHasher + Drop, A: Allocator + Copy>(
     turn: &TurnRef<'a, H, A>,
     waiting: &Waiting<A>,
@@ -82,8 +82,8 @@ fn put_last<'a, H: BuildHasher + Drop, A: Allocator + Copy>(
     actions.push(action)
 }
 
-/// Closes the ask, whose question has no try left; each question that waits for it gets its last
-/// reply. `Err` where memory ran out.
+/// Closes the ask, whose question has no try left; each question waiting for it gets its last
+/// reply.
 pub fn last_replies<'a, H: BuildHasher + Drop, A: Allocator + Copy>(
     turn: &TurnRef<'a, H, A>,
     ask: &KeyedAsk<A>,

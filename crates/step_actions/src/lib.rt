@@ -1,5 +1,5 @@
-//! The decision of a step: its actions, whose texts `step_texts` writes, and the change of the
-//! forwarder that comes with them, with all the memory that it needs.
+//! The decision of a step: its actions, with texts from `step_texts`, and the change of the
+//! forwarder, with all its memory.
 #![tactic(auto)]
 
 mod attempts;

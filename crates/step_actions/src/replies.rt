@@ -1,5 +1,5 @@
-//! The actions at the end of a query: its path is closed, and those that wait for it get their
-//! replies.
+//! The actions at the end of a query: its path is closed, and the questions waiting for it get
+//! their replies.
 
 ghost use Rattle.std.specs.Prelude.{◌≡◌, ◌∷◌, ◌++◌, [], IfOk};
 ghost use Rattle.std.specs.List.{AllByRecursion};
@@ -20,7 +20,7 @@ use step_values::{Action, Actions, Why};
 use trust_rank::MOST_ALIASES;
 use waiting_questions::{Waiting, WaitingQuestions};
 
-/// The action that gives a path up.
+/// The action of giving a path up.
 pub fn close_path<A: Allocator>(path: Path) -> Action<A>
     ensures { action_of result ≡ closes path }
 {
@@ -30,7 +30,7 @@ pub fn close_path<A: Allocator>(path: Path) -> Action<A>
     }
 }
 
-/// The actions that give a path up, if any. It does not allocate.
+/// The actions of giving a path up, if any.
 pub fn close_paths<A: Allocator + Copy>(alloc: A, closed: Option<Path>) -> Actions<A>
     ensures { actions_of result ≡ closing_path closed }
 {
@@ -53,7 +53,7 @@ fn put_failure<A: Allocator + Copy>(
     actions.push(action)
 }
 
-/// Closes the ask; each question that waits for it fails. `Err` where memory ran out.
+/// Closes the ask; each question waiting for it fails.
 pub fn failures<A: Allocator + Copy>(
     alloc: A,
     ask: &KeyedAsk<A>,
@@ -104,7 +104,7 @@ fn put_answer<'a, A: Allocator + Copy>(
     actions.push(action)
 }
 
-/// Puts the answers of those questions last that wait for the one of this ask, in their order.
+/// Puts the answers of the questions waiting for this ask's question last, in order.
 fn put_answers<'a, A: Allocator + Copy>(
     alloc: A,
     actions: &mut Actions<A>,
@@ -123,8 +123,8 @@ fn put_answers<'a, A: Allocator + Copy>(
     Ok(())
 }
 
-/// Entries, borrowed. `Err` where memory ran out: `collect` would go on with less room where the
-/// whole is refused.
+/// Entries, borrowed. Not by `collect`, which would go on with less room after a refused
+/// allocation.
 fn borrowed<A: Allocator + Copy>(alloc: A, held: &[Held<A>]) -> Result<Vec<&Held<A>, A>, AllocError>
     ensures { IfOk result (λ refs. lent refs.items ≡ held.now) }
 {
@@ -135,9 +135,9 @@ fn borrowed<A: Allocator + Copy>(alloc: A, held: &[Held<A>]) -> Result<Vec<&Held
     Ok(refs)
 }
 
-/// Closes the ask, and answers each question that waits for it, from the aliases that it holds and
-/// these pieces. A question fails where these are too many aliases. None was accepted after the
-/// moment, in milliseconds. `Err` where memory ran out.
+/// Closes the ask, and answers each question waiting for it, from its held aliases and these
+/// pieces. A question with too many aliases fails. None was accepted after the moment, in
+/// milliseconds.
 pub fn answers_to<A: Allocator + Copy>(
     alloc: A,
     ask: &KeyedAsk<A>,

@@ -1,4 +1,4 @@
-//! One step's view of the forwarder.
+//! A step's view of the forwarder.
 
 ghost use Rattle.std.specs.Prelude.{◌≡◌, List, Bool, []};
 ghost use Rattle.step_table.specs.Steps.{idle_step};
@@ -14,8 +14,8 @@ use std::marker::Model;
 use step_values::Actions;
 use suffix_routes::Config;
 
-/// A forwarder as a step finds it, borrowed, with the moment and the random words of the step. The
-/// decision depends on nothing else.
+/// A forwarder at the start of a step, borrowed, with the moment and the random words of the step.
+/// The decision depends on nothing else.
 #[derive(Drop)]
 pub struct TurnRef<'a, H: BuildHasher, A: Allocator = Global> {
     pub alloc: A,
@@ -56,7 +56,7 @@ impl<'a, H: BuildHasher, A: Allocator> Model for TurnRef<'a, H, A> {
 }
 
 impl<'a, H: BuildHasher + Drop, A: Allocator + Copy> TurnRef<'a, H, A> {
-    /// The cache at the moment of the step, for look-ups. It does not allocate.
+    /// The cache at the moment of the step, for look-ups.
     pub fn cache_at(&self) -> CacheAt<'a, H, A>
         ensures { result ≡ cache_at self.now }
     {

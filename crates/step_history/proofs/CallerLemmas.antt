@@ -1,3 +1,7 @@
--- Lemmas for the proofs of crates above: moments, and the pieces carried since.
+-- Lemmas for the proofs of crates above: moments, the pieces carried since, the table's counterparts
+-- of accepted replies and of aliases, and tries.
 pub use Rattle.step_history.proofs.Moments.{moment_small, moment_later}
 pub use Rattle.step_history.proofs.Since.{then_carried-append, carried_since}
+pub use Rattle.step_history.proofs.Slots.{alias_to, target_is}
+pub use Rattle.step_history.proofs.Accepted.{accepted_fine, accepted_pieces, walk_accepted, walk_accepted-asked}
+pub use Rattle.step_history.proofs.Tries.{failed_so_far_last, tries_failed_last}

@@ -1,12 +1,13 @@
 -- The claims without a window and without a route that denies: version 2 adds nothing.
-use Rattle.std.proofs.Common.{◌≡◌, ℕ, ◌≤◌, List, true, sym, ◌∙◌, inl, inr, arith}
-use Rattle.std.proofs.lemmas.Bool.{true≢false}
-use Rattle.suffix_routes.proofs.CallerLemmas.{nothing_is_denied}
+use Rattle.std.proofs.Common.{◌≡◌, ℕ, ◌≤◌, List, false, sym, ◌∙◌, inl, inr, arith}
+use Rattle.std.proofs.lemmas.Bool.{false≢true}
+use Rattle.suffix_routes.proofs.RouteLaws.{all_hold}
 use Rattle.step_values.specs.declared.event.Client.{Client}
 use Rattle.step_values.specs.declared.event.Client.TheVariants.{Udp, Tcp}
 use Rattle.step_values.specs.declared.action.Why.TheVariants.{TooLarge}
-use Rattle.suffix_routes.specs.Values.{HasNeither}
-use Rattle.suffix_routes.specs.Serving.{is_local}
+use Rattle.suffix_routes.specs.Values.{Route, HasNeither}
+use Rattle.suffix_routes.specs.Routes.{IsRouteOf}
+use Rattle.cache_laws.specs.Serving.{IsDenied}
 use Rattle.step_history.specs.History.{Look}
 use Rattle.step_history.specs.Causes.{Cause, AnswerIsTooLarge}
 use Rattle.step_history.specs.Laws.{FirstVersionStandsAlone}
@@ -15,8 +16,13 @@ module _ (l : Look) (neither : HasNeither l.config) where
   no_window : 1 ≤ l.config.limits.stale_s → ⊥
   no_window some = let none = neither.window in omega (arith, some, none)
 
-  none_local : (name : List (List ℕ)) → is_local l.config name ≡ true → ⊥
-  none_local name is = true≢false (sym is ∙ (nothing_is_denied l.config name neither).1)
+  serves : (name : List (List ℕ)) (place : ℕ) (of_name : IsRouteOf l.config.routes name place)
+      → of_name.route.deny ≡ false
+  serves name place of_name =
+      all_hold (λ (r : Route). r.deny ≡ false) l.config.routes place of_name.route neither.routes of_name.there
+
+  none_local : (name : List (List ℕ)) → IsDenied l.config name → ⊥
+  none_local name is = false≢true (sym (serves name is.place is.longest) ∙ is.denies)
 
   only_living : (client : Client) (request : List ℕ) (waiting : ℕ) → Cause l client request waiting TooLarge → AnswerIsTooLarge l request
   only_living (Udp peer) request waiting cause = absurd cause
@@ -29,5 +35,5 @@ first_version_stands_alone l client request octets waiting neither = record {
   stale = λ right. no_window l neither right.window;
   local = λ right. none_local l neither right.answers.chain.last.name right.answers.chain.denied;
   large = only_living l neither client request waiting;
-  routed = λ name. (nothing_is_denied l.config name neither).0;
+  routed = λ name place of_name. record { longest = of_name; serves = serves l neither name place of_name };
 }

@@ -1,5 +1,8 @@
 pub mod Moments
 pub mod Since
+pub mod Slots
+pub mod Accepted
+pub mod Tries
 pub mod CallerLemmas
 mod FirstVersion
 mod WorkedPastEnds

@@ -1,11 +1,14 @@
 -- Worked histories, computed: which questions are served, which moments count, until when an ask is
 -- open, when more is due, whose server an ask goes to, and when all tries have failed.
-use Rattle.std.proofs.Common.{◌≡◌, ℕ, ◌<◌, List, [], ◌∷◌, zero, suc, Some, true, false, refl, sym, ap, ◌∙◌, subst, arith}
+use Rattle.std.proofs.Common.{◌≡◌, ℕ, ◌<◌, List, [], ◌∷◌, length, zero, suc, None, Some, true, false, refl, sym, ap, ◌∙◌, subst, arith}
 use Rattle.std.specs.Prelude.{slice_get}
 use Rattle.std.proofs.lemmas.Bool.{true≢false}
 use Rattle.suffix_routes.specs.declared.peer.Peer.{Peer}
 use Rattle.suffix_routes.specs.Values.{Config, Route, default_limits}
 use Rattle.suffix_routes.specs.Routes.{route_of}
+use Rattle.dns_name.specs.Labels.{IsUnder}
+use Rattle.cache_laws.specs.Serving.{IsServedBy}
+use Rattle.cache_laws.proofs.CallerLemmas.{serves_exactly}
 use Rattle.dns_message.specs.Values.{Question}
 use Rattle.dns_message.specs.Names.{step as name_step, walk_in, name_within}
 use Rattle.dns_message.specs.Records.{octets_end, question_at}
@@ -98,21 +101,28 @@ late octets q m = let live : 2500 < 2500 = m.is_live in omega (arith, live)
 
 its_server : IsServerFor config address other_server
 unfolding route_of
-its_server = record { route = 1; group = for_example; place = 0; route_is = refl; there = refl; server = refl }
+its_server = record { route = 1; group = for_example; place = 0; route_is = serves_exactly.only config address.name 1 refl; there = refl; server = refl }
 
 -- the server of another route is none of this
 of_another_route : IsServerFor config address server → ⊥
-unfolding route_of
-of_another_route h =
-    let place_is : Some 1 ≡ Some h.route = h.route_is in
-    let place_same : 1 ≡ h.route = cc in
-    let route_is : Some for_example ≡ Some h.group = subst (λ (n : ℕ). slice_get config.routes n ≡ Some h.group) (sym place_same) h.there in
-    let route_same : for_example ≡ h.group = cc in
-    none h.place (subst (λ (r : Route). slice_get r.servers h.place ≡ Some server) (sym route_same) h.server)
+of_another_route h = by h.route h.there h.route_is
   where
+    under : IsUnder address.name for_example.suffix
+    under = ((97 ∷ []) ∷ [], example ∷ [], refl, refl)
+
     none : (k : ℕ) → slice_get (other_server ∷ []) k ≡ Some server → ⊥
     none zero is = let same : other_server ≡ server = cc in let port : 5353 ≡ 53 = ap (λ (p : Peer). p.port) same in omega (arith, port)
     none (suc k) is = absurd cc
+
+    -- the first route has a shorter suffix
+    by : (k : ℕ) → slice_get config.routes k ≡ Some h.group → IsServedBy config address.name k → ⊥
+    by zero there is =
+        let first : record { suffix = []; deny = false; servers = server ∷ [] } ≡ is.longest.route = (let two = is.longest.there in cc) in
+        omega (arith, is.longest.most 1 for_example refl under, ap (λ (r : Route). length r.suffix) first)
+    by (suc zero) there is =
+        let same : for_example ≡ h.group = cc in
+        none h.place (subst (λ (r : Route). slice_get r.servers h.place ≡ Some server) (sym same) h.server)
+    by (suc (suc k)) there is = absurd (let no : None ≡ Some h.group = there in cc)
 
 -- ---- when more is due
 

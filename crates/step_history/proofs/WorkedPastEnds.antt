@@ -1,9 +1,15 @@
 -- Answers with expired sets and denials by the configuration, computed: until when a set may be
 -- sent, which pieces may, the texts, and which names are denied.
-use Rattle.std.proofs.Common.{◌≡◌, ℕ, ◌+◌, ◌*◌, ◌<◌, List, [], ◌∷◌, Some, None, true, false, refl, sym, ◌∙◌, subst, arith}
+use Rattle.std.proofs.Common.{◌≡◌, ℕ, ◌+◌, ◌*◌, ◌<◌, List, [], ◌∷◌, length, zero, suc, Some, None, true, false, refl, sym, ap, ◌∙◌, subst, arith}
+use Rattle.std.proofs.lemmas.Bool.{false≢true}
+use Rattle.dns_name.specs.Labels.{IsUnder}
+use Rattle.dns_name.proofs.CallerLemmas.{is_under_decides}
 use Rattle.suffix_routes.specs.declared.peer.Peer.{Peer}
-use Rattle.suffix_routes.specs.Values.{Config, default_limits}
-use Rattle.suffix_routes.specs.Routes.{route_of}
+use Rattle.suffix_routes.specs.Values.{Config, IsConfig, Route, default_limits}
+use Rattle.suffix_routes.specs.Routes.{route_of, IsRouteOf}
+use Rattle.suffix_routes.proofs.RouteLaws.{one_route}
+use Rattle.cache_laws.specs.Serving.{IsServedBy, IsDenied}
+use Rattle.cache_laws.proofs.CallerLemmas.{denies_names_exactly}
 use Rattle.dns_message.specs.declared.reading.header.Header.{Header}
 use Rattle.std.specs.Prelude.{map}
 use Rattle.dns_message.specs.Values.{Question, Record}
@@ -12,7 +18,6 @@ use Rattle.dns_message.specs.Shapes.{shape_of}
 use Rattle.trust_rank.specs.Values.{rows, no_data, denied, Body}
 use Rattle.record_cache.specs.Values.{Held}
 use Rattle.record_cache.specs.Ageing.{end_of}
-use Rattle.suffix_routes.specs.Serving.{serving_route_of, is_local}
 use Rattle.step_history.specs.History.{moment_at, Look}
 use Rattle.step_history.specs.Stale.{JustifiedPastItsEnd, ChainPastEnds}
 use Rattle.step_history.specs.Replies.{full_text, stale_sections, denied_sections}
@@ -57,8 +62,8 @@ no_error : (l : Look) (name : List (List ℕ)) → JustifiedPastItsEnd l name (p
 no_error l name j = j.is_set
 
 -- on the name's route alone
-on_its_route : (l : Look) (name : List (List ℕ)) (o : Held) → JustifiedPastItsEnd l name o → (k : ℕ) → serving_route_of l.config name ≡ Some k → k ≡ o.piece.route
-on_its_route l name o j k is = let same : Some k ≡ Some o.piece.route = sym is ∙ j.on_route in cc
+on_its_route : (l : Look) (name : List (List ℕ)) (o : Held) → IsConfig l.config → JustifiedPastItsEnd l name o → (k : ℕ) → IsServedBy l.config name k → k ≡ o.piece.route
+on_its_route l name o config j k is = one_route l.config.routes name k o.piece.route config.differ is.longest j.on_route.longest
 
 -- no piece serves where the newest step's era has none that came before it
 never_new : (l : Look) (name : List (List ℕ)) (o : Held) (j : JustifiedPastItsEnd l name o) → j.old ≡ [] → ⊥
@@ -110,9 +115,42 @@ abbrev server : Peer
 server = record { ip = 192 ∷ 0 ∷ 2 ∷ 1 ∷ []; port = 53 }
 
 -- names under a.e are denied
-abbrev config : Config
-config = record { listen = server; limits = default_limits; routes = record { suffix = []; deny = false; servers = server ∷ [] } ∷ record { suffix = below 97; deny = true; servers = [] } ∷ [] }
+abbrev for_all : Route
+for_all = record { suffix = []; deny = false; servers = server ∷ [] }
 
-denied_names : (is_local config ((98 ∷ []) ∷ below 65) ≡ true) × (is_local config (below 98) ≡ false) × (serving_route_of config ((98 ∷ []) ∷ below 65) ≡ None)
+abbrev that_denies : Route
+that_denies = record { suffix = below 97; deny = true; servers = [] }
+
+abbrev config : Config
+config = record { listen = server; limits = default_limits; routes = for_all ∷ that_denies ∷ [] }
+
+denied_below : IsDenied config ((98 ∷ []) ∷ below 65)
 unfolding route_of
-denied_names = (refl, refl, refl)
+denied_below = denies_names_exactly.only config ((98 ∷ []) ∷ below 65) refl
+
+-- the place of a route, by its route
+first_is : (name : List (List ℕ)) (is : IsRouteOf config.routes name 0) → for_all ≡ is.route
+first_is name is = let two : Some for_all ≡ Some is.route = is.there in cc
+
+second_is : (name : List (List ℕ)) (is : IsRouteOf config.routes name 1) → that_denies ≡ is.route
+second_is name is = let two : Some that_denies ≡ Some is.route = is.there in cc
+
+not_beside : IsDenied config (below 98) → ⊥
+not_beside h = by h.place h.longest h.denies
+  where
+    by : (k : ℕ) (is : IsRouteOf config.routes (below 98) k) → is.route.deny ≡ true → ⊥
+    by zero is denies = false≢true (ap (λ (r : Route). r.deny) (first_is (below 98) is) ∙ denies)
+    by (suc zero) is denies = false≢true ((is_under_decides (below 98) (below 97)).1
+        (subst (λ (r : Route). IsUnder (below 98) r.suffix) (sym (second_is (below 98) is)) is.under))
+    by (suc (suc k)) is denies = absurd (let no : None ≡ Some is.route = is.there in cc)
+
+-- a denied name is served by no route, also by none with a shorter suffix
+not_served : (k : ℕ) → IsServedBy config ((98 ∷ []) ∷ below 65) k → ⊥
+not_served zero is = omega (
+  arith,
+  is.longest.most 1 that_denies refl ((98 ∷ []) ∷ [], below 65, refl, refl),
+  ap (λ (r : Route). length r.suffix) (first_is ((98 ∷ []) ∷ below 65) is.longest),
+)
+not_served (suc zero) is = false≢true (sym is.serves
+    ∙ sym (ap (λ (r : Route). r.deny) (second_is ((98 ∷ []) ∷ below 65) is.longest)))
+not_served (suc (suc k)) is = absurd (let no : None ≡ Some is.longest.route = is.longest.there in cc)

@@ -1,22 +1,25 @@
 -- The pieces that replies carried, computed: their order, how long each counts, which takes whose
 -- place, whom each may serve, and which question it answers.
-use Rattle.std.proofs.Common.{◌≡◌, ℕ, ◌<◌, List, [], ◌∷◌, Some, None, true, false, refl, sym, ◌∙◌, subst, ◌⊎◌, inl, inr, arith}
-use Rattle.std.proofs.lemmas.Bool.{true≢false}
+use Rattle.std.proofs.Common.{◌≡◌, ◌≢◌, ℕ, ◌<◌, List, [], ◌∷◌, Some, None, true, false, refl, ◌∙◌, subst, ◌⊎◌, inl, inr, arith}
+use Rattle.std.proofs.lemmas.Bool.{false≢true}
+use Rattle.dns_name.proofs.CallerLemmas.{is_under_decides}
+use Rattle.suffix_routes.specs.Values.{IsConfig}
+use Rattle.suffix_routes.proofs.RouteLaws.{one_route}
 use Rattle.dns_message.specs.Values.{Question}
 use Rattle.dns_message.specs.Data.{name_of_rdata}
 use Rattle.dns_message.specs.Names.{step as name_step, walk_in, name_within}
 use Rattle.dns_message.specs.Writing.{◌▹◌, each, name_text, data_text, with_length, written}
 use Rattle.dns_message.specs.Shapes.{shape_of}
-use Rattle.trust_rank.specs.Values.{rows, no_data, denied, Piece, found, ends_no_data, ends_denied, elsewhere, lame}
-use Rattle.trust_rank.specs.Walks.{target_of, is_lame}
+use Rattle.trust_rank.specs.Values.{rows, denied, Piece, found, ends_no_data, ends_denied, elsewhere, lame}
+use Rattle.cache_laws.specs.Serving.{IsServedBy}
+use Rattle.cache_laws.proofs.CallerLemmas.{replaces_exactly, keeps_place}
 use Rattle.record_cache.specs.Values.{Held}
 use Rattle.record_cache.specs.Ageing.{end_of, seconds_left}
 use Rattle.record_cache.specs.Laws.{Among}
 use Rattle.step_values.specs.declared.action.Why.TheVariants.{ChainLong}
-use Rattle.suffix_routes.specs.Serving.{serving_route_of}
 use Rattle.step_history.specs.History.{moment_at, Look}
 use Rattle.step_history.specs.Carried.{then_carried, NotReplaced, Justified}
-use Rattle.step_history.specs.Answers.{has_slot, EndsChain}
+use Rattle.step_history.specs.Answers.{IsOf, IsAliasTo, EndsChain}
 use Rattle.step_history.specs.Replies.{answer_text, failure_text}
 use Rattle.answer_builder.specs.Values.{asked_in}
 
@@ -40,8 +43,13 @@ at moment p = record { piece = p; accepted = moment }
 -- ---- the pieces that a reply carries
 
 -- a reply that leads on to another name is not lame
-lame_ends : (is_lame lame ≡ true) × (is_lame (elsewhere a) ≡ false) × (is_lame found ≡ false) × (is_lame ends_no_data ≡ false) × (is_lame ends_denied ≡ false)
-lame_ends = (refl, refl, refl, refl, refl)
+lame_ends : (elsewhere a ≢ lame) × (found ≢ lame) × (ends_no_data ≢ lame) × (ends_denied ≢ lame)
+lame_ends = (
+  λ is. let wrong : elsewhere a ≡ lame = is in cc,
+  λ is. let wrong : found ≡ lame = is in cc,
+  λ is. let wrong : ends_no_data ≡ lame = is in cc,
+  λ is. let wrong : ends_denied ≡ lame = is in cc,
+)
 
 -- the piece that came last is the newest
 order : then_carried 1020 (set a 300 3 ∷ name_error (below 98) ∷ []) (at 1000 (set a 60 1) ∷ []) ≡ at 1020 (name_error (below 98)) ∷ at 1020 (set a 300 3) ∷ at 1000 (set a 60 1) ∷ []
@@ -60,26 +68,26 @@ ended h = omega (arith, h)
 
 -- a set that is believed less takes the place of none
 believed_less : NotReplaced (at 1020 (set a 300 3)) (at 2020 (set a 600 1) ∷ at 1020 (set a 300 3) ∷ [])
-believed_less = inr (refl, inl refl)
+believed_less = inr (keeps_place (set a 600 1) (set a 300 3) refl, inl refl)
 
 -- one that is believed as much does, of whatever lifetime
 replaced : NotReplaced (at 1020 (set a 300 3)) (at 2020 (set a 0 3) ∷ at 1020 (set a 300 3) ∷ []) → ⊥
 replaced (inl same) = let two : 2020 ≡ 1020 = Rattle.std.proofs.Common.ap (λ (h : Held). h.accepted) same in omega (arith, two)
-replaced (inr later) = true≢false later.0
+replaced (inr later) = later.0 (replaces_exactly.only (set a 0 3) (set a 300 3) refl)
 
 -- a name error takes the place of no set, and a set below it that of the name error
 set_stays : NotReplaced (at 1020 (set a 300 3)) (at 2020 (name_error ((101 ∷ []) ∷ [])) ∷ at 1020 (set a 300 3) ∷ [])
-set_stays = inr (refl, inl refl)
+set_stays = inr (keeps_place (name_error ((101 ∷ []) ∷ [])) (set a 300 3) refl, inl refl)
 
 error_over : NotReplaced (at 1020 (name_error ((101 ∷ []) ∷ []))) (at 2020 (set a 0 1) ∷ at 1020 (name_error ((101 ∷ []) ∷ [])) ∷ []) → ⊥
 error_over (inl same) = let two : 2020 ≡ 1020 = Rattle.std.proofs.Common.ap (λ (h : Held). h.accepted) same in omega (arith, two)
-error_over (inr later) = true≢false later.0
+error_over (inr later) = later.0 (replaces_exactly.only (set a 0 1) (name_error ((101 ∷ []) ∷ [])) refl)
 
 -- ---- whom it may serve
 
 -- it serves names on its own route alone
-on_its_route : (l : Look) (name : List (List ℕ)) (o : Held) → Justified l name o → (k : ℕ) → serving_route_of l.config name ≡ Some k → k ≡ o.piece.route
-on_its_route l name o j k is = let same : Some k ≡ Some o.piece.route = sym is ∙ j.on_route in cc
+on_its_route : (l : Look) (name : List (List ℕ)) (o : Held) → IsConfig l.config → Justified l name o → (k : ℕ) → IsServedBy l.config name k → k ≡ o.piece.route
+on_its_route l name o config j k is = one_route l.config.routes name k o.piece.route config.differ is.longest j.on_route.longest
 
 -- a piece that came before the client asked was alive then
 was_alive : (l : Look) (name : List (List ℕ)) (o : Held) (j : Justified l name o) → j.new ≡ [] → moment_at (l.asked ∷ l.before) < end_of o
@@ -95,20 +103,54 @@ abbrev address : List (List ℕ) → Question
 address name = record { name = name; kind = 1; class = 1 }
 
 -- letter case aside, its own name, class and type
-own_slot : (has_slot (set a 300 3) (below 65) 1 (Some 1) ≡ true) × (has_slot (set a 300 3) (below 98) 1 (Some 1) ≡ false) × (has_slot (set a 300 3) a 3 (Some 1) ≡ false) × (has_slot (set a 300 3) a 1 (Some 28) ≡ false)
-own_slot = (refl, refl, refl, refl)
+own_slot : IsOf (set a 300 3) (below 65) 1 (Some 1)
+own_slot = record { name = refl; class = refl; kind = refl }
+
+letters_are : (x y : ℕ) → below x ≡ below y → x ≡ y
+letters_are x y same = cc
+
+types_are : (x y : ℕ) → Some x ≡ Some y → x ≡ y
+types_are x y same = cc
+
+another_name : IsOf (set a 300 3) (below 98) 1 (Some 1) → ⊥
+another_name h = omega (arith, letters_are 97 98 h.name)
+
+another_class : IsOf (set a 300 3) a 3 (Some 1) → ⊥
+another_class h = omega (arith, h.class)
+
+another_type : IsOf (set a 300 3) a 1 (Some 28) → ⊥
+another_type h = omega (arith, types_are 1 28 h.kind)
 
 -- a name error answers its own name and those below it, whatever the type, and no sibling
 denied_names : EndsChain (address a) (name_error ((101 ∷ []) ∷ [])) (denied None) × EndsChain (address a) (name_error a) (denied None)
-denied_names = ((refl, refl), (refl, refl))
+denied_names = ((((97 ∷ []) ∷ [], (101 ∷ []) ∷ [], refl, refl), refl), (([], a, refl, refl), refl))
 
 sibling : EndsChain (address (below 98)) (name_error a) (denied None) → ⊥
-sibling h = true≢false (Rattle.std.proofs.Common.sym h.0)
+sibling h = false≢true ((is_under_decides (below 98) a).1 h.0)
 
 -- an alias leads to the name of its one record
-targets : (target_of (rows ((1 ∷ 98 ∷ 0 ∷ []) ∷ [])) ≡ Some ((98 ∷ []) ∷ [])) × (target_of (rows ((1 ∷ 98 ∷ 0 ∷ []) ∷ (1 ∷ 99 ∷ 0 ∷ []) ∷ [])) ≡ None) × (target_of (no_data None) ≡ None)
+abbrev alias : List (List ℕ) → Piece
+alias records = record { owner = a; slot = record { key = a; class = 1; kind = Some 5 }; body = rows records; lifetime = 60; rank = 3; route = 0 }
+
+leads : IsAliasTo (alias ((1 ∷ 98 ∷ 0 ∷ []) ∷ [])) ((98 ∷ []) ∷ [])
 unfolding name_of_rdata name_within walk_in name_step
-targets = (refl, refl, refl)
+leads = record { datum = 1 ∷ 98 ∷ 0 ∷ []; body = refl; leads = refl }
+
+elsewhere_it_does_not : IsAliasTo (alias ((1 ∷ 98 ∷ 0 ∷ []) ∷ [])) ((99 ∷ []) ∷ []) → ⊥
+unfolding name_of_rdata name_within walk_in name_step
+elsewhere_it_does_not h =
+    let body : rows ((1 ∷ 98 ∷ 0 ∷ []) ∷ []) ≡ rows (h.datum ∷ []) = h.body in
+    let datum : 1 ∷ 98 ∷ 0 ∷ [] ≡ h.datum = cc in
+    omega (arith, one_letter 98 99 (Rattle.std.proofs.Common.ap name_of_rdata datum ∙ h.leads))
+  where
+    one_letter : (x y : ℕ) → Some ((x ∷ []) ∷ []) ≡ Some ((y ∷ []) ∷ []) → x ≡ y
+    one_letter x y same = cc
+
+two_records : (name : List (List ℕ)) → IsAliasTo (alias ((1 ∷ 98 ∷ 0 ∷ []) ∷ (1 ∷ 99 ∷ 0 ∷ []) ∷ [])) name → ⊥
+two_records name h = let body : rows ((1 ∷ 98 ∷ 0 ∷ []) ∷ (1 ∷ 99 ∷ 0 ∷ []) ∷ []) ≡ rows (h.datum ∷ []) = h.body in absurd cc
+
+denial_leads_nowhere : (name : List (List ℕ)) → IsAliasTo (name_error a) name → ⊥
+denial_leads_nowhere name h = let body : denied None ≡ rows (h.datum ∷ []) = h.body in absurd cc
 
 -- ---- texts
 

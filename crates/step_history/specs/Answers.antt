@@ -1,13 +1,13 @@
 -- Answers, and the chains that justify them.
-use Rattle.std.specs.Prelude.{◌≡◌, ◌≢◌, ℕ, ◌≤◌, Bool, true, List, [], ◌∷◌, length, Option, Some}
-use Rattle.dns_name.specs.Labels.{is_under}
+use Rattle.std.specs.Prelude.{◌≡◌, ◌≢◌, ℕ, ◌≤◌, List, [], ◌∷◌, length, Option, Some}
+use Rattle.dns_name.specs.Labels.{IsUnder}
+use Rattle.dns_message.specs.Data.{name_of_rdata}
 use Rattle.dns_message.specs.declared.reading.header.Header.{Header}
 use Rattle.dns_message.specs.Values.{Question, Message}
 use Rattle.dns_message.specs.Messages.{Spells}
 use Rattle.trust_rank.specs.Values.{Body, rows, no_data, denied, Piece}
-use Rattle.trust_rank.specs.Replacing.{same_slot}
-use Rattle.trust_rank.specs.Walks.{target_of}
 use Rattle.record_cache.specs.Values.{Held}
+use Rattle.cache_laws.specs.Replacing.{AreOfOneSlot}
 use Rattle.step_values.specs.declared.event.Client.{Client}
 use Rattle.step_history.specs.History.{Look, moment_at}
 use Rattle.step_history.specs.Carried.{Justified}
@@ -15,30 +15,36 @@ use Rattle.step_history.specs.Replies.{answer_text, cut_text, sized_for, FitsTra
 use Rattle.answer_builder.specs.Values.{asked_in}
 use Rattle.dns_message.specs.Questions.{asked_at}
 
--- the piece is of this name, class and type
-abbrev pub has_slot : Piece → List (List ℕ) → ℕ → Option ℕ → Bool
-has_slot p name class kind = same_slot p.slot (record { key = name; class = class; kind = kind })
+-- the piece has this name, without letter case, and this class and type
+abbrev pub IsOf : Piece → List (List ℕ) → ℕ → Option ℕ → Type 0
+IsOf p name class kind = AreOfOneSlot p.slot (record { key = name; class = class; kind = kind })
+
+-- the piece has one record, and its data is this name
+pub record IsAliasTo (p : Piece) (name : List (List ℕ)) : Type 0 where
+  pub datum : List ℕ
+  pub body : p.body ≡ rows (datum ∷ [])
+  pub leads : name_of_rdata datum ≡ Some name
 
 -- justified aliases lead from the first question to the last; a question for CNAME follows none
 -- (RFC 1034 3.6.2)
 abbrev pub FollowsAliases : Look → Question → List Held → Question → Type 0
 FollowsAliases l q [] last = last ≡ q
 FollowsAliases l q (o ∷ os) last =
-    (q.kind ≢ 5) × Justified l q.name o × (has_slot o.piece q.name q.class (Some 5) ≡ true)
-    × (name : List (List ℕ)) × (target_of o.piece.body ≡ Some name) × FollowsAliases l (asked_at q name) os last
+    (q.kind ≢ 5) × Justified l q.name o × IsOf o.piece q.name q.class (Some 5)
+    × (name : List (List ℕ)) × IsAliasTo o.piece name × FollowsAliases l (asked_at q name) os last
 
--- the piece is q's set, its NODATA (RFC 2308 2), or a name error at or above its name (RFC 8020 2)
+-- the piece is q's set, q's NODATA (RFC 2308 2), or a name error at or above q's name (RFC 8020 2)
 abbrev pub EndsChain : Question → Piece → Body → Type 0
-EndsChain q p (rows each) = has_slot p q.name q.class (Some q.kind) ≡ true
-EndsChain q p (no_data soa) = has_slot p q.name q.class (Some q.kind) ≡ true
-EndsChain q p (denied soa) = (is_under q.name p.slot.key ≡ true) × (p.slot.class ≡ q.class)
+EndsChain q p (rows each) = IsOf p q.name q.class (Some q.kind)
+EndsChain q p (no_data soa) = IsOf p q.name q.class (Some q.kind)
+EndsChain q p (denied soa) = IsUnder q.name p.slot.key × (p.slot.class ≡ q.class)
 
 -- at most eight justified aliases lead from q to `last`
 pub record Leads (l : Look) (q : Question) (aliases : List Held) (last : Question) : Type 0 where
   pub few : length aliases ≤ 8
   pub follows : FollowsAliases l q aliases last
 
--- such aliases (`Leads`), and a justified piece that ends them, answer q (RFC 1034 3.6.2)
+-- such aliases (`Leads`), and a justified piece at their end, answer q (RFC 1034 3.6.2)
 pub record Chain (l : Look) (q : Question) (aliases : List Held) (o : Held) : Type 0 where
   pub last : Question
   pub leads : Leads l q aliases last

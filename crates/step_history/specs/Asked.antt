@@ -6,7 +6,7 @@ use Rattle.dns_message.specs.Questions.{same_question}
 use Rattle.dns_message.specs.Writing.{written}
 use Rattle.suffix_routes.specs.declared.peer.Peer.{Peer}
 use Rattle.suffix_routes.specs.Values.{Config, Route}
-use Rattle.suffix_routes.specs.Serving.{serving_route_of}
+use Rattle.cache_laws.specs.Serving.{IsServedBy}
 use Rattle.outstanding.specs.declared.ask.Path.{Path}
 use Rattle.outstanding.specs.declared.ask.Path.TheVariants.{Udp, Tcp}
 use Rattle.outstanding.specs.Lists.{same_path}
@@ -25,21 +25,21 @@ abbrev pub AreApart : List ShownAsk → Type 0
 AreApart [] = Unit {0}
 AreApart (a ∷ asks) = AllByRecursion (DiffersFrom a) asks × AreApart asks
 
--- the peer is a server of the route that serves the question's name
+-- the peer is a server of the serving route of the question's name
 pub record IsServerFor (c : Config) (q : Question) (p : Peer) : Type 0 where
   pub route : ℕ
   pub group : Route
   pub place : ℕ
-  pub route_is : serving_route_of c q.name ≡ Some route
+  pub route_is : IsServedBy c q.name route
   pub there : slice_get c.routes route ≡ Some group
   pub server : slice_get group.servers place ≡ Some p
 
--- identifier and path are those that the step draws
+-- identifier and path are the step's draw
 abbrev pub IsDrawn : Step → List Step → ℕ → Path → Type 0
 IsDrawn s past id (Udp port) = drawn s.handed.words (listed past) s.outcome.actions ≡ Some (id, port)
 IsDrawn s past id (Tcp conn) = drawn_by_tcp s.handed.words (tcp_asks past) ≡ Some (id, conn)
 
--- `ask_message` alone, to a server of its name's route, with the drawn identifier and path (RFC
+-- `ask_message` alone, to a server of the name's route, with the drawn identifier and path (RFC
 -- 5452 9.2)
 pub record AsksRight (c : Config) (s : Step) (past : List Step) (a : SentAsk) : Type 0 where
   pub id : ℕ
@@ -49,7 +49,7 @@ pub record AsksRight (c : Config) (s : Step) (past : List Step) (a : SentAsk) : 
   pub server : IsServerFor c question a.server
   pub drawn_so : IsDrawn s past id a.path
 
--- the ask, if any, is right, and no later action of its step closes it
+-- the ask, if any, is right, and no later action of the step closes it
 abbrev pub IsRightAsk : Config → Step → List Step → Option SentAsk → List Action → Type 0
 IsRightAsk c s past None more = Unit {0}
 IsRightAsk c s past (Some a) more = AsksRight c s past a × (closes_path a.path more ≡ false)
@@ -59,7 +59,7 @@ abbrev pub AreRightAsks : Config → Step → List Step → List Action → Type
 AreRightAsks c s past [] = Unit {0}
 AreRightAsks c s past (a ∷ more) = IsRightAsk c s past (ask_in a) more × AreRightAsks c s past more
 
--- after every step its asks are right, and the listed ones apart and within the limit
+-- after every step the step's asks are right, and the listed asks apart and within the limit
 abbrev pub AsksWell : Config → List Step → Type 0
 AsksWell c [] = Unit {0}
 AsksWell c (s ∷ past) =

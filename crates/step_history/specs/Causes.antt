@@ -1,22 +1,23 @@
 -- Why a client gets a failure.
 use Rattle.std.specs.Prelude.{◌≡◌, ◌≢◌, ℕ, zero, suc, ◌+◌, ◌-◌, ◌^◌, ◌<◌, ◌≤◌, true, false, List, [], ◌∷◌, length, Some}
-use Rattle.std.specs.Prelude.{None, ◌⊎◌}
+use Rattle.std.specs.Prelude.{Option, None, ◌⊎◌}
 use Rattle.std.specs.List.{AllByRecursion}
 use Rattle.dns_message.specs.Values.{Question}
 use Rattle.suffix_routes.specs.Values.{Config}
+use Rattle.suffix_routes.specs.Routes.{HasNoRoute as IsUnderNone}
 use Rattle.step_values.specs.declared.event.Client.{Client}
 use Rattle.step_values.specs.declared.event.Client.TheVariants.{Udp, Tcp}
 use Rattle.step_values.specs.declared.action.Why.{Why}
 use Rattle.step_values.specs.declared.action.Why.TheVariants.{Answered, BadFormat, BadOpcode, NotServed, NoRoute}
 use Rattle.step_values.specs.declared.action.Why.TheVariants.{QuestionsFull, InquiriesFull, NoPort, Exhausted, Deadline}
 use Rattle.step_values.specs.declared.action.Why.TheVariants.{ChainLong, TooLarge, Stale, LocalDenied}
-use Rattle.step_values.specs.Values.{tick, Action, Step}
-use Rattle.suffix_routes.specs.Serving.{serving_route_of, is_local}
+use Rattle.step_values.specs.Values.{path_failed, tick, Action, SentAsk, ask_in, Step}
 use Rattle.dns_message.specs.Questions.{same_question, is_unserved}
 use Rattle.dns_message.specs.Header.{header_in}
+use Rattle.trust_rank.specs.Values.{Piece}
 use Rattle.record_cache.specs.Values.{Held}
 use Rattle.step_history.specs.History.{is_restart, before_newest, Look, ShownAsk, listed, on_path, closes_path}
-use Rattle.step_history.specs.History.{tcp_asks, moment_at, NothingAccepted, Reads}
+use Rattle.step_history.specs.History.{tcp_asks, moment_at, Matches, Carries, NothingAccepted, Reads}
 use Rattle.step_history.specs.Answers.{FollowsAliases, Leads, Chain}
 use Rattle.step_history.specs.Stale.{ChainPastEnds}
 use Rattle.step_history.specs.Local.{ChainToLocal}
@@ -63,14 +64,73 @@ abbrev pub ClosesNow : Question → List Step → Type 0
 ClosesNow q [] = ⊥
 ClosesNow q (s ∷ past) = ClosesAsk q s past
 
--- none of these asks the question
+-- no ask of the list is for the question
 abbrev pub NoneAsks : Question → List ShownAsk → Type 0
 NoneAsks q asks = AllByRecursion (λ a. (own : Question) → Reads a.octets own → same_question own q ≡ false) asks
 
+-- ---- the tries of one inquiry
+
+-- it is an ask of this question
+abbrev pub IsAskOf : Question → Option SentAsk → Type 0
+IsAskOf q None = ⊥
+IsAskOf q (Some a) = (own : Question) × Reads a.octets own × (same_question own q ≡ true)
+
+-- these actions ask this question
+abbrev pub SendsAsk : Question → List Action → Type 0
+SendsAsk q [] = ⊥
+SendsAsk q (a ∷ more) = IsAskOf q (ask_in a) ⊎ SendsAsk q more
+
+-- in the step a reply matches the ask, its path fails, or a tick finds that `ask_ms` have passed
+abbrev pub MayFail : Config → Step → List Step → ShownAsk → Question → Type 0
+MayFail c s past ask asked =
+    ((octets : List ℕ) × Matches c s past ask octets asked)
+    ⊎ (s.handed.event ≡ path_failed ask.path)
+    ⊎ ((s.handed.event ≡ tick) × (ask.moment + c.limits.ask_ms ≤ moment_at (s ∷ past)))
+
+-- An ask of q failed: the step closes it, accepts nothing, and the ask `MayFail`. An ask that a
+-- deadline closes before its own time is over did not fail.
+pub record FailsAsk (c : Config) (q : Question) (s : Step) (past : List Step) : Type 0 where
+  pub closes : ClosesAsk q s past
+  pub quiet : NothingAccepted c s past
+  pub why : MayFail c s past closes.ask closes.asked
+
+-- the step accepted a reply to q
+pub record AcceptsFor (c : Config) (q : Question) (s : Step) (past : List Step) : Type 0 where
+  pub pieces : List Piece
+  pub carries : Carries c s past pieces
+  pub same : same_question carries.accepts.asked q ≡ true
+
+-- the step begins to ask q: it sends an ask of q, and none was listed before, or it accepted the
+-- reply
+abbrev pub BeginsToAsk : Config → Question → Step → List Step → Type 0
+BeginsToAsk c q s past = SendsAsk q s.outcome.actions × (NoneAsks q (listed past) ⊎ AcceptsFor c q s past)
+
+-- the step closes no ask of q, and sends none
+abbrev pub LeavesAsks : Question → Step → List Step → Type 0
+LeavesAsks q s past = (ClosesAsk q s past → ⊥) × (SendsAsk q s.outcome.actions → ⊥)
+
+-- since the step that began to ask q, n asks of it failed, and the step of each failure sent the
+-- next one
+abbrev pub FailedSoFar : Config → Question → List Step → ℕ → Type 0
+FailedSoFar c q [] n = ⊥
+FailedSoFar c q (s ∷ past) zero =
+    (is_restart s ≡ false) × (BeginsToAsk c q s past ⊎ (LeavesAsks q s past × FailedSoFar c q past zero))
+FailedSoFar c q (s ∷ past) (suc k) =
+    (is_restart s ≡ false)
+    × ((FailsAsk c q s past × SendsAsk q s.outcome.actions × FailedSoFar c q past k)
+    ⊎ (LeavesAsks q s past × FailedSoFar c q past (suc k)))
+
+-- since the step that began to ask q, n asks of it were sent, and each one failed, the last one in
+-- the newest step
+abbrev pub TriesFailed : Config → Question → List Step → ℕ → Type 0
+TriesFailed c q [] n = ⊥
+TriesFailed c q (s ∷ past) zero = ⊥
+TriesFailed c q (s ∷ past) (suc k) = FailsAsk c q s past × FailedSoFar c q past k
+
 -- ---- the facts of the history for each way of failing
 
--- opcode 0, a served type and class; no route serves or denies the name (at once), or the one that
--- aliases lead to
+-- opcode 0, a served type and class; the name (at once), or the one that aliases lead to, is under
+-- no route's suffix
 pub record HasNoRoute (l : Look) (octets : List ℕ) : Type 0 where
   pub opcode : (header_in octets).opcode ≡ 0
   pub question : Question
@@ -79,11 +139,10 @@ pub record HasNoRoute (l : Look) (octets : List ℕ) : Type 0 where
   pub aliases : List Held
   pub last : Question
   pub leads : Leads l question aliases last
-  pub none : serving_route_of l.config last.name ≡ None
-  pub not_denied : is_local l.config last.name ≡ false
+  pub none : IsUnderNone l.config.routes last.name
   pub at_once : aliases ≡ [] → l.now ≡ l.asked ∷ l.before
 
--- at once: opcode 0, and a type or class that is not served
+-- at once: opcode 0, and an unserved type or class
 pub record AsksUnserved (l : Look) (octets : List ℕ) : Type 0 where
   pub at_once : l.now ≡ l.asked ∷ l.before
   pub opcode : (header_in octets).opcode ≡ 0
@@ -91,16 +150,15 @@ pub record AsksUnserved (l : Look) (octets : List ℕ) : Type 0 where
   pub reads : Reads octets question
   pub unserved : is_unserved question ≡ true
 
--- all tries failed for the question or the one that aliases lead to, the last in the newest step,
--- and no ask for it is listed
+-- all tries of one inquiry failed, the last in the newest step, for the question or the one that
+-- aliases lead to; and no ask for it is listed
 pub record AllTriesFailed (l : Look) (octets : List ℕ) : Type 0 where
   pub question : Question
   pub reads : Reads octets question
   pub aliases : List Held
   pub last : Question
   pub leads : Leads l question aliases last
-  pub failed : LastFailed l.config last l.now l.config.limits.tries
-  pub closed : ClosesNow last l.now
+  pub failed : TriesFailed l.config last l.now l.config.limits.tries
   pub none_left : NoneAsks last (listed l.now)
 
 -- nine justified aliases, one too many, lead on from the question
@@ -131,8 +189,8 @@ pub record AnswerIsTooLarge (l : Look) (octets : List ℕ) : Type 0 where
   pub chain : Chain l question aliases end
   pub large : 65535 < length (answer_text (asked_in (header_in octets) (Some question)) aliases end (moment_at l.now))
 
--- all tries failed, there is a window, and the full answer with expired data exceeds that size (RFC
--- 8767)
+-- all tries failed, there is a window, and the full answer with expired data exceeds 65,535 octets
+-- (RFC 8767)
 pub record StaleAnswerIsTooLarge (l : Look) (octets : List ℕ) : Type 0 where
   pub tries : AllTriesFailed l octets
   pub window : 1 ≤ l.config.limits.stale_s
@@ -142,7 +200,7 @@ pub record StaleAnswerIsTooLarge (l : Look) (octets : List ℕ) : Type 0 where
   pub large : 65535 < length (full_text (asked_in (header_in octets) (Some tries.question))
       (stale_sections (moment_at l.now) tries.aliases past end))
 
--- the denial with the aliases to a name that the configuration denies exceeds that size
+-- the denial with the aliases to a denied name exceeds 65,535 octets
 pub record LocalAnswerIsTooLarge (l : Look) (octets : List ℕ) : Type 0 where
   pub question : Question
   pub reads : Reads octets question
@@ -152,7 +210,7 @@ pub record LocalAnswerIsTooLarge (l : Look) (octets : List ℕ) : Type 0 where
       (denied_sections (moment_at l.now) aliases))
 
 -- the history shows this reason; `waiting` counts the era's questions without a reply before this
--- one came
+-- question
 abbrev pub Cause : Look → Client → List ℕ → ℕ → Why → Type 0
 Cause l client octets waiting BadOpcode = (l.now ≡ l.asked ∷ l.before) × ((header_in octets).opcode ≢ 0)
 Cause l client octets waiting BadFormat = (l.now ≡ l.asked ∷ l.before) × ((header_in octets).opcode ≡ 0)

@@ -1,6 +1,6 @@
--- A history: the list of its steps, the newest first. A claim about a step is one about the list
--- that begins with it.
-use Rattle.std.specs.Prelude.{◌≡◌, ℕ, ◌+◌, ◌^◌, ◌<◌, ◌≤◌, Bool, true, false, if◌then◌else◌, not, min, max, List, []}
+-- A history: the list of its steps, the newest first. A claim about a step is a claim about the
+-- list from this step on.
+use Rattle.std.specs.Prelude.{◌≡◌, ◌≢◌, ℕ, ◌+◌, ◌^◌, ◌<◌, ◌≤◌, Bool, true, false, if◌then◌else◌, not, min, max, List, []}
 use Rattle.std.specs.Prelude.{◌∷◌, ◌++◌, length, filter, Option, Some, None, ◌⊎◌}
 use Rattle.std.specs.List.{find, list_any}
 use Rattle.dns_message.specs.Values.{Question, Message}
@@ -12,11 +12,11 @@ use Rattle.outstanding.specs.declared.ask.Path.{Path}
 use Rattle.outstanding.specs.Lists.{same_path, is_tcp}
 use Rattle.step_values.specs.Values.{Event, from_client, delivery, path_failed, tick, restart, Action, Request}
 use Rattle.step_values.specs.Values.{request_in, delivery_in, SentAsk, ask_in, closed_path_in, Step}
-use Rattle.suffix_routes.specs.Serving.{serving_route_of}
 use Rattle.dns_message.specs.Questions.{same_question, one_question}
 use Rattle.dns_message.specs.Header.{header_in}
-use Rattle.trust_rank.specs.Values.{Piece}
-use Rattle.trust_rank.specs.Walks.{walk_of, is_lame}
+use Rattle.trust_rank.specs.Values.{Piece, End, lame}
+use Rattle.cache_laws.specs.Carried.{IsCarriedBy}
+use Rattle.cache_laws.specs.Serving.{IsServedBy}
 use Rattle.step_values.specs.Requests.{is_taken}
 
 -- the event is a restart
@@ -46,7 +46,7 @@ abbrev pub before_newest : List Step → List Step
 before_newest [] = []
 before_newest (s ∷ past) = past
 
--- a step that asked, the history before it, and the history up to now
+-- a question's step, the history before, and the history up to now
 pub record Look : Type 0 where
   pub config : Config
   pub asked : Step
@@ -55,7 +55,7 @@ pub record Look : Type 0 where
 
 -- ---- asks
 
--- an ask as its action shows it, and its moment
+-- an ask in the form of its action, and its moment
 pub record ShownAsk : Type 0 where
   pub path : Path
   pub server : Peer
@@ -76,7 +76,7 @@ abbrev pub with_sent : ℕ → Option SentAsk → List ShownAsk → List ShownAs
 with_sent t None asks = asks
 with_sent t (Some a) asks = asks ++ record { path = a.path; server = a.server; octets = a.octets; moment = t } ∷ []
 
--- an ask is listed from its action until its path is closed; t is the moment of the actions
+-- an ask is listed from its action until the close of its path; t is the moment of the actions
 abbrev pub asks_after : ℕ → List Action → List ShownAsk → List ShownAsk
 asks_after t [] asks = asks
 asks_after t (a ∷ more) asks = asks_after t more (with_sent t (ask_in a) (without_closed (closed_path_in a) asks))
@@ -86,7 +86,7 @@ abbrev pub listed : List Step → List ShownAsk
 listed [] = []
 listed (s ∷ past) = if is_restart s then [] else asks_after (moment_at (s ∷ past)) s.outcome.actions (listed past)
 
--- the listed ask on a path; by `AreApart` there is at most one
+-- the listed ask on a path, by `AreApart` at most one
 abbrev pub on_path : Path → List ShownAsk → Option ShownAsk
 on_path path asks = find (λ a. same_path a.path path) asks
 
@@ -125,7 +125,7 @@ abbrev pub Delivers : Event → Path → Peer → List ℕ → Type 0
 Delivers e path from octets = delivery_in e ≡ Some (record { path = path; from = from; octets = octets })
 
 -- Step s delivers 12 to 65,535 octets with QR set and opcode 0. They match a listed ask, sent less
--- than `ask_ms` ago, in server, path, identifier and their one question (RFC 5452 9.1).
+-- than `ask_ms` ago, in server, path, identifier and their only question (RFC 5452 9.1).
 pub record Matches (c : Config) (s : Step) (past : List Step) (ask : ShownAsk) (octets : List ℕ)
     (asked : Question) : Type 0 where
   pub delivered : Delivers s.handed.event ask.path ask.server octets
@@ -142,27 +142,30 @@ pub record Matches (c : Config) (s : Step) (past : List Step) (ask : ShownAsk) (
   pub reads : Reads octets question
   pub same_question_as_ask : same_question question asked ≡ true
 
--- the reply of step s matches, can be read whole, has response code 0 or 3 and no TC, and is not
--- lame
-pub record Accepts (c : Config) (s : Step) (past : List Step) (ask : ShownAsk) (asked : Question) (route : ℕ)
-    (m : Message) : Type 0 where
-  pub octets : List ℕ
-  pub matches : Matches c s past ask octets asked
-  pub spells : Spells octets m
-  pub untruncated : m.header.tc ≡ false
-  pub rcode : (m.header.rcode ≡ 0) ⊎ (m.header.rcode ≡ 3)
-  pub route_is : serving_route_of c asked.name ≡ Some route
-  pub not_lame : is_lame (walk_of c m asked route).end ≡ false
-
--- step s accepted a reply and carried its pieces: those of the walk, then the name servers of the
--- authority section
-pub record Carries (c : Config) (s : Step) (past : List Step) (ps : List Piece) : Type 0 where
+-- The reply of step s matches, can be read whole, has response code 0 or 3 and no TC. Its content,
+-- as a reply to the question on the route that serves the question's name, is not lame.
+pub record Accepts (c : Config) (s : Step) (past : List Step) (pieces servers : List Piece) : Type 0 where
   pub ask : ShownAsk
   pub asked : Question
   pub route : ℕ
   pub message : Message
-  pub accepts : Accepts c s past ask asked route message
-  pub are : ps ≡ (walk_of c message asked route).pieces ++ (walk_of c message asked route).authority
+  pub octets : List ℕ
+  pub matches : Matches c s past ask octets asked
+  pub spells : Spells octets message
+  pub untruncated : message.header.tc ≡ false
+  pub rcode : (message.header.rcode ≡ 0) ⊎ (message.header.rcode ≡ 3)
+  pub route_is : IsServedBy c asked.name route
+  pub end : End
+  pub content : IsCarriedBy c message asked route pieces servers end
+  pub not_lame : end ≢ lame
+
+-- step s accepted a reply and carried its content: the pieces on the walk, then the name servers of
+-- the authority section
+pub record Carries (c : Config) (s : Step) (past : List Step) (ps : List Piece) : Type 0 where
+  pub pieces : List Piece
+  pub servers : List Piece
+  pub accepts : Accepts c s past pieces servers
+  pub are : ps ≡ pieces ++ servers
 
 -- step s accepted no reply
 abbrev pub NothingAccepted : Config → Step → List Step → Type 0
@@ -175,7 +178,7 @@ abbrev pub is_taken_request : Option Request → Bool
 is_taken_request None = false
 is_taken_request (Some r) = is_taken r.octets
 
--- the event is a client's message that is not dropped
+-- the event is a client's message, not dropped
 abbrev pub takes_question : Event → Bool
 takes_question e = is_taken_request (request_in e)
 

@@ -1,15 +1,15 @@
--- Statements that follow from the definitions.
+-- Consequences of the definitions.
 use Rattle.std.specs.Prelude.{◌≡◌, ℕ, ◌^◌, ◌≤◌, false, List, ◌∷◌, ◌++◌}
 use Rattle.suffix_routes.specs.Values.{Config, HasNeither}
-use Rattle.suffix_routes.specs.Routes.{route_of}
+use Rattle.suffix_routes.specs.Routes.{IsRouteOf}
+use Rattle.cache_laws.specs.Serving.{IsServedBy}
 use Rattle.step_values.specs.Values.{Step}
 use Rattle.record_cache.specs.Values.{Held}
 use Rattle.step_values.specs.declared.event.Client.{Client}
 use Rattle.step_values.specs.declared.action.Why.TheVariants.{TooLarge, Stale, LocalDenied}
-use Rattle.suffix_routes.specs.Serving.{serving_route_of}
 use Rattle.step_history.specs.History.{is_restart, InEra, Look, moment_at}
 use Rattle.step_history.specs.Carried.{CarriedInEra}
-use Rattle.step_history.specs.Causes.{Cause, AnswerIsTooLarge}
+use Rattle.step_history.specs.Causes.{AllTriesFailed, LastFailed, ClosesNow, Cause, AnswerIsTooLarge}
 use Rattle.step_history.specs.Sound.{RightReply}
 
 -- Within an era moments never fall.
@@ -25,15 +25,22 @@ abbrev pub WhatWasCarriedStaysSo : Type 0
 WhatWasCarriedStaysSo = (c : Config) (upto now : List Step) (all : List Held) → InEra upto now → CarriedInEra c now all
     → (os : List Held) × (new : List Held) × CarriedInEra c upto os × (all ≡ new ++ os)
 
+-- If all tries of an inquiry failed, they are the last closed asks of the era for its question,
+-- none closed by an accepted reply, and the last one closed in the newest step.
+abbrev pub TriesAreTheLastOfTheEra : Type 0
+TriesAreTheLastOfTheEra = (l : Look) (octets : List ℕ) (h : AllTriesFailed l octets)
+    → LastFailed l.config h.last l.now l.config.limits.tries × ClosesNow h.last l.now
+
 -- no `Stale` or `LocalDenied` is right, only answers from justified pieces can be too large, and
 -- each name is served by its route
 pub record AddsNothing (l : Look) (client : Client) (request octets : List ℕ) (waiting : ℕ) : Type 0 where
   pub stale : RightReply l client request waiting Stale octets → ⊥
   pub local : RightReply l client request waiting LocalDenied octets → ⊥
   pub large : Cause l client request waiting TooLarge → AnswerIsTooLarge l request
-  pub routed : (name : List (List ℕ)) → serving_route_of l.config name ≡ route_of l.config.routes name
+  pub routed : (name : List (List ℕ)) (place : ℕ) → IsRouteOf l.config.routes name place
+      → IsServedBy l.config name place
 
--- Without a window and routes that deny, version 2 adds no right reply: `AddsNothing`.
+-- Without a window and denying routes, version 2 adds no right reply: `AddsNothing`.
 abbrev pub FirstVersionStandsAlone : Type 0
 FirstVersionStandsAlone = (l : Look) (client : Client) (request octets : List ℕ) (waiting : ℕ) → HasNeither l.config
     → AddsNothing l client request octets waiting

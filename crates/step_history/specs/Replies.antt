@@ -1,4 +1,4 @@
--- The messages that clients get.
+-- The messages for clients.
 use Rattle.std.specs.Prelude.{ℕ, ◌≤◌, List, [], ◌∷◌, ◌++◌, length, map}
 use Rattle.dns_message.specs.Writing.{written}
 use Rattle.record_cache.specs.Values.{Held}
@@ -15,7 +15,7 @@ use Rattle.step_values.specs.Requests.{rcode_of_why}
 abbrev pub answer_text : Asked → List Held → Held → ℕ → List ℕ
 answer_text a aliases end t = written (full_answer a (sections_of t (aliases ++ end ∷ [])))
 
--- the same, cut to the question
+-- the answer, cut to the question
 abbrev pub cut_text : Asked → List Held → Held → ℕ → List ℕ
 cut_text a aliases end t = written (cut_answer a (sections_of t (aliases ++ end ∷ [])))
 
@@ -23,15 +23,15 @@ cut_text a aliases end t = written (cut_answer a (sections_of t (aliases ++ end 
 abbrev pub full_text : Asked → Sections → List ℕ
 full_text a s = written (full_answer a s)
 
--- the same, cut: header with TC, and the question (RFC 1035 4.2.1)
+-- the answer, cut: header with TC, and the question (RFC 1035 4.2.1)
 abbrev pub short_text : Asked → Sections → List ℕ
 short_text a s = written (cut_answer a s)
 
--- the held aliases, then aliases and a set, expired ones of these with 30 seconds (RFC 8767 4)
+-- the held aliases, then aliases and a set, with 30 seconds for expired ones (RFC 8767 4)
 abbrev pub stale_sections : ℕ → List Held → List Held → Held → Sections
 stale_sections t held past end = sections_told (told_stale (length held) t (held ++ (past ++ end ∷ [])))
 
--- a name error, with the aliases that lead to the denied name
+-- a name error, with the aliases to the denied name
 abbrev pub denied_sections : ℕ → List Held → Sections
 denied_sections t aliases = local_sections (map (told_at t) aliases)
 

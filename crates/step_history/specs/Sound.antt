@@ -34,14 +34,14 @@ unanswered (s ∷ past) owners =
     else unanswered past owners ++ (if takes_question s.handed.event && not (among (length past) owners)
     then length past ∷ [] else [])
 
--- the text of a failure, with the question as it came, but for `BadFormat` and `BadOpcode`
+-- the text of a failure, with the client's question, except for `BadFormat` and `BadOpcode`
 abbrev pub IsErrorResponse : List ℕ → Why → List ℕ → Type 0
 IsErrorResponse request BadFormat octets = octets ≡ failure_text (asked_in (header_in request) None) BadFormat
 IsErrorResponse request BadOpcode octets = octets ≡ failure_text (asked_in (header_in request) None) BadOpcode
 IsErrorResponse request why octets = (q : Question) × Reads request q
     × (octets ≡ failure_text (asked_in (header_in request) (Some q)) why)
 
--- opcode 0, a served type and class, and octets that answer the question
+-- opcode 0, a served type and class, and answering octets
 pub record RightAnswer (l : Look) (client : Client) (request octets : List ℕ) : Type 0 where
   pub opcode : (header_in request).opcode ≡ 0
   pub question : Question
@@ -58,7 +58,7 @@ pub record RightStaleAnswer (l : Look) (client : Client) (request octets : List 
   pub window : 1 ≤ l.config.limits.stale_s
   pub answers : StaleAnswers l client (header_in request) tries.question tries.aliases tries.last octets
 
--- opcode 0, a served type and class, and octets that deny the name, or one that aliases lead to
+-- opcode 0, a served type and class, and octets that deny the name, or the name at the aliases' end
 pub record RightLocalAnswer (l : Look) (client : Client) (request octets : List ℕ) : Type 0 where
   pub opcode : (header_in request).opcode ≡ 0
   pub question : Question
@@ -66,14 +66,14 @@ pub record RightLocalAnswer (l : Look) (client : Client) (request octets : List 
   pub served : is_unserved question ≡ false
   pub answers : LocalAnswers l client (header_in request) question octets
 
--- one of these three by its reason, otherwise an error response with its `Cause`
+-- the right kind of answer for the reason, otherwise an error response with its `Cause`
 abbrev pub RightReply : Look → Client → List ℕ → ℕ → Why → List ℕ → Type 0
 RightReply l client request waiting Answered octets = RightAnswer l client request octets
 RightReply l client request waiting Stale octets = RightStaleAnswer l client request octets
 RightReply l client request waiting LocalDenied octets = RightLocalAnswer l client request octets
 RightReply l client request waiting why octets = IsErrorResponse request why octets × Cause l client request waiting why
 
--- step i of the era took a message of the reply's client, for which the reply is right
+-- step i of the era brought a message of the reply's client, for which the reply is right
 pub record Owns (c : Config) (now : List Step) (owners : List ℕ) (i : ℕ) (r : SentReply) : Type 0 where
   pub asked : Step
   pub before : List Step
@@ -85,13 +85,13 @@ pub record Owns (c : Config) (now : List Step) (owners : List ℕ) (i : ℕ) (r 
   pub right : RightReply (record { config = c; asked = asked; before = before; now = now }) r.client request
       (length (unanswered before owners)) r.why r.octets
 
--- a reply takes the next owner, which owns no other; any other action takes none
+-- a reply takes the next owner, not an owner before; any further action takes none
 abbrev pub OwnedNext : Config → List Step → Option SentReply → (List ℕ → List ℕ → Type 0) → List ℕ → List ℕ → Type 0
 OwnedNext c now None rest owners is = rest owners is
 OwnedNext c now (Some r) rest owners [] = ⊥
 OwnedNext c now (Some r) rest owners (i ∷ is) = Owns c now owners i r × (among i owners ≡ false) × rest (i ∷ owners) is
 
--- each reply of these actions has its own owner
+-- each reply of these actions has an owner of its own
 abbrev pub EachOwned : Config → List Step → List Action → List ℕ → List ℕ → Type 0
 EachOwned c now [] owners is = is ≡ []
 EachOwned c now (a ∷ more) owners is = OwnedNext c now (reply_in_action a) (EachOwned c now more) owners is
@@ -129,7 +129,7 @@ SameAsEarlierFromCache c t q octets (s ∷ past) =
     → ((q' : Question) (octets' : List ℕ) → FromCache s q' octets' → same_question q q' ≡ true
     → SameSections octets octets') × SameAsEarlierFromCache c t q octets past
 
--- each reply has its own owner, and answers from cache agree; w has the owners of each step's
+-- each reply has an owner of its own, and answers from cache agree; w has the owners of each step's
 -- replies, the newest step first
 abbrev pub Sound : Config → List Step → List (List ℕ) → Type 0
 Sound c [] [] = Unit {0}

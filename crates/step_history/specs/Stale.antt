@@ -1,18 +1,16 @@
 -- Answers with expired data, once all tries failed: RFC 8767 4 and 5.
-use Rattle.std.specs.Prelude.{◌≡◌, ◌≢◌, ℕ, ◌+◌, ◌*◌, ◌<◌, ◌≤◌, true, List, [], ◌∷◌, ◌++◌, length, Some}
+use Rattle.std.specs.Prelude.{◌≡◌, ◌≢◌, ℕ, ◌+◌, ◌*◌, ◌<◌, ◌≤◌, List, [], ◌∷◌, ◌++◌, length, Some}
 use Rattle.dns_message.specs.declared.reading.header.Header.{Header}
 use Rattle.dns_message.specs.Values.{Question, Message}
 use Rattle.dns_message.specs.Messages.{Spells}
 use Rattle.trust_rank.specs.Values.{Body, rows, no_data, denied}
-use Rattle.trust_rank.specs.Walks.{target_of}
 use Rattle.record_cache.specs.Values.{Held}
-use Rattle.record_cache.specs.Ageing.{end_of}
 use Rattle.record_cache.specs.Laws.{Among}
+use Rattle.cache_laws.specs.Serving.{IsServedBy}
 use Rattle.step_values.specs.declared.event.Client.{Client}
-use Rattle.suffix_routes.specs.Serving.{serving_route_of}
 use Rattle.step_history.specs.History.{before_newest, Look, moment_at}
 use Rattle.step_history.specs.Carried.{CarriedInEra, NotReplaced}
-use Rattle.step_history.specs.Answers.{has_slot}
+use Rattle.step_history.specs.Answers.{IsOf, IsAliasTo}
 use Rattle.dns_message.specs.Questions.{asked_at}
 use Rattle.step_history.specs.Replies.{full_text, short_text, stale_sections, sized_for, FitsTransport}
 use Rattle.answer_builder.specs.Values.{asked_in}
@@ -24,8 +22,8 @@ IsSet (no_data soa) = ⊥
 IsSet (denied soa) = ⊥
 
 -- o may serve this name although expired: a set with a lifetime, carried whole on the name's route
--- before the newest step. It is not replaced, and expired, if at all, less than the window ago (RFC
--- 8767 5).
+-- before the newest step, not replaced, and expired, if at all, less than the window ago (RFC 8767
+-- 5)
 pub record JustifiedPastItsEnd (l : Look) (name : List (List ℕ)) (o : Held) : Type 0 where
   pub old : List Held
   pub new : List Held
@@ -33,17 +31,17 @@ pub record JustifiedPastItsEnd (l : Look) (name : List (List ℕ)) (o : Held) : 
   pub carried_now : CarriedInEra l.config l.now (new ++ old)
   pub came_before : Among o old
   pub not_replaced : NotReplaced o (new ++ old)
-  pub on_route : serving_route_of l.config name ≡ Some o.piece.route
+  pub on_route : IsServedBy l.config name o.piece.route
   pub is_set : IsSet o.piece.body
   pub has_lifetime : 1 ≤ o.piece.lifetime
-  pub within : moment_at l.now < end_of o + 1000 * l.config.limits.stale_s
+  pub within : moment_at l.now < o.accepted + 1000 * o.piece.lifetime + 1000 * l.config.limits.stale_s
 
 -- such aliases lead from the first question to the last, as in `FollowsAliases`
 abbrev pub FollowsPastEnds : Look → Question → List Held → Question → Type 0
 FollowsPastEnds l q [] last = last ≡ q
 FollowsPastEnds l q (o ∷ os) last =
-    (q.kind ≢ 5) × JustifiedPastItsEnd l q.name o × (has_slot o.piece q.name q.class (Some 5) ≡ true)
-    × (name : List (List ℕ)) × (target_of o.piece.body ≡ Some name) × FollowsPastEnds l (asked_at q name) os last
+    (q.kind ≢ 5) × JustifiedPastItsEnd l q.name o × IsOf o.piece q.name q.class (Some 5)
+    × (name : List (List ℕ)) × IsAliasTo o.piece name × FollowsPastEnds l (asked_at q name) os last
 
 -- after the held aliases, such aliases and a set answer q; at most eight in all
 pub record ChainPastEnds (l : Look) (held : List Held) (q : Question) (past : List Held) (o : Held) : Type 0 where
@@ -51,10 +49,10 @@ pub record ChainPastEnds (l : Look) (held : List Held) (q : Question) (past : Li
   pub follows : FollowsPastEnds l q past last
   pub few : length held + length past ≤ 8
   pub justified : JustifiedPastItsEnd l last.name o
-  pub slot : has_slot o.piece last.name last.class (Some last.kind) ≡ true
+  pub slot : IsOf o.piece last.name last.class (Some last.kind)
 
--- the octets answer q with expired data, and can be read; the chain goes on from `asked`, where
--- `held` led
+-- the octets answer q with expired data, and can be read; the chain goes on from `asked`, at the
+-- end of `held`
 pub record StaleAnswers (l : Look) (client : Client) (h : Header) (q : Question) (held : List Held) (asked : Question)
     (octets : List ℕ) : Type 0 where
   pub past : List Held

@@ -1,7 +1,7 @@
-//! Laws about histories that follow from the definitions.
+//! Laws about histories, by the definitions alone.
 
 ghost use Rattle.step_history.specs.Laws.{FirstVersionStandsAlone, MomentsAreInTime, MomentsNeverFall};
-ghost use Rattle.step_history.specs.Laws.{WhatWasCarriedStaysSo};
+ghost use Rattle.step_history.specs.Laws.{TriesAreTheLastOfTheEra, WhatWasCarriedStaysSo};
 
 /// The effective moment never falls from step to step of an era, and is at most 2^62 milliseconds.
 pub fn moments_never_fall()
@@ -9,12 +9,18 @@ pub fn moments_never_fall()
     ensures in_time { MomentsAreInTime }
 {}
 
-/// The pieces carried up to a step of the era are the older part of those carried up to now.
+/// The pieces carried up to a step of the era are the older part of the pieces carried up to now.
 pub fn what_was_carried_stays_so()
     ensures { WhatWasCarriedStaysSo }
 {}
 
-/// Without a window for expired data and without a route that denies, the claims are those of
+/// If all tries of an inquiry failed, the last `tries` asks of the era for its question are closed,
+/// none by an accepted reply, and the last of them in the newest step.
+pub fn tries_are_the_last_of_the_era()
+    ensures { TriesAreTheLastOfTheEra }
+{}
+
+/// Without a window for expired data and without a denying route, the claims are the claims of
 /// version 1: no reply of the two further kinds is right.
 pub fn first_version_stands_alone()
     ensures { FirstVersionStandsAlone }

@@ -1,8 +1,11 @@
-//! Claims about a history of steps: which reply was accepted, which pieces it carried, which answer
-//! it justifies, why a question failed, which step owns a reply. They look backward over the bare
-//! list of steps, and know nothing of the state of a forwarder.
+//! Claims about a history of steps: the accepted replies, their pieces, the answers they justify,
+//! the causes of failures, the owners of replies. They look backward over the bare list of steps,
+//! and know nothing of the state of a forwarder.
 #![tactic(auto)]
 
 mod laws;
 
-pub use laws::{first_version_stands_alone, moments_never_fall, what_was_carried_stays_so};
+pub use laws::{
+    first_version_stands_alone, moments_never_fall, tries_are_the_last_of_the_era,
+    what_was_carried_stays_so,
+};

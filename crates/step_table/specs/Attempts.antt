@@ -18,7 +18,7 @@ use Rattle.step_table.specs.State.{State, Turn}
 abbrev pub group_of : Config → ℕ → Option Route
 group_of c route = slice_get c.routes route
 
--- the servers of a route; none where there is no route
+-- the servers of a route; none without a route
 abbrev pub servers_in : Option Route → List Peer
 servers_in None = []
 servers_in (Some r) = r.servers
@@ -35,8 +35,7 @@ over_udp draw = option_map (λ d. (d.0, Udp d.1)) draw
 abbrev pub over_tcp : Option (ℕ × ℕ) → Option (ℕ × Path)
 over_tcp draw = option_map (λ d. (d.0, Tcp d.1)) draw
 
--- the ask of a server by the identifier and the path that were drawn; none without a server or a
--- draw
+-- the ask of a server by the drawn identifier and path; none without a server or a draw
 abbrev pub ask_by : ℕ → Question → ℕ → ℕ → ℕ → Option Peer → Option (ℕ × Path) → Option Ask
 ask_by n q route server used None drawn = None
 ask_by n q route server used (Some peer) None = None
@@ -52,32 +51,32 @@ ask_by n q route server used (Some peer) (Some d) =
       asked = n;
     })
 
--- the place of the server that is asked first on a route
+-- the place of the first server to ask on a route
 abbrev pub preferred_on : State → ℕ → ℕ
 preferred_on s route = get_or s.preferred route 0
 
--- the first ask for a question goes by UDP to the server that its route prefers
+-- the first ask for a question goes by UDP to its route's preferred server
 abbrev pub first_ask : Turn → Question → ℕ → Option Ask
 first_ask t q route =
     ask_by t.moment q route (preferred_on t.state route) 1 (peer_at t.config route (preferred_on t.state route))
     (over_udp (udp_draw t.words t.state.asks None))
 
--- and to none where the name has no route
+-- to none if the name has no route
 abbrev pub first_ask_on : Turn → Question → Option ℕ → Option Ask
 first_ask_on t q None = None
 first_ask_on t q (Some route) = first_ask t q route
 
--- the first ask for a question: on its route, if it has one
+-- the first ask for a question, on the route of its name, if any
 abbrev pub first_ask_for : Turn → Question → Option Ask
 first_ask_for t q = first_ask_on t q (serving_route_of t.config q.name)
 
--- the port that is given up with a path
+-- the port given up with a path
 abbrev pub freed_by : Path → Option ℕ
 freed_by (Udp port) = Some port
 freed_by (Tcp conn) = None
 
--- the numbers that decide the attempt after this ask: servers, tries, those used, and whether it
--- went over TCP
+-- the numbers that decide the attempt after this ask: servers, tries, used tries, and whether the
+-- ask went over TCP
 abbrev pub plan_of : Config → Ask → Plan
 plan_of c a = record {
   servers = length (servers_in (group_of c a.route));
@@ -87,7 +86,7 @@ plan_of c a = record {
   tcp = is_tcp a.path;
 }
 
--- the ask that follows one; the port that is given up counts as free
+-- the ask after a failed ask; the port given up counts as free
 abbrev pub next_ask : Turn → Ask → Next → Option Ask
 next_ask t a (AskUdp server) =
     ask_by t.moment a.question a.route server (a.used + 1) (peer_at t.config a.route server)

@@ -25,21 +25,21 @@ use Rattle.step_table.specs.Steps.{gives_up, answered, denied_locally}
 
 -- ---- a question after its look-up
 
--- the question now wants the one that its look-up missed
+-- the question now wants the missed question of its look-up
 abbrev pub waits_with : Waiting → LookUp → Waiting
 waits_with x l = record x { held = l.held; wanted = l.wanted }
 
--- a name that no route serves is denied where the configuration denies it, after the aliases that
--- lead to it; otherwise it has no route
+-- the reply for a name without a serving route: if the configuration denies the name, the denial
+-- after the aliases before it, otherwise NoRoute
 abbrev pub without_server : Config → ℕ → Waiting → List Held → List (List ℕ) → Action
 without_server c n x aliases name = if is_local c name then denied_locally n x aliases else gives_up NoRoute x
 
--- the missed question is asked where a route serves its name
+-- the missed question is asked if a route serves its name
 abbrev pub fate_missed : Config → ℕ → Waiting → LookUp → Option ℕ → Fate
 fate_missed c n x l None = gets (without_server c n x l.held l.wanted.name)
 fate_missed c n x l (Some route) = waits (waits_with x l)
 
--- the fate of a question by how its look-up ended
+-- the fate of a question by the end of its look-up
 abbrev pub fate_at : Config → ℕ → Waiting → LookUp → LookUpEnd → Fate
 fate_at c n x l (ends e) = gets (answered n x l.held e)
 fate_at c n x l too_long = gets (gives_up ChainLong x)
@@ -51,7 +51,7 @@ fate_of c n x l = fate_at c n x l l.met
 
 -- ---- a client's question
 
--- the question waits for its new ask; without an ask no port was free, and it fails
+-- the question waits for its new ask; without an ask no port was free, and the question fails
 abbrev pub row_of_opening : ℕ → Waiting → State → Option Ask → Done
 row_of_opening n x s None = reply_step n (gives_up NoPort x) s
 row_of_opening n x s (Some a) = taking_step n x (Some a) s
@@ -80,28 +80,30 @@ abbrev pub row_of_fate : Turn → Fate → Done
 row_of_fate t (gets reply) = reply_step t.moment reply t.state
 row_of_fate t (waits x) = row_of_waiting t x
 
--- the entries that the look-up used are promoted, whatever the fate of the question
+-- the entries used by the look-up are promoted, whatever the fate of the question
 abbrev pub row_of_look_up : Turn → Waiting → LookUp → Done
 row_of_look_up t x l = row_of_fate (from_state (with_promoted l.used t.state) t) (fate_of t.config t.moment x l)
 
--- a question by the route that serves its name: without one it is refused, otherwise looked up
+-- a question by the serving route of its name: without a route the question is refused, otherwise
+-- looked up
 abbrev pub row_of_route : Turn → Waiting → Option ℕ → Done
 row_of_route t x None = reply_step t.moment (without_server t.config t.moment x [] x.wanted.name) t.state
 row_of_route t x (Some route) =
     row_of_look_up t x (look_up t.config.routes t.moment t.state.cache.entries most_aliases [] x.wanted)
 
--- a question of a type or class that is not served is refused (RFC 1035 3.2.3), any other goes on
+-- a question of an unserved type or class is refused (RFC 1035 3.2.3), any other goes on
 abbrev pub row_of_service : Turn → Waiting → Done
 row_of_service t x =
     if is_unserved x.wanted
     then reply_step t.moment (gives_up NotServed x) t.state
     else row_of_route t x (serving_route_of t.config x.wanted.name)
 
--- a question as it comes
+-- a question on arrival
 abbrev pub taken_now : ℕ → Client → Header → Question → Waiting
 taken_now n client h q = record { client = client; asked = asked_in h (Some q); taken = n; held = []; wanted = q }
 
--- a message by its question: without just one that can be read it is refused (RFC 1035 4.1.2)
+-- a message by its question: without exactly one readable question the message is refused (RFC 1035
+-- 4.1.2)
 abbrev pub row_of_question : Turn → Client → Header → Option Question → Done
 row_of_question t client h None = reply_step t.moment (failed client (asked_in h None) BadFormat) t.state
 row_of_question t client h (Some q) = row_of_service t (taken_now t.moment client h q)

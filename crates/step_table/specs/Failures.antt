@@ -18,40 +18,41 @@ use Rattle.step_table.specs.Attempts.{plan_of, next_ask}
 use Rattle.alias_chains.specs.PastEnds.{look_up_past}
 use Rattle.step_table.specs.Steps.{idle_step, Done, Fate, gets, waits, closing_step, gives_up, answered_past, fails}
 
--- the next ask takes the place of the failed one; without a port all that wait for it fail
+-- the next ask takes the place of the failed ask; without a port all questions waiting for it fail
 abbrev pub row_of_attempt : ℕ → Ask → State → Option Ask → Done
 row_of_attempt n a s None = closing_step n a (fails NoPort a.question) None s
 row_of_attempt n a s (Some next) = closing_step n a (λ x. waits x) (Some next) s
 
--- no try is left: the answer has the expired data that was found, or says that all tries failed
+-- no try is left: the answer has the found expired data, or says that all tries failed
 abbrev pub told_past : ℕ → Waiting → Option (List Held) → Action
 told_past n x None = gives_up Exhausted x
 told_past n x (Some chain) = answered_past n x chain
 
--- the expired data that the cache has for a question within the window, after at most as many
--- aliases as it may still take; nothing is looked up without a window
+-- the expired data in the cache for a question within the window, after as many aliases as the
+-- question may still take; nothing is looked up without a window
 abbrev pub found_past : Config → ℕ → List Held → Waiting → Option (List Held)
 found_past c n entries x =
     if c.limits.stale_s == 0
     then None
     else look_up_past c.limits.stale_s n entries (most_aliases - length x.held) x.wanted
 
--- those that wait for this question get the last possible reply; all others wait on
+-- questions that wait for this question get the last possible reply; all further questions wait on
 abbrev pub runs_out : Config → ℕ → List Held → Question → Waiting → Fate
 runs_out c n entries q x = if waits_for q x then gets (told_past n x (found_past c n entries x)) else waits x
 
--- the next step after a failed ask: a query by UDP, one over TCP, or the end of the inquiry
+-- the next step after a failed ask: a query by UDP, a query over TCP, or the end of the inquiry
 abbrev pub row_of_next : Turn → Ask → Next → Done
 row_of_next t a (AskUdp server) = row_of_attempt t.moment a t.state (next_ask t a (AskUdp server))
 row_of_next t a (AskTcp server) = row_of_attempt t.moment a t.state (next_ask t a (AskTcp server))
 row_of_next t a GiveUp = closing_step t.moment a (runs_out t.config t.moment t.state.cache.entries a.question) None
     t.state
 
--- the ask is closed; then the next one goes out, or those that wait for it get the reason why not
+-- the ask is closed; then the next ask goes out, or the questions waiting for it get the reason why
+-- not
 abbrev pub row_of_failure : Turn → Ask → Failure → Done
 row_of_failure t a f = row_of_next t a (after_failure (plan_of t.config a) f)
 
--- a path that can't be used any more
+-- a path that the system gave up
 abbrev pub row_of_failed_path : Turn → Option Ask → Done
 row_of_failed_path t None = idle_step t.moment t.state
 row_of_failed_path t (Some a) = row_of_failure t a failure.Broken

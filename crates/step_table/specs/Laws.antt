@@ -12,22 +12,22 @@ use Rattle.step_table.specs.Row.{is_due_at, effective, Row}
 use Rattle.step_table.specs.Replies.{fate_by}
 use Rattle.step_table.specs.Progress.{left_to_do, ServesSomething, next_due, IsInOrder}
 
--- A step that serves something leaves less to do.
+-- A step with something due leaves less to do.
 abbrev pub LessIsLeft : Type 0
 LessIsLeft = (c : Config) (s : State) (h : Handed) (o : Outcome) (s' : State) → IsInOrder c s → Row c s h o s'
     → ServesSomething c (effective h.now s) s h.event → left_to_do c s' < left_to_do c s
 
--- The work that is left is bounded by the limits.
+-- The work left is bounded by the limits.
 abbrev pub LeftIsBounded : Type 0
 LeftIsBounded = (c : Config) (s : State) → IsInOrder c s → left_to_do c s ≤ c.limits.questions
     + c.limits.inquiries * c.limits.tries
 
--- Where something is due now, a tick serves something, at whatever later moment it comes.
+-- If something is due now, a tick at any later moment serves something.
 abbrev pub MoreIsServed : Type 0
 MoreIsServed = (c : Config) (s : State) (n : ℕ) → s.moment ≤ n → is_due_at c s.moment s ≡ true
     → ServesSomething c n s tick
 
--- there is a moment, and it is not in the future
+-- there is a moment, not in the future
 abbrev pub has_come : ℕ → Option ℕ → Bool
 has_come n None = false
 has_come n (Some m) = nat_le m n
@@ -36,7 +36,7 @@ has_come n (Some m) = nat_le m n
 abbrev pub NextDueTells : Type 0
 NextDueTells = (c : Config) (s : State) (n : ℕ) → is_due_at c n s ≡ has_come n (next_due c s)
 
--- Where a reply leads elsewhere, all that wait on after it want one and the same question, which is
+-- If a reply leads elsewhere, all questions that wait on want one and the same question, which is
 -- asked.
 abbrev pub SentOnQuestionsWantOne : Type 0
 SentOnQuestionsWantOne = (c : Config) (n : ℕ) (entries : List Held) (a : Ask) (w : Walk) (name : List (List ℕ))

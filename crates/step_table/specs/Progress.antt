@@ -1,4 +1,4 @@
--- The work that a state has left, and when something is due.
+-- The work left in a state, and the moments at which something is due.
 use Rattle.std.specs.Prelude.{◌≡◌, ℕ, suc, ◌+◌, ◌-◌, ◌≤◌, true, List, [], ◌∷◌, ◌++◌, length, map, min, Option, Some}
 use Rattle.std.specs.Prelude.{None, IsSome, ◌<◌, false}
 use Rattle.std.specs.List.{AllByRecursion}
@@ -18,21 +18,20 @@ use Rattle.outstanding.specs.declared.ask.Path.TheVariants.{Udp, Tcp}
 
 -- ---- the work that is left
 
--- the tries that the inquiry of a listed ask has left, and one for the ask itself
+-- the tries left to the inquiry of a listed ask, and one for the ask itself
 abbrev pub tries_left : Config → Ask → ℕ
 tries_left c a = suc (c.limits.tries - a.used)
 
--- the tries that are left to all listed asks
+-- the tries left to all listed asks
 abbrev pub all_tries_left : Config → List Ask → ℕ
 all_tries_left c [] = 0
 all_tries_left c (a ∷ asks) = tries_left c a + all_tries_left c asks
 
--- the work that is left: one for each waiting question, and for each ask its tries left and one
--- more
+-- the work left: one for each waiting question, and for each ask its tries left and one more
 abbrev pub left_to_do : Config → State → ℕ
 left_to_do c s = length s.waiting + all_tries_left c s.asks
 
--- a tick with something due, or the failure of a path on which an ask is listed
+-- a tick with something due, or the failure of a listed ask's path
 abbrev pub ServesSomething : Config → ℕ → State → Event → Type 0
 ServesSomething c n s (from_client client octets) = ⊥
 ServesSomething c n s (delivery path from octets) = ⊥
@@ -42,11 +41,11 @@ ServesSomething c n s restart = ⊥
 
 -- ---- when something is due
 
--- the moments at which a question has waited as long as it may, or an ask is past its time
+-- the moments at which a question reaches its deadline, or an ask the end of its time
 abbrev pub due_moments : Config → State → List ℕ
 due_moments c s = map (deadline_of c) s.waiting ++ map (timeout_of c) s.asks
 
--- the lesser of a moment and another one, if any
+-- the lesser of a moment and a further moment, if any
 abbrev pub lesser : ℕ → Option ℕ → ℕ
 lesser m None = m
 lesser m (Some k) = min m k
@@ -67,11 +66,11 @@ abbrev pub AreTakenInTurn : List Waiting → Type 0
 AreTakenInTurn [] = Unit {0}
 AreTakenInTurn (x ∷ xs) = AllByRecursion (λ y. x.taken ≤ y.taken) xs × AreTakenInTurn xs
 
--- an ask is one of the tries that an inquiry has
+-- an ask is one of its inquiry's tries
 abbrev pub IsTry : Config → Ask → Type 0
 IsTry c a = (1 ≤ a.used) × (a.used ≤ c.limits.tries)
 
--- the entry's name is on the route of the ask that brought it
+-- the entry's name is on the route of the entry's ask
 abbrev pub IsOnRoute : Config → Held → Type 0
 IsOnRoute c h = serving_route_of c h.piece.slot.key ≡ Some h.piece.route
 
@@ -94,7 +93,7 @@ abbrev pub IsBelow : ℕ → Path → Type 0
 IsBelow count (Udp port) = Unit {0}
 IsBelow count (Tcp conn) = conn < count
 
--- each route has a place, which is one of its servers' unless it denies
+-- each route has a place among its servers, unless the route denies
 abbrev pub ArePreferred : List Route → List ℕ → Type 0
 ArePreferred [] [] = Unit {0}
 ArePreferred [] (p ∷ places) = ⊥

@@ -1,4 +1,4 @@
--- The rows of a delivery, and of a reply that is accepted.
+-- The rows of a delivery, and of an accepted reply.
 use Rattle.std.specs.Prelude.{ℕ, suc, ◌+◌, ◌-◌, Bool, if◌then◌else◌, nat_lt, nat_le, List, [], ◌∷◌, ◌++◌, length, map}
 use Rattle.std.specs.Prelude.{filter, take, Option, Some, None, Result, Ok, Err}
 use Rattle.std.specs.List.{flat_map}
@@ -31,17 +31,17 @@ use Rattle.step_table.specs.Failures.{row_of_failure}
 
 -- ---- an accepted reply
 
--- the last piece of a walk, and the aliases before it
+-- the last piece of a walk, after its aliases
 abbrev pub last_of : Piece → List Piece → Piece
 last_of p [] = p
 last_of p (q ∷ ps) = last_of q ps
 
--- the pieces before the last one: p, and then those of the list but its last
+-- the pieces before the last: p, and then the list without its last
 abbrev pub before_last : Piece → List Piece → List Piece
 before_last p [] = []
 before_last p (q ∷ ps) = p ∷ before_last q ps
 
--- it ends at the last piece, with the aliases before it held
+-- a look-up that ends at the last piece, with the aliases before held
 abbrev pub ends_at : ℕ → List Held → Question → List Piece → LookUp
 ends_at n held q [] = record { held = held; wanted = q; met = missed; used = [] }
 ends_at n held q (p ∷ ps) = record {
@@ -51,23 +51,22 @@ ends_at n held q (p ∷ ps) = record {
   used = [];
 }
 
--- more aliases than a question may hold: the first that is too many ends it
+-- more aliases than a question may hold: the first alias too many ends the look-up
 abbrev pub too_many : List Held → Question → LookUp
 too_many held q = record { held = take (suc most_aliases) held; wanted = q; met = too_long; used = [] }
 
--- the same look-up, or one that failed where it holds more than 8 aliases
+-- the look-up, failed if more than 8 aliases are held
 abbrev pub unless_many : LookUp → LookUp
 unless_many l = if nat_le (length l.held) most_aliases then l else too_many l.held l.wanted
 
--- with the aliases of the walk held, the look-up goes on at the name that they lead to, in the
--- cache as it was
+-- with the aliases of the walk held, the look-up goes on at their target, in the cache of before
 abbrev pub goes_on : Config → ℕ → List Held → List Held → Question → LookUp
 goes_on c n entries held q =
     if nat_le (length held) most_aliases
     then look_up c.routes n entries (most_aliases - length held) held q
     else too_many held q
 
--- the fate of a question that waits for the reply
+-- the look-up of a question that waits for the reply, by the walk's end
 abbrev pub looked_by : Config → ℕ → List Held → Walk → Waiting → End → LookUp
 looked_by c n entries w x (elsewhere name) =
     goes_on c n entries (x.held ++ map (held_at n) w.pieces) (asked_at x.wanted name)
@@ -76,47 +75,47 @@ looked_by c n entries w x ends_no_data = unless_many (ends_at n x.held x.wanted 
 looked_by c n entries w x ends_denied = unless_many (ends_at n x.held x.wanted w.pieces)
 looked_by c n entries w x lame = unless_many (ends_at n x.held x.wanted w.pieces)
 
--- all others wait on
+-- the fate of each question; questions that wait for no reply wait on
 abbrev pub fate_by : Config → ℕ → List Held → Ask → Walk → Waiting → Fate
 fate_by c n entries a w x = if waits_for a.question x then fate_of c n x (looked_by c n entries w x w.end) else waits x
 
--- the slots that the look-ups used, question by question
+-- the slots used by the look-ups, question by question
 abbrev pub used_by : Config → ℕ → List Held → Ask → Walk → List Waiting → List Slot
 used_by c n entries a w xs = flat_map (λ x. (looked_by c n entries w x w.end).used) (filter (waits_for a.question) xs)
 
--- the question to ask for those that wait on, which all want one and the same now; none where its
--- inquiry is open
+-- the question to ask for the redirected questions, which all want the same; none if its inquiry is
+-- open
 abbrev pub unless_open : Question → Option Ask → Option Question
 unless_open q None = Some q
 unless_open q (Some a) = None
 
--- the question of those that wait on, unless an ask for it is listed
+-- the wanted question of the redirected questions, unless an ask for it is listed
 abbrev pub to_be_asked : List Ask → List Waiting → Option Question
 to_be_asked listed [] = None
 to_be_asked listed (y ∷ ys) = unless_open y.wanted (of_question y.wanted listed)
 
--- without a port, those that would wait on for it fail
+-- without a port, a redirected question fails
 abbrev pub without_port : Fate → Fate
 without_port (gets reply) = gets reply
 without_port (waits y) = gets (gives_up NoPort y)
 
--- the fate of a question for which no port was free: it fails if it waits for q
+-- the fate without a free port: a question that waits for q fails
 abbrev pub unless_no_port : (Waiting → Fate) → Question → Waiting → Fate
 unless_no_port fate q x = if waits_for q x then without_port (fate x) else waits x
 
--- those who wait on get the next ask; without a port they fail
+-- the redirected questions get the next ask; without a port they fail
 abbrev pub row_of_next_name : ℕ → Ask → (Waiting → Fate) → State → Option Ask → Done
 row_of_next_name n a fate s None = closing_step n a (unless_no_port fate a.question) None s
 row_of_next_name n a fate s (Some next) = closing_step n a fate (Some next) s
 
--- an ask ends whose reply leads on: a new ask goes out where a question wants one
+-- the ask of a reply that leads on ends: a new ask goes out if a question wants one
 abbrev pub row_of_sent_on : Turn → Ask → (Waiting → Fate) → Option Question → Done
 row_of_sent_on t a fate None = closing_step t.moment a fate None t.state
 row_of_sent_on t a fate (Some q) =
     row_of_next_name t.moment a fate t.state
     (first_ask_for (from_state (record t.state { asks = without_path a.path t.state.asks }) t) q)
 
--- all that wait for it are answered, or are sent on to the name that the aliases lead to
+-- all questions waiting for the ask are answered, or redirected to the aliases' target
 abbrev pub row_of_end : Turn → Ask → Walk → (Waiting → Fate) → End → Done
 row_of_end t a w fate (elsewhere name) =
     row_of_sent_on (from_state (with_promoted (used_by t.config t.moment t.state.cache.entries a w t.state.waiting)
@@ -137,16 +136,16 @@ row_of_acceptance t rooms a w =
 
 -- ---- a delivery
 
--- a reply by its walk: a lame one is a failed attempt, any other is accepted
+-- a reply by its walk: a lame reply is a failed attempt, any other is accepted
 abbrev pub row_of_walk : Turn → List Bool → Ask → Walk → Done
 row_of_walk t rooms a w = if is_lame w.end then row_of_failure t a failure.Lame else row_of_acceptance t rooms a w
 
--- a matching message: one that can't be read whole is a failed attempt
+-- a matching message: unreadable, a failed attempt
 abbrev pub row_of_message : Turn → List Bool → Ask → Result Message Fault → Done
 row_of_message t rooms a (Ok m) = row_of_walk t rooms a (walk_of t.config m a.question a.route)
 row_of_message t rooms a (Err fault) = row_of_failure t a failure.Malformed
 
--- a delivery by its verdict: a stranger's changes nothing but the moment
+-- a delivery by its verdict: a stranger's octets change nothing but the moment
 abbrev pub row_of_verdict : Turn → List Bool → Ask → List ℕ → Verdict → Done
 row_of_verdict t rooms a octets Stranger = idle_step t.moment t.state
 row_of_verdict t rooms a octets Truncated = row_of_failure t a failure.Truncated
@@ -158,7 +157,7 @@ row_of_verdict t rooms a octets Whole = row_of_message t rooms a (message_of oct
 abbrev pub timeout_of : Config → Ask → ℕ
 timeout_of c a = a.asked + c.limits.ask_ms
 
--- an ask that is past its time is no longer answered
+-- an ask at the end of its time is no longer answered
 abbrev pub row_of_delivery : Turn → List Bool → Peer → List ℕ → Option Ask → Done
 row_of_delivery t rooms from octets None = idle_step t.moment t.state
 row_of_delivery t rooms from octets (Some a) =

@@ -1,4 +1,4 @@
--- One step of the forwarder.
+-- A step of the forwarder.
 use Rattle.std.specs.Prelude.{◌≡◌, ℕ, ◌^◌, Bool, false, ◌||◌, nat_le, min, max, List, [], None}
 use Rattle.std.specs.List.{list_any}
 use Rattle.suffix_routes.specs.Values.{Config}
@@ -15,15 +15,15 @@ use Rattle.step_table.specs.Failures.{row_of_failed_path}
 use Rattle.step_table.specs.Replies.{timeout_of, row_of_delivery, verdict_on}
 use Rattle.step_table.specs.Ticks.{deadline_of, row_of_tick}
 
--- a question has waited as long as it may, or an ask is past its time
+-- a question has reached its deadline, or an ask the end of its time
 abbrev pub is_due_at : Config → ℕ → State → Bool
 is_due_at c n s = list_any (λ x. nat_le (deadline_of c x) n) s.waiting
     || list_any (λ a. nat_le (timeout_of c a) n) s.asks
 
--- the event leads from this turn to these actions and the state after it
+-- the event leads from this turn to these actions and the state after
 abbrev pub Happens : Turn → Event → Done → Type 0
 Happens t (from_client client octets) d = d ≡ row_of_request t client octets
--- rooms says for each new slot whether it found memory
+-- rooms has true for each new slot that found memory
 Happens t (delivery path from octets) d = (rooms : List Bool)
     × (d ≡ row_of_delivery t rooms from octets (ask_on path t.state.asks))
 Happens t (path_failed path) d = d ≡ row_of_failed_path t (ask_on path t.state.asks)
@@ -42,8 +42,8 @@ HandsOctets restart = Unit {0}
 abbrev pub effective : ℕ → State → ℕ
 effective now s = max (min now (2 ^ 62)) s.moment
 
--- these events do not allocate: a message that is dropped, a delivery that matches nothing, a path
--- without an ask, a tick with nothing due, and a restart
+-- events without allocations: a dropped message, a delivery that matches nothing, a path without an
+-- ask, a tick with nothing due, and a restart
 abbrev pub TakesNoMemory : Config → ℕ → State → Event → Type 0
 TakesNoMemory c n s (from_client client octets) = is_taken octets ≡ false
 TakesNoMemory c n s (delivery path from octets) = verdict_on c n from octets (ask_on path s.asks) ≡ Stranger

@@ -5,7 +5,7 @@ use Rattle.outstanding.specs.Values.{Ask}
 use Rattle.record_cache.specs.Values.{Cache}
 use Rattle.waiting_questions.specs.Values.{Waiting}
 
--- all that a forwarder keeps from step to step
+-- a forwarder's memory from step to step
 pub record State : Type 0 where
   pub cache : Cache
   pub asks : List Ask  -- in the order in which they were asked
@@ -14,13 +14,12 @@ pub record State : Type 0 where
   pub moment : ℕ  -- the effective moment, in milliseconds
   pub tcp_asks : ℕ  -- how many asks went by TCP
 
--- a forwarder: its configuration, and its state
+-- a forwarder: configuration and state
 pub record Running : Type 0 where
   pub config : Config
   pub state : State
 
--- a step as its rows see it: the effective moment in milliseconds, its random words, and the state
--- in which it begins
+-- the start of a step: the effective moment in milliseconds, the random words, and the state before
 pub record Turn : Type 0 where
   pub config : Config
   pub moment : ℕ
@@ -31,6 +30,6 @@ pub record Turn : Type 0 where
 abbrev pub turn : Config → ℕ → List ℕ → State → Turn
 turn c n words s = record { config = c; moment = n; words = words; state = s }
 
--- the same from another state
+-- the turn from a different state
 abbrev pub from_state : State → Turn → Turn
 from_state s t = record t { state = s }

@@ -1,4 +1,4 @@
--- The actions of a step, and the state that it leaves.
+-- The actions of a step, and the state after.
 use Rattle.std.specs.Prelude.{ℕ, ◌+◌, if◌then◌else◌, Bool, List, [], ◌∷◌, ◌++◌, length, map, slice_set, Option, Some}
 use Rattle.std.specs.Prelude.{None, Result, Ok, Err}
 use Rattle.std.specs.List.{filter_map}
@@ -30,14 +30,14 @@ use Rattle.waiting_questions.specs.Values.{Waiting, waits_for}
 use Rattle.alias_chains.specs.LookingUp.{promoted_all}
 use Rattle.alias_chains.specs.Offering.{put_all, unkept_of}
 
--- the outcome of a step in the table: its actions, how many entries found no memory, and the state
--- that it leaves
+-- the outcome of a step in the table: its actions, the number of entries that found no memory, and
+-- the state after
 pub record Done : Type 0 where
   pub actions : List Action
   pub unkept : ℕ
   pub state : State
 
--- the fate of a question: it gets its reply, or waits on
+-- the fate of a question: a reply, or waiting on
 pub data Fate : Type 0 where
   gets : Action → Fate
   waits : Waiting → Fate
@@ -59,7 +59,7 @@ start c = record {
 abbrev pub at_moment : ℕ → State → State
 at_moment n s = record s { moment = n }
 
--- the server that answered is asked first from now on
+-- the server that answered becomes the first to ask
 abbrev pub with_preferred_server : Ask → State → State
 with_preferred_server a s = record s { preferred = slice_set s.preferred a.route a.server }
 
@@ -67,7 +67,7 @@ with_preferred_server a s = record s { preferred = slice_set s.preferred a.route
 abbrev pub with_entries : List Held → State → State
 with_entries entries s = record s { cache = record { capacity = s.cache.capacity; entries = entries } }
 
--- the entries that a look-up used are the most recently used now
+-- the entries used by a look-up become the most recently used
 abbrev pub with_promoted : List Slot → State → State
 with_promoted used s = with_entries (promoted_all used s.cache.entries) s
 
@@ -77,7 +77,7 @@ with_promoted used s = with_entries (promoted_all used s.cache.entries) s
 abbrev pub idle_step : ℕ → State → Done
 idle_step n s = record { actions = []; unkept = 0; state = at_moment n s }
 
--- one reply, and nothing else
+-- a reply, and nothing else
 abbrev pub reply_step : ℕ → Action → State → Done
 reply_step n action s = record { actions = action ∷ []; unkept = 0; state = at_moment n s }
 
@@ -95,12 +95,12 @@ abbrev pub ask_list : Option Ask → List Ask
 ask_list None = []
 ask_list (Some a) = a ∷ []
 
--- how many of one ask, if any, go over TCP
+-- the number of an ask's queries over TCP
 abbrev pub tcp_count : Option Ask → ℕ
 tcp_count None = 0
 tcp_count (Some a) = if is_tcp a.path then 1 else 0
 
--- a question waits, with the first ask of its inquiry where none is listed
+-- a question waits, with the first ask of its inquiry unless an ask is listed
 abbrev pub taking_step : ℕ → Waiting → Option Ask → State → Done
 taking_step n x next s = record {
   actions = map asks (ask_list next);
@@ -113,12 +113,12 @@ taking_step n x next s = record {
   };
 }
 
--- the reply of a fate, if it is one
+-- the reply of a fate, if any
 abbrev pub reply_in : Fate → Option Action
 reply_in (gets a) = Some a
 reply_in (waits y) = None
 
--- the question that waits on by a fate, if one does
+-- the question that waits on by a fate, if any
 abbrev pub waiting_in : Fate → Option Waiting
 waiting_in (gets a) = None
 waiting_in (waits y) = Some y

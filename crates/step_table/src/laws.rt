@@ -26,7 +26,7 @@ pub fn next_due_tells()
     ensures { NextDueTells }
 {}
 
-/// Where a reply leads elsewhere, all that wait on after it want one and the same question.
+/// If a reply leads elsewhere, all that wait on after it want one and the same question.
 pub fn sent_on_questions_want_one()
     ensures { SentOnQuestionsWantOne }
 {}

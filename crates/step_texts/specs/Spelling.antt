@@ -1,5 +1,5 @@
--- Texts of answers to questions that are spelled alike: they differ in identifier, opcode and RD
--- alone (RFC 1035 4.1.1).
+-- Texts of answers to questions with one spelling: they differ in identifier, opcode and RD alone
+-- (RFC 1035 4.1.1).
 use Rattle.std.specs.Prelude.{◌≡◌, ℕ, ◌+◌, ◌*◌, ◌/◌, ◌%◌, ◌<◌, ◌==◌, ◌&&◌, Bool, true, false, List, [], ◌∷◌, ◌++◌, drop}
 use Rattle.std.specs.Prelude.{slice_index, option_map, Option, Some, None, Result, Ok, Err}
 use Rattle.std.specs.List.{AllByRecursion}
@@ -21,7 +21,7 @@ use Rattle.waiting_questions.specs.Values.{Waiting}
 use Rattle.step_table.specs.Steps.{gives_up}
 use Rattle.step_texts.specs.declared.answers.Spelled.{Spelled}
 
--- the source of answers: a chain of pieces, as it is at a moment
+-- the source of answers: a chain of pieces at a moment
 pub record Source : Type 0 where
   pub chain : List Held
   pub moment : ℕ
@@ -31,7 +31,7 @@ abbrev pub ok_text : Result (List ℕ) Fault → Option (List ℕ)
 ok_text (Ok text) = Some text
 ok_text (Err fault) = None
 
--- the reply with it for this reason, or that it is too large
+-- the reply with this text for this reason, or TooLarge
 abbrev pub sends_text : Why → Waiting → Option (List ℕ) → Action
 sends_text why x (Some text) = send_reply x.client text why
 sends_text why x None = gives_up TooLarge x
@@ -40,11 +40,11 @@ sends_text why x None = gives_up TooLarge x
 abbrev pub front_of : Asked → ℕ → List ℕ
 front_of a flags = octets16 a.id ++ (128 + a.opcode * 8 + flags / 2 % 2 * 2 + bit a.rd 1) ∷ []
 
--- a text with that front in the place of its own: whether it was cut stays
+-- the text with this front in place of its own; TC stays
 abbrev pub with_front : Asked → List ℕ → List ℕ
 with_front a text = front_of a (slice_index text 2) ++ drop 3 text
 
--- names are equal where their octets are, letter case included
+-- names are equal if their octets are, letter case included
 abbrev pub same_spelling : List (List ℕ) → List (List ℕ) → Bool
 same_spelling a b = bytes_eq (octets_of a) (octets_of b)
 
@@ -59,12 +59,12 @@ same_transport Udp Tcp = false
 same_transport Tcp Udp = false
 same_transport Tcp Tcp = true
 
--- the text is that for this question over this transport
+-- the text is for this question over this transport
 abbrev pub is_for : {A : Type 0} → Transport → Question → Spelled A → Bool
 is_for t q s = same_transport s.transport t && are_alike s.question.now q
 
--- under the front of each request with its question, and an opcode of 4 bits, it is what that
--- request gets over its transport
+-- under the front of each request with this question, and an opcode of 4 bits, the text is the
+-- request's answer over its transport
 abbrev pub IsSpelled : {A : Type 0} → List Held → ℕ → Spelled A → Type 0
 IsSpelled chain n s = (a : Asked) → a.opcode < 16 → a.question ≡ Some s.question.now
     → option_map (with_front a) s.text ≡ ok_text (answer_of a chain n s.transport)

@@ -1,6 +1,6 @@
-//! Answers from borrowed pieces. From the second reply on a text is written once for questions that
-//! are spelled alike and came over one transport, since the answers to them differ in identifier,
-//! opcode and RD alone (RFC 1035 4.1.1).
+//! Answers from borrowed pieces. From the second reply on a text is written once for all questions
+//! of one spelling and transport, since their answers differ in identifier, opcode and RD alone
+//! (RFC 1035 4.1.1).
 
 ghost use Rattle.std.specs.Prelude.{◌≡◌, ◌<◌, ◌≤◌, ◌++◌, IfOk, MatchOption, Some, None, length};
 ghost use Rattle.std.specs.Prelude.{option_map};
@@ -28,7 +28,7 @@ use step_values::{Action, Why};
 use waiting_questions::{Request, Waiting};
 
 /// The reply to a question from a chain of pieces, none accepted after the moment, in milliseconds:
-/// aliases in order, then a set or a denial. `Err` where memory ran out.
+/// aliases in order, then a set or a denial.
 pub fn answer<A: Allocator + Copy>(
     alloc: A,
     request: &Request<'_>,
@@ -43,14 +43,14 @@ pub fn answer<A: Allocator + Copy>(
     reply(alloc, request, &sections, Why::Answered)
 }
 
-/// The replies to all that wait, from one chain of pieces.
+/// The replies to all waiting questions, from one chain of pieces.
 #[derive(Drop)]
 pub struct Answers<'a, A: Allocator = Global> {
     alloc: A,
     chain: &'a [&'a Held<A>],
     /// In milliseconds.
     moment: u64,
-    /// Whether a reply was given. Mostly it is the only one, so its text is not kept.
+    /// Whether a reply was given. Mostly there is a single reply, whose text is not kept.
     has_replied: bool,
     /// The texts of further replies.
     spelled: PlainList<Spelled<'a, A>, A>,
@@ -70,8 +70,7 @@ impl<'a, A: Allocator> Model for Answers<'a, A> {
 }
 
 impl<'a, A: Allocator + Copy> Answers<'a, A> {
-    /// Answers from this chain, none of it accepted after the moment, in milliseconds. It does not
-    /// allocate.
+    /// Answers from this chain, none of it accepted after the moment, in milliseconds.
     pub fn new(alloc: A, chain: &'a [&'a Held<A>], moment: u64) -> Answers<'a, A>
         requires { AllByRecursion (IsEarlier moment) (lent chain.now) }
         ensures { result ≡ record { chain = lent chain.now; moment = moment } }
@@ -92,8 +91,8 @@ impl<'a, A: Allocator + Copy> Answers<'a, A> {
         self.chain.len()
     }
 
-    /// The reply to a question, from the aliases that it holds and then the chain. The caller makes
-    /// sure that none of the aliases was accepted after the moment. `Err` where memory ran out.
+    /// The reply to a question, from its held aliases and then the chain. The caller makes sure
+    /// that none of the aliases was accepted after the moment.
     pub fn reply(&mut self, waiting: &'a Waiting<A>) -> Result<Action<A>, AllocError>
         requires earlier { AllByRecursion (IsEarlier self.old.moment) waiting.now.held }
         ensures same { self.new ≡ self.old }
@@ -109,7 +108,7 @@ impl<'a, A: Allocator + Copy> Answers<'a, A> {
         answer(self.alloc, &waiting.request(), &whole, self.moment)
     }
 
-    /// The reply to a question that holds no aliases.
+    /// The reply to a question without held aliases.
     fn plain_reply(&mut self, waiting: &'a Waiting<A>) -> Result<Action<A>, AllocError>
         ensures same { self.new ≡ self.old }
         ensures reply { IfOk result (λ action. action_of action
@@ -125,7 +124,7 @@ impl<'a, A: Allocator + Copy> Answers<'a, A> {
         reply_with(self.alloc, &request, text, Why::Answered)
     }
 
-    /// The text for a question that is spelled like one before, or that is written now and kept.
+    /// The text for a question: of an earlier question in this spelling, or written now and kept.
     fn text_for(
         &mut self,
         waiting: &'a Waiting<A>,
@@ -183,7 +182,7 @@ fn is_same_spelling<A: Allocator>(a: &Name<A>, b: &Name<A>) -> bool
     a.octets() == b.octets()
 }
 
-/// The text that was written, under the front of the answer to this question.
+/// The written text, under the front of the answer to this question.
 fn repeated<A: Allocator + Copy>(
     alloc: A,
     request: &Request<'_>,
@@ -201,7 +200,7 @@ fn repeated<A: Allocator + Copy>(
     }
 }
 
-/// The octets of an answer under the front of another one.
+/// The octets of an answer under a new front.
 fn under_front<A: Allocator + Copy>(
     alloc: A,
     asked: &AskedRef<'_>,
@@ -230,7 +229,7 @@ fn front_of(asked: &AskedRef<'_>, flags: u8) -> [u8; 3]
     front
 }
 
-/// The text for a question as it is spelled; `None` where it is too large.
+/// The text for a question in one spelling; `None` if too large.
 #[derive(Drop)]
 pub(crate) struct Spelled<'a, A: Allocator = Global> {
     question: &'a Question<A>,
@@ -238,7 +237,7 @@ pub(crate) struct Spelled<'a, A: Allocator = Global> {
     text: Option<Octets<A>>,
 }
 
-/// The aliases and then the chain, borrowed. `Err` where memory ran out.
+/// The aliases and then the chain, borrowed.
 pub(crate) fn behind<'a, A: Allocator + Copy>(
     alloc: A,
     aliases: &'a [Held<A>],

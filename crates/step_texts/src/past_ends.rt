@@ -17,9 +17,9 @@ use std::alloc::{AllocError, Allocator};
 use step_values::{Action, Why};
 use waiting_questions::Request;
 
-/// The reply to a question whose tries are used up: from the aliases that it holds, then the found
-/// pieces, which may be stale. None was accepted after the moment, in milliseconds. The expired of
-/// the found pieces get a TTL of 30 seconds (RFC 8767 4). `Err` where memory ran out.
+/// The reply to a question without a try left: from its held aliases, then the found pieces, which
+/// may be stale. None was accepted after the moment, in milliseconds. Expired pieces among the
+/// found get a TTL of 30 seconds (RFC 8767 4).
 pub fn stale_answer<A: Allocator + Copy>(
     alloc: A,
     request: &Request<'_>,
@@ -39,9 +39,9 @@ pub fn stale_answer<A: Allocator + Copy>(
     reply(alloc, request, &sections, Why::Stale)
 }
 
-/// The reply to a question whose own name, or the one that these aliases lead to, the configuration
-/// denies: a name error with the aliases alone (RFC 6761 6.4). None of the aliases was accepted
-/// after the moment, in milliseconds. `Err` where memory ran out.
+/// The reply to a question whose own name, or the name at the end of these aliases, the
+/// configuration denies: a name error with the aliases alone (RFC 6761 6.4). None of the aliases
+/// was accepted after the moment, in milliseconds.
 pub fn local_answer<A: Allocator + Copy>(
     alloc: A,
     request: &Request<'_>,
@@ -56,8 +56,8 @@ pub fn local_answer<A: Allocator + Copy>(
     reply(alloc, request, &sections, Why::LocalDenied)
 }
 
-/// The pieces of a chain as the answer has them at a moment, in milliseconds: the first `past` with
-/// the lifetime that is left, the others as stale ones.
+/// The pieces of a chain in an answer at a moment, in milliseconds: the first `past` with their
+/// seconds left, the rest as stale.
 fn told_from<'a, A: Allocator + Copy>(
     alloc: A,
     chain: &'a [&Held<A>],

@@ -15,7 +15,7 @@ use plain_values::Octets;
 use std::alloc::{AllocError, Allocator};
 use step_values::Action;
 
-/// The action that sends an ask. `Err` where memory ran out.
+/// The action of sending an ask.
 pub fn ask<A: Allocator + Copy>(alloc: A, ask: &Ask<A>) -> Result<Action<A>, AllocError>
     ensures { IfOk result (λ action. action_of action ≡ asks ask.now) }
 {

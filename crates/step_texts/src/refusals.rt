@@ -16,7 +16,7 @@ use waiting_questions::Request;
 /// A header and a question have 271 octets at most.
 pub(crate) const BARE_ROOM: usize = 271;
 
-/// The reply to a question that fails, with the question as it came. `Err` where memory ran out.
+/// The reply to a failed question, with the question in the client's spelling.
 pub fn failure<A: Allocator + Copy>(
     alloc: A,
     request: &Request<'_>,
@@ -27,8 +27,7 @@ pub fn failure<A: Allocator + Copy>(
     failed(alloc, request.client, request.asked(), why)
 }
 
-/// The reply to a message whose question was not taken, without a question. `Err` where memory ran
-/// out.
+/// The reply to a message without an accepted question, without a question.
 pub fn refusal<A: Allocator + Copy>(
     alloc: A,
     client: Client,

@@ -14,7 +14,6 @@ use step_values::{Action, Client, Why};
 use waiting_questions::Request;
 
 /// The reply with the answer that has these sections for this reason, or that it is too large.
-/// `Err` where memory ran out.
 pub(crate) fn reply<A: Allocator + Copy>(
     alloc: A,
     request: &Request<'_>,
@@ -28,8 +27,7 @@ pub(crate) fn reply<A: Allocator + Copy>(
     reply_with(alloc, request, text, why)
 }
 
-/// The text of the answer that has these sections; `None` where it is too large. `Err` where memory
-/// ran out.
+/// The text of the answer that has these sections; `None` if it is too large.
 pub(crate) fn text_of<A: Allocator + Copy>(
     alloc: A,
     request: &Request<'_>,
@@ -46,8 +44,7 @@ pub(crate) fn text_of<A: Allocator + Copy>(
     }
 }
 
-/// The reply with this text for this reason; without a text, that the answer is too large. `Err`
-/// where memory ran out.
+/// The reply with this text for this reason; without a text, that the answer is too large.
 pub(crate) fn reply_with<A: Allocator + Copy>(
     alloc: A,
     request: &Request<'_>,

@@ -1,4 +1,4 @@
--- The messages of clients that are taken, and the response code of each reply.
+-- The messages of clients that are accepted, and the response code of each reply.
 use Rattle.std.specs.Prelude.{ℕ, Bool, ◌&&◌, not, nat_le, List, length}
 use Rattle.dns_message.specs.Header.{header_in}
 use Rattle.step_values.specs.declared.action.Why.{Why}

@@ -30,7 +30,7 @@ pub data Action : Type 0 where
 
 -- ---- where actions lie
 
--- the actions that a list has, in order
+-- the actions of a list, in order
 abbrev pub listed_in : {A : Type 0} → Listed A → List (OwnedAction A)
 listed_in Nothing = []
 listed_in (One action) = action ∷ []
@@ -61,19 +61,19 @@ pub record Delivered : Type 0 where
   pub from : Peer
   pub octets : List ℕ
 
--- an ask that is sent
+-- a sent ask
 pub record SentAsk : Type 0 where
   pub path : Path
   pub server : Peer
   pub octets : List ℕ
 
--- a reply that is sent
+-- a sent reply
 pub record SentReply : Type 0 where
   pub client : Client
   pub octets : List ℕ
   pub why : Why
 
--- the client's message, if the event is one
+-- the client's message, of a client's event
 abbrev pub request_in : Event → Option Request
 request_in (from_client client octets) = Some (record { client = client; octets = octets })
 request_in (delivery path from octets) = None
@@ -81,7 +81,7 @@ request_in (path_failed path) = None
 request_in tick = None
 request_in restart = None
 
--- the delivery, if the event is one
+-- the delivery, of a delivery's event
 abbrev pub delivery_in : Event → Option Delivered
 delivery_in (delivery path from octets) = Some (record { path = path; from = from; octets = octets })
 delivery_in (from_client client octets) = None
@@ -89,7 +89,7 @@ delivery_in (path_failed path) = None
 delivery_in tick = None
 delivery_in restart = None
 
--- the ask that the action sends, if any
+-- the sent ask, if any
 abbrev pub ask_in : Action → Option SentAsk
 ask_in (ask_udp port server octets) = Some (record { path = path.Udp port; server = server; octets = octets })
 ask_in (ask_tcp conn server octets) = Some (record { path = path.Tcp conn; server = server; octets = octets })
@@ -97,7 +97,7 @@ ask_in (close_udp port) = None
 ask_in (close_tcp conn) = None
 ask_in (send_reply client octets why) = None
 
--- the path that the action gives up, if any
+-- the closed path, if any
 abbrev pub closed_path_in : Action → Option Path
 closed_path_in (close_udp port) = Some (path.Udp port)
 closed_path_in (close_tcp conn) = Some (path.Tcp conn)
@@ -105,7 +105,7 @@ closed_path_in (ask_udp port server octets) = None
 closed_path_in (ask_tcp conn server octets) = None
 closed_path_in (send_reply client octets why) = None
 
--- the reply that the action sends, if any
+-- the sent reply, if any
 abbrev pub reply_in_action : Action → Option SentReply
 reply_in_action (send_reply client octets why) = Some (record { client = client; octets = octets; why = why })
 reply_in_action (ask_udp port server octets) = None
@@ -147,7 +147,7 @@ pub record Outcome : Type 0 where
   pub unkept : ℕ
   pub more : Bool
 
--- its input and its output
+-- a step's input and output
 pub record Step : Type 0 where
   pub handed : Handed
   pub outcome : Outcome

@@ -1,4 +1,4 @@
-//! The actions of a forwarder, and why a question got its reply.
+//! The actions of a forwarder, and the reason of each reply.
 
 ghost use Rattle.std.specs.Prelude.{◌≡◌, IfOk};
 
@@ -7,41 +7,41 @@ use plain_values::{Octets, PlainList};
 use std::alloc::{AllocError, Allocator, Global};
 use suffix_routes::Peer;
 
-/// Why a question got its reply.
+/// The reason of a reply.
 #[derive(Clone, Copy, PartialEq, Eq, Debug)]
 pub enum Why {
-    /// It was answered: NOERROR, or NXDOMAIN.
+    /// An answer: NOERROR, or NXDOMAIN.
     Answered,
-    /// Its message has not just one question, or one that can't be read: FORMERR.
+    /// The message does not have exactly one question, or an unreadable question: FORMERR.
     BadFormat,
-    /// Its opcode isn't QUERY: NOTIMP.
+    /// The opcode is not QUERY: NOTIMP.
     BadOpcode,
-    /// Its type or class isn't served: NOTIMP.
+    /// The type or class is not served: NOTIMP.
     NotServed,
-    /// No configured suffix fits its name: REFUSED.
+    /// No configured suffix is at or above the name: REFUSED.
     NoRoute,
     /// As many questions as may wait are waiting: SERVFAIL.
     QuestionsFull,
     /// As many inquiries as may be open are open: SERVFAIL.
     InquiriesFull,
-    /// No port was free for its query: SERVFAIL.
+    /// No port was free for the query: SERVFAIL.
     NoPort,
     /// Every try failed: SERVFAIL.
     Exhausted,
-    /// It waited too long: SERVFAIL.
+    /// The question waited too long: SERVFAIL.
     Deadline,
-    /// Its chain of aliases is too long: SERVFAIL.
+    /// The chain of aliases is too long: SERVFAIL.
     ChainLong,
-    /// Its answer passes what TCP can carry: SERVFAIL.
+    /// The answer is longer than 65,535 octets: SERVFAIL.
     TooLarge,
-    /// Every try failed, and a set was held that had expired within the configured window: NOERROR
+    /// All tries failed, and the cache had a set that expired within the configured window: NOERROR
     /// (RFC 8767 4).
     Stale,
-    /// The route of its name, or of a name that its aliases lead to, denies it: NXDOMAIN.
+    /// The configuration denies the name, or a name to which its aliases lead: NXDOMAIN.
     LocalDenied,
 }
 
-/// An action that the forwarder asks its caller for.
+/// An action for the caller to carry out.
 #[derive(Drop)]
 pub enum Action<A: Allocator = Global> {
     /// Send a query from this UDP port.
@@ -64,7 +64,7 @@ pub enum Action<A: Allocator = Global> {
     CloseTcp {
         conn: u64,
     },
-    /// Send a client its reply.
+    /// Send a reply to a client.
     Reply {
         client: Client,
         bytes: Octets<A>,
@@ -73,7 +73,7 @@ pub enum Action<A: Allocator = Global> {
 }
 
 impl<A: Allocator + Copy> Action<A> {
-    /// An equal action. `Err` where memory ran out.
+    /// An equal action.
     pub fn copy(&self, alloc: A) -> Result<Action<A>, AllocError>
         ensures { IfOk result (λ action. action ≡ self.now) }
     {

@@ -8,18 +8,18 @@ use std::alloc::{AllocError, Allocator, Global};
 use std::marker::Model;
 use std::mem;
 
-/// How many actions a list has room for once it has more than one: two, and some more.
+/// The room of a list with more than one action: two, and some more.
 const ROOM: usize = 4;
 
-/// Actions, in order. Contracts see them as a list. The first lies in place: most steps have one
-/// alone, and listing it does not allocate.
+/// Actions, in order. Contracts see a list. The first action is in place: most steps have a single
+/// action, and listing it does not allocate.
 #[derive(Drop)]
 pub struct Actions<A: Allocator = Global> {
     alloc: A,
     listed: Listed<A>,
 }
 
-/// Where actions lie.
+/// The place of actions in memory.
 #[derive(Drop)]
 enum Listed<A: Allocator> {
     Nothing,
@@ -40,7 +40,7 @@ impl<A: Allocator> Model for Actions<A> {
 }
 
 impl<A: Allocator + Copy> Actions<A> {
-    /// No actions. It does not allocate.
+    /// No actions.
     pub fn new(alloc: A) -> Actions<A>
         ensures { result ≡ [] }
     {
@@ -50,7 +50,7 @@ impl<A: Allocator + Copy> Actions<A> {
         }
     }
 
-    /// This action alone. It does not allocate.
+    /// This action alone.
     pub fn one(alloc: A, action: Action<A>) -> Actions<A>
         ensures { result ≡ action ∷ [] }
     {
@@ -60,8 +60,7 @@ impl<A: Allocator + Copy> Actions<A> {
         }
     }
 
-    /// Puts an action last. The first one does not allocate. `Err` where memory ran out, and then
-    /// nothing has changed.
+    /// Puts an action last. The first action does not allocate.
     pub fn push(&mut self, action: Action<A>) -> Result<(), AllocError>
         ensures ok { OnOk result (self.new ≡ self.old ++ action ∷ []) }
         ensures err { OnErr result (self.new ≡ self.old) }
@@ -70,7 +69,7 @@ impl<A: Allocator + Copy> Actions<A> {
         self.listed.push(self.alloc, action)
     }
 
-    /// How many actions there are. It does not allocate.
+    /// The number of actions.
     pub fn len(&self) -> usize
         ensures { result ≡ length self.now }
     {
@@ -81,14 +80,14 @@ impl<A: Allocator + Copy> Actions<A> {
         }
     }
 
-    /// Whether there are none. It does not allocate.
+    /// Whether there are no actions.
     pub fn is_empty(&self) -> bool
         ensures { result ≡ (length self.now == 0) }
     {
         self.len() == 0
     }
 
-    /// The action at this place, counted from 0; `None` past the last one. It does not allocate.
+    /// The action at this place, from 0; `None` after the last.
     pub fn get(&self, place: usize) -> Option<&Action<A>>
         ensures { MatchOption result (slice_get self.now place ≡ None)
             (λ action. slice_get self.now place ≡ Some action.now) }

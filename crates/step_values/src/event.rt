@@ -7,7 +7,7 @@ use plain_values::{Octets, PlainList};
 use std::alloc::{AllocError, Allocator, Global};
 use suffix_routes::Peer;
 
-/// Who asks: a UDP peer, or the number of a TCP connection that the client opened.
+/// A client: a UDP peer, or the number of a TCP connection that the client opened.
 #[derive(Clone, Copy, PartialEq, Eq, Debug)]
 pub enum Client {
     Udp(Peer),
@@ -17,12 +17,12 @@ pub enum Client {
 /// An event of the forwarder.
 #[derive(Drop)]
 pub enum Event<A: Allocator = Global> {
-    /// A message of a client, without the length that goes before it over TCP.
+    /// A message of a client, without its length over TCP.
     Client {
         client: Client,
         bytes: Octets<A>,
     },
-    /// A message that came on a path to a server.
+    /// A message on a path to a server.
     Delivery {
         path: Path,
         from: Peer,
@@ -39,7 +39,7 @@ pub enum Event<A: Allocator = Global> {
 }
 
 impl<A: Allocator + Copy> Event<A> {
-    /// An equal event. `Err` where memory ran out.
+    /// An equal event.
     pub fn copy(&self, alloc: A) -> Result<Event<A>, AllocError>
         ensures { IfOk result (λ event. event ≡ self.now) }
     {

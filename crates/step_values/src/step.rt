@@ -10,7 +10,7 @@ use std::marker::Model;
 /// The outcome of a step.
 #[derive(Drop)]
 pub struct Outcome<A: Allocator = Global> {
-    /// In the order in which they are to be done.
+    /// The actions, in the order of their execution.
     pub actions: Actions<A>,
     /// How many entries found no memory in the cache.
     pub unkept: u32,
@@ -43,7 +43,7 @@ impl<A: Allocator> Model for Handed<A> {
 }
 
 impl<A: Allocator + Copy> Handed<A> {
-    /// Equal values. `Err` where memory ran out.
+    /// Equal values.
     pub fn copy(&self, alloc: A) -> Result<Handed<A>, AllocError>
         ensures { IfOk result (λ handed. handed ≡ self.entry.now) }
     {

@@ -1,4 +1,4 @@
--- The connections of clients that are open, by their numbers.
+-- The open connections of clients, by their numbers.
 use Rattle.std.specs.Prelude.{◌≡◌, ℕ, Bool, false, List, [], ◌∷◌, Option, None, Some, Result, if◌then◌else◌, slice_get}
 use Rattle.std.specs.Option.{option_map}
 use Rattle.std.specs.Ordering.{nat_cmp}
@@ -12,7 +12,7 @@ use Rattle.stream_connections.specs.declared.lost.Lost.{Lost}
 use Rattle.stream_connections.specs.Serving.{Replies, Serves}
 use Rattle.stream_connections.specs.Waiting.{IsNew, is_idle, is_late, is_resting}
 
--- The connection with this number is open and changes so; no other changes.
+-- The open connection with this number changes so, and no other connection changes.
 pub record ChangesAt {X : Type 0} (conn : ℕ) (Changes : X → X → Type 0) (before after : List (ℕ × X)) : Type 0 where
   pub connection : X
   pub changed : X
@@ -37,19 +37,18 @@ abbrev pub RepliesOn : {A : Type 0} → (conn : ℕ) (reply : List ℕ) (now : �
 RepliesOn conn reply now (Some answer) before after = ChangesAt conn (Replies reply now answer) before after
 RepliesOn conn reply now None before after = IsNotOpen conn before after
 
--- A connection that is admitted is listed under its number, as one that has just come; the others
--- stay.
+-- An admitted connection is listed under its number, as a new client's; the rest stays.
 pub record Admits {A : Type 0} (conn now : ℕ) (before after : List (ℕ × ClientStream A)) : Type 0 where
   pub client : ClientStream A
   pub is_new : IsNew now client
   pub listed : after ≡ insert_entry nat_cmp before conn client
 
--- the number of the first that waits for nothing
+-- the number of the first client that waits for nothing
 abbrev pub first_idle : {A : Type 0} → List (ℕ × ClientStream A) → Option ℕ
 first_idle [] = None
 first_idle (entry ∷ later) = if is_idle entry.1.unanswered entry.1.unsent.left then Some entry.0 else first_idle later
 
--- the number of the first that has waited for nothing for a while
+-- the number of the first client that has waited for nothing for a while
 abbrev pub first_resting : {A : Type 0} → (now : ℕ) → List (ℕ × ClientStream A) → Option ℕ
 first_resting now [] = None
 first_resting now (entry ∷ later) =
@@ -61,7 +60,7 @@ abbrev pub first_number : {X : Type 0} → (from : ℕ) → List (ℕ × X) → 
 first_number from entries =
     option_map (λ entry. entry.0) (slice_get (entries_between nat_cmp (Included from) Unbounded entries) 0)
 
--- whether a client that was found has been silent for too long
+-- whether a client, if found, has been silent for too long
 abbrev pub is_late_if : {A : Type 0} → (now deadline : ℕ) → Option (ClientStream A) → Bool
 is_late_if now deadline (Some client) =
     is_late client.unanswered client.unsent.left client.took client.active now deadline

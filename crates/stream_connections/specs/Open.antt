@@ -1,4 +1,4 @@
--- The connections that are open, and the ends of others that are yet to be reported.
+-- The open connections, and the ends still to be reported.
 use Rattle.std.specs.Prelude.{◌≡◌, ℕ, ◌+◌, ◌≤◌, Bool, ◌||◌, List, [], ◌∷◌, ◌++◌, length, nat_lt}
 use Rattle.std.specs.Prelude.{Option, Some, None, is_some, if◌then◌else◌}
 use Rattle.std.specs.Ordering.{nat_cmp}
@@ -13,16 +13,16 @@ use Rattle.stream_connections.specs.declared.answers.Heard.{Heard}
 use Rattle.stream_connections.specs.Queries.{IsWithin, SendsQuery}
 use Rattle.stream_connections.specs.Listed.{ChangesAt, IsNotOpen, first_idle}
 
--- The connections of clients and of asks, each in the order of their numbers; those that were
--- closed and whose end is not reported yet, in the order in which it will be; and whether there is
--- room to report the end of one connection more.
+-- The connections of clients and of asks, each in the order of their numbers; the closed
+-- connections whose ends are still to be reported, in order; and whether there is room to report
+-- the end of one connection more.
 pub record Connections (A : Type 0) : Type 0 where
   pub clients : List (ℕ × ClientStream A)
   pub servers : List (ℕ × ServerStream A)
   pub closed : List Closed
   pub has_room : Bool
 
--- as they are seen where `ends` ends are to be reported and there is room for `room`
+-- the view with `ends` ends to report and room for `room`
 abbrev pub seen_as : {A : Type 0} → List (ℕ × ClientStream A) → List (ℕ × ServerStream A) → List Closed
     → (ends room : ℕ) → Connections A
 seen_as clients servers closed ends room = record {
@@ -32,7 +32,7 @@ seen_as clients servers closed ends room = record {
   has_room = nat_lt (ends + length clients + length servers) room;
 }
 
--- There is room to report the end of each, besides `ends` other ends.
+-- There is room to report the end of each, in addition to `ends` ends.
 abbrev pub AllEndsFit : {A : Type 0} → List (ℕ × ClientStream A) → List (ℕ × ServerStream A) → (ends room : ℕ) → Type 0
 AllEndsFit clients servers ends room = ends + length clients + length servers ≤ room
 
@@ -42,18 +42,18 @@ pub record AreNone {A : Type 0} (connections : Connections A) : Type 0 where
   pub servers : connections.servers ≡ []
   pub closed : connections.closed ≡ []
 
--- with one end more to report, where a connection was open
+-- with one end more to report, if a connection was open
 abbrev pub with_end : Bool → Closed → List Closed → List Closed
 with_end was_open ended before = if was_open then before ++ ended ∷ [] else before
 
--- without the client with this number, whose end is to be reported where it was open
+-- without the client with this number, whose end is to be reported if it was open
 abbrev pub without_client : {A : Type 0} → (conn : ℕ) → Connections A → Connections A
 without_client conn before = record before {
   clients = remove_entry (is_at (nat_cmp conn)) before.clients;
   closed = with_end (is_some (lookup (is_at (nat_cmp conn)) before.clients)) (Client conn) before.closed;
 }
 
--- without the server with this number, whose end is to be reported where it was open
+-- without the server with this number, whose end is to be reported if it was open
 abbrev pub without_server : {A : Type 0} → (conn : ℕ) → Connections A → Connections A
 without_server conn before = record before {
   servers = remove_entry (is_at (nat_cmp conn)) before.servers;
@@ -65,8 +65,7 @@ abbrev pub without_first : {A : Type 0} → Option ℕ → Connections A → Con
 without_first (Some conn) before = without_client conn before
 without_first None before = before
 
--- Making a place for one client more: where there are 1,024, the oldest that waits for nothing
--- goes.
+-- Making a place for one client more: of 1,024, the oldest that waits for nothing goes.
 pub record MakesPlace {A : Type 0} (made : Bool) (before after : Connections A) : Type 0 where
   pub is_made : made ≡ (nat_lt (length before.clients) 1024 || is_some (first_idle before.clients))
   pub emptied : after ≡

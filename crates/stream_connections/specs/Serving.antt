@@ -19,27 +19,26 @@ use Rattle.stream_connections.specs.Waiting.{Hears, is_done, silence_of}
 abbrev pub Keeps : {A : Type 0} → ClientStream A → ClientStream A → Type 0
 Keeps before after = after ≡ record before { stream = after.stream }
 
--- At this moment the client took some of the octets that were left for it.
+-- At this moment the client took some of the octets left.
 pub record Takes {A : Type 0} (now : ℕ) (before after : ClientStream A) : Type 0 where
   pub count : ℕ
   pub some : 0 < count
   pub within : count ≤ length before.unsent.left
   pub taken : after ≡ record before { stream = after.stream; unsent = sent count before.unsent; took = now }
 
--- Sending: a write that takes nothing changes nothing.
+-- Sending: a write without taken octets changes nothing.
 abbrev pub Sends : {A : Type 0} → (now : ℕ) → ClientStream A → ClientStream A → Type 0
 Sends now before after = Keeps before after ⊎ Takes now before after
 
--- The effect of a write by the octets that the stream took: some are progress, none leaves all as
--- it was.
+-- The effect of a write by the number of taken octets: some are progress, none changes nothing.
 abbrev pub WroteBy : {A : Type 0} → Result ℕ Error → (now : ℕ) → Result (Unit {0}) Error
     → (before after : ClientStream A) → Type 0
 WroteBy (Ok zero) now result before after = (result ≡ Ok tt) × (after ≡ before)
 WroteBy (Ok (suc more)) now result before after = (result ≡ Ok tt) × (after ≡ record before { took = now })
 WroteBy (Err error) now result before after = (result ≡ Err error) × (after ≡ before)
 
--- A piece of the client's stream is heard at this moment: the messages that end in it have no reply
--- yet.
+-- A piece of the client's stream arrives at this moment: the messages that end in the piece have no
+-- reply yet.
 pub record HearsPiece {A : Type 0} (piece : List ℕ) (now : ℕ) (before after : ClientStream A) : Type 0 where
   pub stands : (rest : List ℕ) → Stands before.within rest → Stands after.within (unfinished_of (rest ++ piece))
   pub hears : (rest : List ℕ) → Stands before.within rest → Hears (length (frames_of (rest ++ piece))) now before after
@@ -61,14 +60,14 @@ abbrev pub Reads : {A : Type 0} → Option ℕ → (now : ℕ) (buffer : List �
 Reads (Some count) now buffer before after = ReadsPiece count now buffer before after
 Reads None now buffer before after = MayEnd before after
 
--- The effect of reading into the buffer, by what was heard.
+-- The effect of reading into the buffer, by the finding.
 abbrev pub HearsInto : {A : Type 0} → Heard → (now : ℕ) (buffer : List ℕ) → ClientStream A → ClientStream A → Type 0
 HearsInto (Octets count) now buffer before after = Reads (Some count) now buffer before after
 HearsInto Nothing now buffer before after = Reads None now buffer before after
 HearsInto Done now buffer before after = Reads None now buffer before after
 HearsInto Failed now buffer before after = after ≡ before
 
--- A read that heard nothing reports whether the client is done with.
+-- A read without a piece reports whether the client is done.
 abbrev pub TellsWhetherDone : {A : Type 0} → Heard → ClientStream A → Type 0
 TellsWhetherDone (Octets _) after = Unit {0}
 TellsWhetherDone Nothing after = is_done after ≡ false
@@ -91,7 +90,7 @@ pub record Receives {A : Type 0} (heard : Heard) (now : ℕ) (buffer : List ℕ)
   pub hears : HearsInto heard now buffer before after
   pub tells : TellsWhetherDone heard after
 
--- Sending what is left, and then reading into the buffer.
+-- Sending the octets left, and then reading into the buffer.
 pub record Serves {A : Type 0} (heard : Heard) (now : ℕ) (buffer : List ℕ) (before after : ClientStream A)
     : Type 0 where
   pub between : ClientStream A
@@ -99,7 +98,7 @@ pub record Serves {A : Type 0} (heard : Heard) (now : ℕ) (buffer : List ℕ) (
   pub hears : HearsInto heard now buffer between after
   pub tells : TellsWhetherDone heard after
 
--- with the frame of a reply appended to what is left
+-- with the frame of a reply appended to the octets left
 abbrev pub with_frame : {A : Type 0} → (frame : List ℕ) (now : ℕ) → ClientStream A → ClientStream A
 with_frame frame now before = record before {
   unsent = pushed frame before.unsent;
@@ -115,14 +114,14 @@ is_over TooLong = false
 is_over TooMuch = true
 is_over Gone = true
 
--- the reason for which a reply without a frame is lost
+-- why a reply without a frame is lost
 abbrev pub lost_by : FrameFault → Lost
 lost_by fault.Memory = Memory
 lost_by fault.TooLong = TooLong
 
--- The result of a reply: its frame is appended to what is left, and then the client takes what it
--- takes. True where the connection goes on. A reply that is lost leaves all as it was, unless the
--- stream takes nothing any more.
+-- The result of a reply: its frame is appended to the octets left, and then the client takes as
+-- many as the stream takes. True if the connection goes on. A lost reply changes nothing, unless
+-- the stream takes nothing any more.
 abbrev pub Answers : {A : Type 0} → (reply : List ℕ) (now : ℕ) → Result Bool Lost → ClientStream A → ClientStream A
     → Type 0
 Answers reply now (Ok goes_on) before after =

@@ -1,4 +1,4 @@
--- The clients that wait, and those that have been silent for too long (RFC 7766 6.2.3).
+-- Waiting clients, and clients silent for too long (RFC 7766 6.2.3).
 use Rattle.std.specs.Prelude.{◌≡◌, ℕ, ◌+◌, ◌-◌, ◌^◌, ◌==◌, ◌&&◌, min, Bool, false, nat_le, List, [], length}
 use Rattle.std.specs.Prelude.{if◌then◌else◌}
 use Rattle.tcp_frames.specs.declared.framing.Within.TheVariants as within
@@ -6,7 +6,7 @@ use Rattle.stream_connections.specs.declared.answers.Heard.{Heard}
 use Rattle.stream_connections.specs.declared.answers.Heard.TheVariants.{Nothing, Done}
 use Rattle.stream_connections.specs.declared.client_stream.ClientStream.{ClientStream}
 
--- A client that has just come has sent nothing.
+-- A new client has sent nothing.
 pub record IsNew {A : Type 0} (now : ℕ) (client : ClientStream A) : Type 0 where
   pub unsent : client.unsent ≡ record { left = []; taken = 0 }
   pub within : client.within ≡ within.Nothing
@@ -24,8 +24,7 @@ Hears messages now before after =
       active = if messages == 0 then before.active else now;
     }
 
--- whether a client waits for nothing: it has this number of messages without a reply, and these
--- octets that it didn't take yet
+-- whether a client waits for nothing: no messages without a reply, and no octets left to take
 abbrev pub is_idle : ℕ → List ℕ → Bool
 is_idle unanswered unsent = (unanswered == 0) && (length unsent == 0)
 
@@ -33,19 +32,19 @@ is_idle unanswered unsent = (unanswered == 0) && (length unsent == 0)
 abbrev pub is_done : {A : Type 0} → ClientStream A → Bool
 is_done client = client.ended && is_idle client.unanswered client.unsent.left
 
--- what is heard of a client that sends nothing now: whether it is done with
+-- the finding of a client that sends nothing now: done or not
 abbrev pub silence_of : {A : Type 0} → ClientStream A → Heard
 silence_of client = if is_done client then Done else Nothing
 
--- whether it has been silent for too long (RFC 7766 6.2.3): it took nothing for 10 s of what is
--- left for it; or, where nothing is left, sent no whole message and got no reply for 10 s, and for
--- `deadline` ms more where it waits for replies
+-- whether a client has been silent for too long (RFC 7766 6.2.3): for 10 s it took nothing of the
+-- octets left; or, with none left, sent no whole message and got no reply for 10 s, and with
+-- replies due for `deadline` ms more
 abbrev pub is_late : (unanswered : ℕ) (unsent : List ℕ) (took active now deadline : ℕ) → Bool
 is_late unanswered unsent took active now deadline =
     if length unsent == 0 then nat_le (10000 + (if unanswered == 0 then 0 else deadline)) (now - active)
     else nat_le 10000 (now - took)
 
--- whether it has waited for nothing for a second: no reply is due to it, and nothing is left that
--- it has to take
+-- whether a client has waited for nothing for a second: no reply is due, and no octets are left to
+-- take
 abbrev pub is_resting : (unanswered : ℕ) (unsent : List ℕ) (active now : ℕ) → Bool
 is_resting unanswered unsent active now = is_idle unanswered unsent && nat_le 1000 (now - active)

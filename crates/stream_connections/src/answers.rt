@@ -1,4 +1,4 @@
-//! The system's answers to calls on sockets, and what follows from each.
+//! The system's answers to calls on sockets, and their consequences.
 
 ghost use Rattle.std.specs.Prelude.{◌≡◌};
 ghost use Rattle.stream_connections.specs.Answers.{by_kind, heard_by, refusal_of, taken_by};
@@ -6,15 +6,15 @@ ghost use Rattle.stream_connections.specs.Answers.{by_kind, heard_by, refusal_of
 use std::io;
 use std::io::ErrorKind;
 
-/// The reason for which a call on a socket that never waits gave nothing.
+/// The reason why a call on a socket, which never waits, gave nothing.
 #[derive(Clone, Copy)]
 pub enum Refusal {
-    /// It would have to wait (EAGAIN).
+    /// The call would have to wait (EAGAIN).
     WouldBlock,
-    /// A signal came first (EINTR). A call that never waits does not report it, so it counts as a
-    /// failure.
+    /// A signal came first (EINTR). Calls that never wait do not report signals, so this counts as
+    /// a failure.
     Interrupted,
-    /// The process has as many descriptors as it may have (EMFILE).
+    /// The process has all the descriptors of its limit (EMFILE).
     NoDescriptor,
     /// Anything else: the socket, its path or the system failed.
     Failed,
@@ -35,7 +35,7 @@ pub enum Heard {
 }
 
 impl Refusal {
-    /// Returns the refusal that this error of a call reports.
+    /// Returns the refusal of this error of a call.
     pub fn of(error: &io::Error) -> Refusal
         ensures { result ≡ refusal_of error.now }
     {
@@ -56,8 +56,8 @@ impl Refusal {
     }
 }
 
-/// Returns the number of octets that a stream took, by its answer to a write: 0 where it would
-/// block. `Err` where it takes none any more.
+/// Returns the number of octets taken by a stream, by its answer to a write: 0 if the write would
+/// block. `Err` if the stream takes none any more.
 pub(crate) fn taken_by(answer: io::Result<usize>) -> io::Result<usize>
     ensures { result ≡ taken_by answer }
 {

@@ -18,31 +18,31 @@ use std::io;
 use std::io::Read;
 use tcp_frames::{Unsent, Within, frame};
 
-/// The time, in ms, for which a client may send no whole message, or take nothing of its replies
-/// (RFC 7766 6.2.3).
+/// The time, in ms, without a whole message, or without octets taken, after which a client is
+/// closed (RFC 7766 6.2.3).
 const PATIENCE: u64 = 10_000;
 
-/// The time, in ms, for which a client that waits for nothing keeps its connection where no
-/// descriptor is left for a query or for another client. In that time its first question is read.
+/// The time, in ms, after which an idle client gives way if no descriptor is left for a query or
+/// for a new client. A client's first question is read within this time.
 const REST: u64 = 1_000;
 
-/// The most octets of replies that are kept for a client.
+/// The most octets of replies kept for a client.
 const MOST_UNSENT: usize = 1 << 20;
 
 /// A connection that a client opened.
 #[derive(Drop)]
 pub(crate) struct ClientStream<A: Allocator> {
     stream: TcpStream,
-    /// Frames of replies that it didn't take yet.
+    /// Frames of replies that the client has not taken yet.
     unsent: Unsent<A>,
     within: Within,
     /// The number of whole messages without a reply.
     unanswered: usize,
-    /// Whether it sends nothing more.
+    /// Whether the client sends nothing more.
     ended: bool,
-    /// The last moment, in ms, at which it sent a whole message or got a reply.
+    /// The moment, in ms, of the last whole message or reply.
     active: u64,
-    /// The last moment, in ms, at which it took octets, or had taken all.
+    /// The last moment, in ms, at which the client took octets, or had none left to take.
     took: u64,
 }
 
@@ -61,29 +61,29 @@ impl<A: Allocator + Copy> ClientStream<A> {
         }
     }
 
-    /// Whether it waits for nothing.
+    /// Whether the client waits for nothing.
     pub fn is_idle(&self) -> bool
         ensures { result ≡ is_idle self.now.unanswered self.now.unsent.left }
     {
         self.unanswered == 0 && self.unsent.is_empty()
     }
 
-    /// Whether it has waited for nothing for a second.
+    /// Whether the client has waited for nothing for a second.
     pub fn is_resting(&self, now: u64) -> bool
         ensures { result ≡ is_resting self.now.unanswered self.now.unsent.left self.now.active now }
     {
         self.is_idle() && now.saturating_sub(self.active) >= REST
     }
 
-    /// Whether it sends nothing more and waits for nothing.
+    /// Whether the client sends nothing more and waits for nothing.
     fn is_done(&self) -> bool
         ensures { result ≡ is_done self.now }
     {
         self.ended && self.is_idle()
     }
 
-    /// Whether it has been silent for too long (RFC 7766 6.2.3). One that waits for replies may be
-    /// silent for `deadline` ms more, in which they come.
+    /// Whether the client has been silent for too long (RFC 7766 6.2.3). With replies due,
+    /// `deadline` ms more are allowed.
     pub fn is_late(&self, now: u64, deadline: u64) -> bool
         ensures { result ≡ is_late self.now.unanswered self.now.unsent.left self.now.took self.now.active now deadline }
     {
@@ -95,7 +95,8 @@ impl<A: Allocator + Copy> ClientStream<A> {
         silent >= PATIENCE && silent - PATIENCE >= allowed
     }
 
-    /// Sends as much of the replies as it takes. `Err` where it takes none any more.
+    /// Sends as many octets of the replies as the stream takes. `Err` if the stream takes none any
+    /// more.
     fn send(&mut self, now: u64) -> io::Result<()>
         ensures ok { OnOk result (Sends now self.old self.new) }
         ensures err { OnErr result (Keeps self.old self.new) }
@@ -107,8 +108,8 @@ impl<A: Allocator + Copy> ClientStream<A> {
         self.wrote(answer, now)
     }
 
-    /// Notes the progress of a write, by the stream's answer: one that takes nothing makes none.
-    /// `Err` where it takes nothing any more.
+    /// Notes the progress of a write, by the stream's answer: a write without taken octets is none.
+    /// `Err` if the stream takes nothing any more.
     fn wrote(&mut self, answer: io::Result<usize>, now: u64) -> io::Result<()>
         ensures { WroteBy (taken_by answer) now result self.old self.new }
     {
@@ -122,7 +123,7 @@ impl<A: Allocator + Copy> ClientStream<A> {
         }
     }
 
-    /// Counts the messages that end in a piece of its stream.
+    /// Counts the messages that end in a piece of the stream.
     fn heard(&mut self, piece: &[u8], now: u64)
         ensures { HearsPiece piece.now now self.old self.new }
     {
@@ -133,7 +134,7 @@ impl<A: Allocator + Copy> ClientStream<A> {
         }
     }
 
-    /// Notes that one message more has its reply.
+    /// Notes a message's reply.
     fn replied(&mut self, now: u64)
         ensures { self.new ≡ record self.old { unanswered = self.old.unanswered - 1; active = now } }
     {
@@ -141,7 +142,7 @@ impl<A: Allocator + Copy> ClientStream<A> {
         self.active = now;
     }
 
-    /// Sends what is left, and reads into the buffer.
+    /// Sends the octets left, and reads into the buffer.
     pub fn serve(&mut self, buffer: &mut [u8], now: u64) -> Heard
         ensures { Serves result now buffer.new self.old self.new }
     {
@@ -149,7 +150,7 @@ impl<A: Allocator + Copy> ClientStream<A> {
         self.receive_after(sent, buffer, now)
     }
 
-    /// Reads into the buffer, unless the send before it failed.
+    /// Reads into the buffer, unless the send before failed.
     fn receive_after(&mut self, sent: io::Result<()>, buffer: &mut [u8], now: u64) -> Heard
         ensures ok { OnOk sent (Receives result now buffer.new self.old self.new) }
         ensures err { OnErr sent ((result ≡ Failed) × (self.new ≡ self.old)) }
@@ -160,7 +161,7 @@ impl<A: Allocator + Copy> ClientStream<A> {
         }
     }
 
-    /// Reads what it has sent into the buffer.
+    /// Reads a piece of the stream into the buffer.
     fn receive(&mut self, buffer: &mut [u8], now: u64) -> Heard
         ensures { Receives result now buffer.new self.old self.new }
     {
@@ -182,8 +183,7 @@ impl<A: Allocator + Copy> ClientStream<A> {
         }
     }
 
-    /// Notes what a read into the buffer gave, by the stream's answer: a piece, its end, or
-    /// neither.
+    /// Notes the stream's answer to a read into the buffer: a piece, the end, or neither.
     fn hear(&mut self, answer: io::Result<usize>, buffer: &[u8], now: u64) -> Heard
         requires within { ReadsAtMost answer buffer.now }
         ensures { HearsBy (heard_by answer) now buffer.now result self.old self.new }
@@ -202,8 +202,7 @@ impl<A: Allocator + Copy> ClientStream<A> {
         }
     }
 
-    /// Appends the frame of a reply to what is left. `Err` where memory ran out: nothing has
-    /// changed.
+    /// Appends the frame of a reply to the octets left.
     fn list(&mut self, frame: Octets<A>, now: u64) -> Result<(), AllocError>
         ensures ok { OnOk result (self.new ≡ with_frame frame now self.old) }
         ensures err { OnErr result (self.new ≡ self.old) }
@@ -237,7 +236,7 @@ impl<A: Allocator + Copy> ClientStream<A> {
         self.goes_on_after(sent)
     }
 
-    /// Returns whether the connection goes on after this send. `Err` where the stream takes nothing
+    /// Returns whether the connection goes on after this send. `Err` if the stream takes nothing
     /// any more.
     fn goes_on_after(&self, sent: io::Result<()>) -> Result<bool, Lost>
         ensures ok { OnOk sent (result ≡ Ok (not (is_done self.now))) }

@@ -15,11 +15,11 @@ use std::alloc::{AllocError, Allocator};
 use std::collections::BTreeMap;
 use std::marker::Model;
 
-/// The most connections that clients may have.
+/// The most connections of clients.
 const MOST: usize = 1024;
 
-/// The connections that clients opened and that are still open, by their numbers, at most 1,024.
-/// Contracts see them in the order of their numbers.
+/// The open connections of clients, by their numbers, at most 1,024. Contracts see them in the
+/// order of their numbers.
 #[derive(Drop)]
 pub(crate) struct Clients<A: Allocator> {
     open: BTreeMap<u64, ClientStream<A>, A>,
@@ -37,7 +37,7 @@ impl<A: Allocator> Model for Clients<A> {
 }
 
 impl<A: Allocator + Copy> Clients<A> {
-    /// Starts with no connection. It does not allocate.
+    /// Starts with no connection.
     pub fn new(alloc: A) -> Clients<A>
         ensures { result ≡ [] }
     {
@@ -46,7 +46,7 @@ impl<A: Allocator + Copy> Clients<A> {
         }
     }
 
-    /// Whether no further one may be opened.
+    /// Whether no further connection may be opened.
     pub fn is_full(&self) -> bool
         ensures full { result ≡ nat_le 1024 (length self.now) }
         ensures most { length self.now ≤ 1024 }
@@ -60,7 +60,7 @@ impl<A: Allocator + Copy> Clients<A> {
         self.open.len()
     }
 
-    /// Lists a connection under its number. `Err` where memory ran out: nothing has changed.
+    /// Lists a connection under its number.
     pub fn admit(
         &mut self,
         alloc: A,
@@ -78,8 +78,8 @@ impl<A: Allocator + Copy> Clients<A> {
         Ok(())
     }
 
-    /// Sends what is left for the client with this number, and reads what it sent into the buffer;
-    /// `None` where it isn't open.
+    /// Sends the octets left for the client with this number, and reads a piece of its stream into
+    /// the buffer; `None` if not open.
     pub fn serve(&mut self, conn: u64, buffer: &mut [u8], now: u64) -> Option<Heard>
         ensures serves { ServesOn conn result now buffer.new self.old self.new }
         ensures number { length self.new ≡ length self.old }
@@ -89,7 +89,7 @@ impl<A: Allocator + Copy> Clients<A> {
     }
 
     /// Replies to the client with this number, and returns whether its connection goes on; `None`
-    /// where it isn't open.
+    /// if not open.
     pub fn reply(
         &mut self,
         alloc: A,
@@ -104,7 +104,7 @@ impl<A: Allocator + Copy> Clients<A> {
         Some(client.reply(alloc, reply, now))
     }
 
-    /// Closes the connection with this number; false where it isn't open.
+    /// Closes the connection with this number; false if not open.
     pub fn close(&mut self, conn: u64) -> bool
         ensures open { result ≡ is_some (lookup (is_at (nat_cmp conn)) self.old) }
         ensures rest { self.new ≡ remove_entry (is_at (nat_cmp conn)) self.old }
@@ -113,7 +113,7 @@ impl<A: Allocator + Copy> Clients<A> {
         self.open.remove(&conn).is_some()
     }
 
-    /// The number of the oldest that waits for nothing.
+    /// The number of the oldest client that waits for nothing.
     pub fn oldest_idle(&self) -> Option<u64>
         ensures { result ≡ first_idle self.now }
     {
@@ -125,7 +125,7 @@ impl<A: Allocator + Copy> Clients<A> {
         None
     }
 
-    /// The number of the oldest that has waited for nothing for a second.
+    /// The number of the oldest client that has waited for nothing for a second.
     pub fn oldest_resting(&self, now: u64) -> Option<u64>
         ensures { result ≡ first_resting now self.now }
     {
@@ -145,8 +145,8 @@ impl<A: Allocator + Copy> Clients<A> {
         Some(*number)
     }
 
-    /// Whether the client with this number has been silent for too long (RFC 7766 6.2.3); false
-    /// where it isn't open.
+    /// Whether the client with this number has been silent for too long (RFC 7766 6.2.3); false if
+    /// not open.
     pub fn is_late(&self, conn: u64, now: u64, deadline: u64) -> bool
         ensures { result ≡ is_late_on conn now deadline self.now }
     {

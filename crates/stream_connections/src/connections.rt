@@ -1,4 +1,4 @@
-//! The connections that are open, and the ends of others that are yet to be reported.
+//! The open connections, and the ends still to be reported.
 
 ghost use Rattle.std.specs.Prelude.{◌≡◌, ◌<◌, length, drop, slice_get, nat_lt};
 ghost use Rattle.std.specs.Prelude.{true, is_some, IsTrue, OnOk, OnErr};
@@ -19,7 +19,7 @@ use std::collections::{BTreeMap, VecDeque};
 use std::marker::Model;
 use suffix_routes::Peer;
 
-/// A connection that the wire closed.
+/// A connection closed by the wire.
 #[derive(Clone, Copy, Drop)]
 pub enum Closed {
     /// The connection of a client with this number.
@@ -28,9 +28,9 @@ pub enum Closed {
     Server(u64),
 }
 
-/// The connections of clients and of asks that are open, by their numbers, and those that were
-/// closed and whose end is not reported yet. There is always room to report the end of each. A
-/// moment is in ms, by one clock for all calls; the oldest of several clients has the least number.
+/// The open connections of clients and of asks, by their numbers, and the closed connections whose
+/// ends are still to be reported. There is always room to report the end of each. A moment is in
+/// ms, by one clock for all calls; the oldest of several clients has the least number.
 #[derive(Drop)]
 pub struct Connections<A: Allocator = Global> {
     clients: Clients<A>,
@@ -50,7 +50,7 @@ impl<A: Allocator> Model for Connections<A> {
 }
 
 impl<A: Allocator + Copy> Connections<A> {
-    /// Starts with no connection. It does not allocate.
+    /// Starts with no connection.
     pub fn new(alloc: A) -> Connections<A>
         ensures { AreNone result }
     {
@@ -61,7 +61,7 @@ impl<A: Allocator + Copy> Connections<A> {
         }
     }
 
-    /// Takes out the end that is to be reported next.
+    /// Takes out the next end to report.
     pub fn next_end(&mut self) -> Option<Closed>
         ensures first { result ≡ slice_get self.old.closed 0 }
         ensures rest { self.new ≡ record self.old { closed = drop 1 self.old.closed; has_room = self.new.has_room } }
@@ -69,7 +69,7 @@ impl<A: Allocator + Copy> Connections<A> {
         self.ends.pop_front()
     }
 
-    /// Keeps room to report the end of each connection that is open, and of one more.
+    /// Makes room to report the end of each open connection, and of one more.
     pub fn keep_room(&mut self) -> Result<(), AllocError>
         ensures ok { OnOk result (self.new.has_room ≡ true) }
         ensures rest { self.new ≡ record self.old { has_room = self.new.has_room } }
@@ -78,7 +78,7 @@ impl<A: Allocator + Copy> Connections<A> {
         self.ends.reserve(open.saturating_add(1))
     }
 
-    /// Closes a client's connection where it is open; its end will be reported.
+    /// Closes a client's connection if open; its end will be reported.
     pub fn close_client(&mut self, conn: u64)
         ensures { self.new ≡ without_client conn self.old }
     {
@@ -87,7 +87,7 @@ impl<A: Allocator + Copy> Connections<A> {
         }
     }
 
-    /// Closes a connection to a server where it is open; its end will be reported.
+    /// Closes a connection to a server if open; its end will be reported.
     pub fn close_server(&mut self, conn: u64)
         ensures { self.new ≡ without_server conn self.old }
     {
@@ -96,7 +96,7 @@ impl<A: Allocator + Copy> Connections<A> {
         }
     }
 
-    /// Closes the oldest connection of a client that waits for nothing; false where no client does.
+    /// Closes the oldest client's connection that waits for nothing; false if there is none.
     #[tactic(auto, using(crate::proofs::Ends::fewer_without_idle))]
     fn close_oldest(&mut self) -> bool
         ensures closed { self.new ≡ without_first (first_idle self.old.clients) self.old }
@@ -112,8 +112,8 @@ impl<A: Allocator + Copy> Connections<A> {
         }
     }
 
-    /// Closes the oldest connection of a client that has waited for nothing for a second; false
-    /// where no client has.
+    /// Closes the oldest client's connection that has waited for nothing for a second; false if
+    /// there is none.
     pub fn close_resting(&mut self, now: u64) -> bool
         ensures closed { self.new ≡ without_first (first_resting now self.old.clients) self.old }
         ensures found { result ≡ is_some (first_resting now self.old.clients) }
@@ -127,8 +127,8 @@ impl<A: Allocator + Copy> Connections<A> {
         }
     }
 
-    /// Makes a place for one client more: where there are 1,024, the oldest that waits for nothing
-    /// is closed. False where all of them wait: nothing has changed.
+    /// Makes a place for one client more: of 1,024, the oldest that waits for nothing is closed.
+    /// False if all of them wait: nothing has changed.
     pub fn make_place(&mut self) -> bool
         ensures place { IsTrue result → length self.new.clients < 1024 }
         ensures made { MakesPlace result self.old self.new }
@@ -136,8 +136,7 @@ impl<A: Allocator + Copy> Connections<A> {
         !self.clients.is_full() || self.close_oldest()
     }
 
-    /// Lists a client's connection under its number. `Err` where memory ran out: nothing has
-    /// changed.
+    /// Lists a client's connection under its number.
     pub fn admit(
         &mut self,
         alloc: A,
@@ -154,8 +153,7 @@ impl<A: Allocator + Copy> Connections<A> {
         self.clients.admit(alloc, conn, stream, now)
     }
 
-    /// Lists a connection to a server under its number. `Err` where memory ran out: nothing has
-    /// changed.
+    /// Lists a connection to a server under its number.
     pub fn list_server(&mut self, conn: u64, stream: ServerStream<A>) -> Result<(), AllocError>
         requires { self.old.has_room ≡ true }
         ensures ok { OnOk result (self.new.servers ≡ insert_entry nat_cmp self.old.servers conn stream) }
@@ -166,8 +164,8 @@ impl<A: Allocator + Copy> Connections<A> {
         Ok(())
     }
 
-    /// Sends what is left for the client with this number, and reads what it sent into the buffer;
-    /// `None` where it isn't open.
+    /// Sends the octets left for the client with this number, and reads a piece of its stream into
+    /// the buffer; `None` if not open.
     pub fn serve_client(&mut self, conn: u64, buffer: &mut [u8], now: u64) -> Option<Heard>
         ensures serves { ServesOn conn result now buffer.new self.old.clients self.new.clients }
         ensures rest { self.new ≡ record self.old { clients = self.new.clients } }
@@ -175,8 +173,8 @@ impl<A: Allocator + Copy> Connections<A> {
         self.clients.serve(conn, buffer, now)
     }
 
-    /// Sends what is left for the server on the connection with this number, and reads what it sent
-    /// into the buffer; `None` where it isn't open.
+    /// Sends the octets left for the server on the connection with this number, and reads a piece
+    /// of its stream into the buffer; `None` if not open.
     pub fn serve_server(&mut self, conn: u64, buffer: &mut [u8]) -> Option<(Peer, Heard)>
         ensures serves { ServesServer conn result buffer.new self.old.servers self.new.servers }
         ensures rest { self.new ≡ record self.old { servers = self.new.servers } }
@@ -185,8 +183,8 @@ impl<A: Allocator + Copy> Connections<A> {
         Some((server.server, server.serve(buffer)))
     }
 
-    /// Replies to the client with this number, after what it is still to take. Returns whether its
-    /// connection goes on; `None` where it isn't open. At most 1 MiB is left for a client.
+    /// Replies to the client with this number, after the octets left for the client. Returns
+    /// whether the connection goes on; `None` if not open. At most 1 MiB is left for a client.
     pub fn reply(
         &mut self,
         alloc: A,
@@ -207,9 +205,9 @@ impl<A: Allocator + Copy> Connections<A> {
         self.clients.from(conn)
     }
 
-    /// Whether the client with this number has been silent for too long: for 10 s, and where it
-    /// waits for a reply for `deadline` ms more (RFC 7766 6.2.3). Call `serve_client` before: what
-    /// it sent in time may not be read yet. False where it isn't open.
+    /// Whether the client with this number has been silent for too long: for 10 s, and with a reply
+    /// due for `deadline` ms more (RFC 7766 6.2.3). Call `serve_client` before: messages sent in
+    /// time may not be read yet. False if not open.
     pub fn is_late(&self, conn: u64, now: u64, deadline: u64) -> bool
         ensures { result ≡ is_late_on conn now deadline self.now.clients }
     {

@@ -1,5 +1,5 @@
-//! Connections over TCP that clients opened, and those that were begun to ask servers: what each is
-//! still to take, which client gives way to another, and the ends that are to be reported.
+//! Connections over TCP from clients and to asked servers: the octets left for each, the client
+//! that gives way to a new one, and the ends to report.
 #![tactic(auto)]
 
 mod answers;

@@ -13,8 +13,8 @@ use std::io::{ErrorKind, Read};
 use suffix_routes::Peer;
 use tcp_frames::{Unsent, frame};
 
-/// The octets of a query that a server is to take: its frame, the query after its length in two
-/// octets (RFC 1035 4.2.2). `Err` where memory ran out, or the query has more than 65,535 octets.
+/// The octets of a query over TCP: its length in two octets, then the query (RFC 1035 4.2.2). `Err`
+/// if memory ran out, or the query is longer than 65,535 octets.
 pub fn unsent_query<A: Allocator + Copy>(alloc: A, query: &[u8]) -> io::Result<Unsent<A>>
     ensures { IfOk result (λ unsent. unsent ≡ record { left = framed query.now; taken = 0 }) }
 {
@@ -26,7 +26,7 @@ pub fn unsent_query<A: Allocator + Copy>(alloc: A, query: &[u8]) -> io::Result<U
     Ok(unsent)
 }
 
-/// A connection to a server, with the rest of the query that it didn't take yet.
+/// A connection to a server, with the untaken rest of the query.
 #[derive(Drop)]
 pub struct ServerStream<A: Allocator = Global> {
     stream: TcpStream,
@@ -35,7 +35,7 @@ pub struct ServerStream<A: Allocator = Global> {
 }
 
 impl<A: Allocator + Copy> ServerStream<A> {
-    /// Makes a connection that was begun to this server, which is to take these octets.
+    /// Makes a connection begun to this server, with these octets to take.
     pub fn new(stream: TcpStream, server: Peer, unsent: Unsent<A>) -> ServerStream<A>
         ensures server { result.server ≡ server }
         ensures unsent { result.unsent ≡ unsent }
@@ -47,7 +47,7 @@ impl<A: Allocator + Copy> ServerStream<A> {
         }
     }
 
-    /// Sends what is left of the query, and reads into the buffer.
+    /// Sends the rest of the query, and reads into the buffer.
     pub(crate) fn serve(&mut self, buffer: &mut [u8]) -> Heard
         ensures bound { IsWithin result buffer.new }
         ensures sends { SendsQuery self.old self.new }
@@ -56,7 +56,8 @@ impl<A: Allocator + Copy> ServerStream<A> {
         self.receive_after(sent, buffer)
     }
 
-    /// Sends as much of the query as the server takes. `Err` where it takes none any more.
+    /// Sends as many octets of the query as the server takes. `Err` if the server takes none any
+    /// more.
     fn send(&mut self) -> io::Result<usize>
         ensures { SendsQuery self.old self.new }
     {
@@ -66,7 +67,7 @@ impl<A: Allocator + Copy> ServerStream<A> {
         taken_by(self.unsent.send(&mut self.stream))
     }
 
-    /// Reads into the buffer, unless the send before it failed.
+    /// Reads into the buffer, unless the send before failed.
     fn receive_after(&mut self, sent: io::Result<usize>, buffer: &mut [u8]) -> Heard
         ensures bound { IsWithin result buffer.new }
         ensures same { self.new ≡ self.old }

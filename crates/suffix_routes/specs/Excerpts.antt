@@ -1,4 +1,4 @@
--- A text that was met, as a fault shows it: its first octets.
+-- The first octets of a text, for the fault of the text.
 use Rattle.std.specs.Prelude.{◌≡◌, ℕ, ◌-◌, ◌≤◌, List, ◌++◌, length, take, replicate}
 
 -- the first 64 octets
@@ -9,11 +9,11 @@ excerpt text = take 64 text
 abbrev pub padded : List ℕ → List ℕ
 padded octets = octets ++ replicate (64 - length octets) 0
 
--- an excerpt as it is kept: its octets with zeros after them, and their number
+-- an excerpt in memory: its octets, then zeros, and their number
 unfoldable pub kept_octets : List ℕ → List ℕ
 kept_octets text = padded text
 
--- the number of octets of the text that an excerpt keeps
+-- the number of the text's octets in an excerpt
 unfoldable pub kept_len : List ℕ → ℕ
 kept_len text = length text
 

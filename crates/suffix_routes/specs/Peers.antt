@@ -6,18 +6,18 @@ use Rattle.std.specs.List.{list_all}
 use Rattle.std.specs.Char.{is_ascii_digit}
 use Rattle.suffix_routes.specs.declared.peer.Peer.{Peer}
 
--- what comes next of what is there
+-- one reading, then a second reading of the first result
 infixl 10 ◌>>?◌
--- what the second reading yields of the first one's result, if both succeed
+-- the second reading's result on the first result, if both succeed
 abbrev pub ◌>>?◌ : {A B : Type 0} → Option A → (A → Option B) → Option B
 (Some x) >>? f = f x
 None >>? f = None
 
--- the octets before the first separator, and those after it
+-- the octets before the first separator, and the octets after
 abbrev pub cut : ℕ → List ℕ → Option (List ℕ × List ℕ)
 cut separator text = option_map (λ at. (take at text, drop (at + 1) text)) (position (λ c. c == separator) text)
 
--- digits alone, at least one, and no leading zero but `0` itself
+-- digits alone, at least one, without a leading zero except `0` itself
 abbrev pub is_decimal : List ℕ → Bool
 is_decimal text = (nat_lt 0 (length text) && not (nat_lt 1 (length text) && slice_index text 0 == 48))
     && list_all is_ascii_digit text
@@ -26,11 +26,11 @@ is_decimal text = (nat_lt 0 (length text) && not (nat_lt 1 (length text) && slic
 abbrev pub decimal_value : List ℕ → ℕ
 decimal_value digits = fold (λ n c. 10 * n + (c - 48)) 0 digits
 
--- a number that is not too great
+-- a number not above the greatest
 abbrev pub up_to : ℕ → ℕ → Option ℕ
 up_to high n = if nat_le n high then Some n else None
 
--- the decimal number that a text writes, where it is from low to high
+-- the decimal number of a text, if from low to high
 unfoldable pub number_in : ℕ → ℕ → List ℕ → Option ℕ
 number_in low high text = if is_decimal text then (if nat_le low (decimal_value text)
     then up_to high (decimal_value text) else None) else None
@@ -49,7 +49,7 @@ peer_of text =
     number_in 1 65535 fourth.1 >>? λ port.
     Some (record { ip = a ∷ b ∷ c ∷ d ∷ []; port = port })
 
--- The same in the parts of a text: this text writes this peer.
+-- This text, by its parts, writes this peer.
 pub record Writes (text : List ℕ) (peer : Peer) : Type 0 where
   pub first : List ℕ
   pub second : List ℕ
@@ -69,7 +69,7 @@ pub record Writes (text : List ℕ) (peer : Peer) : Type 0 where
   pub is_port : number_in 1 65535 last ≡ Some port
   pub is_peer : peer ≡ record { ip = a ∷ b ∷ c ∷ d ∷ []; port = port }
 
--- the text of a peer: its octets with dots between, a colon, its port
+-- the text of a peer: its octets parted by dots, a colon, its port
 abbrev pub peer_text : Peer → List ℕ
 peer_text peer =
     decimal (slice_index peer.ip 0)

@@ -24,7 +24,7 @@ limit_key AskMs = codes "ask_ms"
 limit_key DeadlineMs = codes "deadline_ms"
 limit_key StaleS = codes "stale_s"
 
--- the value of a limit that the text leaves out
+-- the value of a limit without a key
 abbrev pub default_of : Limit → ℕ
 default_of Questions = 1024
 default_of Inquiries = 256
@@ -34,7 +34,7 @@ default_of AskMs = 1500
 default_of DeadlineMs = 8000
 default_of StaleS = 0
 
--- the least value that a limit may have
+-- the least allowed value of a limit
 abbrev pub lowest : Limit → ℕ
 lowest Questions = 1
 lowest Inquiries = 1
@@ -44,7 +44,7 @@ lowest AskMs = 100
 lowest DeadlineMs = 500
 lowest StaleS = 0
 
--- the greatest value that a limit may have
+-- the greatest allowed value of a limit
 abbrev pub highest : Limit → ℕ
 highest Questions = 4096
 highest Inquiries = 1024
@@ -79,7 +79,7 @@ abbrev pub route_keys : Version → List (List ℕ)
 route_keys One = first_route_keys
 route_keys Two = codes "deny" ∷ first_route_keys
 
--- a key is one of these
+-- the list has this key
 abbrev pub is_among : List (List ℕ) → List ℕ → Bool
 is_among keys key = list_any (λ k. pointwise nat_eq key k) keys
 
@@ -92,7 +92,7 @@ knows version _ key = false
 
 -- ---- the numbers of faults, for programs
 
--- the number of a fault, as `replay` prints it
+-- the number of a fault, as printed by `replay`
 abbrev pub number_of : ConfigFault → ℕ
 number_of (fault.Toml at) = 1
 number_of (fault.Version value) = 2

@@ -6,7 +6,7 @@ use Rattle.suffix_routes.specs.declared.position.Position.{Position}
 abbrev pub is_line_feed : ℕ → Bool
 is_line_feed octet = octet == 10
 
--- an octet of UTF-8 that begins a character (RFC 3629 3)
+-- the first octet of a character in UTF-8 (RFC 3629 3)
 abbrev pub begins_character : ℕ → Bool
 begins_character octet = not (nat_le 128 octet && nat_le octet 191)
 
@@ -15,7 +15,7 @@ abbrev pub last_line : List ℕ → List ℕ
 last_line octets = take_while (λ octet. not (is_line_feed octet)) (reverse octets)
 
 -- the position after these octets: a line for each line feed, and a column for each character after
--- the last one
+-- the last line feed
 abbrev pub position_of : List ℕ → Position
 position_of octets = record {
   line = 1 + count_by is_line_feed octets;

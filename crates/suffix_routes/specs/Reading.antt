@@ -1,4 +1,4 @@
--- The configuration that a table of TOML holds, otherwise the first fault in order.
+-- The configuration in a table of TOML, otherwise the first fault in order.
 use Rattle.std.specs.Prelude.{◌≡◌, ℕ, ◌≤◌, ℤ, pos, int_le, unsigned_abs, Bool, true, false, not, ◌==◌, nat_lt, ◌&&◌}
 use Rattle.std.specs.Prelude.{if◌then◌else◌, List, [], ◌∷◌, ◌++◌, length, take, codes, option_map, Option, Some, None}
 use Rattle.std.specs.Prelude.{Result, Ok, Err}
@@ -33,7 +33,7 @@ use Rattle.suffix_routes.specs.Excerpts.{excerpt}
 use Rattle.suffix_routes.specs.Kinds.{kind_of}
 use Rattle.suffix_routes.specs.Routes.{route_at}
 
--- whether the fault is that memory ran out
+-- whether the fault is running out of memory
 abbrev pub wants_memory : ConfigFault → Bool
 wants_memory Memory = true
 wants_memory fault = false
@@ -68,42 +68,42 @@ abbrev pub list_of : Items → List Data
 list_of no_items = []
 list_of (item d ds) = d ∷ list_of ds
 
--- a key that the table at this place may not have in this version
+-- a key unknown in this version for the table at this place
 abbrev pub is_strange : Version → Place → List ℕ → Bool
 is_strange version place key = not (knows version place key)
 
--- a fault where such a key was met
+-- the fault of an unknown key, if there is one
 abbrev pub no_strange : Version → Place → Option (List ℕ) → Result (Unit {0}) ConfigFault
 no_strange version place None = Ok tt
 no_strange version place (Some key) = Err (UnknownKey version place (excerpt key))
 
--- no key but those that the table at this place may have, otherwise the first that it may not have
+-- known keys alone in the table at this place, otherwise the first unknown key
 unfoldable pub known_keys : Version → Place → Members → Result (Unit {0}) ConfigFault
 known_keys version place ms = no_strange version place (find (is_strange version place) (keys_of ms))
 
--- the value at a key that has to be there
+-- the value of a required key
 abbrev pub required : Place → List ℕ → Members → Result Data ConfigFault
 required place key ms = ok_or (get_member key ms) (MissingKey place)
 
 -- ---- the value at one place
 
--- the text of a value; WrongKind where it is none
+-- the text of a value; WrongKind for a value of any other kind
 abbrev pub text_in : Place → Data → Result (List ℕ) ConfigFault
 text_in place d = ok_or (as_str d) (WrongKind place (kind_of d))
 
--- the integer of a value; WrongKind where it is none
+-- the integer of a value; WrongKind for a value of any other kind
 abbrev pub integer_in : Place → Data → Result ℤ ConfigFault
 integer_in place d = ok_or (as_integer d) (WrongKind place (kind_of d))
 
--- the boolean of a value; WrongKind where it is none
+-- the boolean of a value; WrongKind for a value of any other kind
 abbrev pub boolean_in : Place → Data → Result Bool ConfigFault
 boolean_in place d = ok_or (as_bool d) (WrongKind place (kind_of d))
 
--- the values of an array; WrongKind where it is none
+-- the values of an array; WrongKind for a value of any other kind
 abbrev pub array_in : Place → Data → Result (List Data) ConfigFault
 array_in place d = ok_or (option_map list_of (as_array d)) (WrongKind place (kind_of d))
 
--- the members of a table; WrongKind where it is none
+-- the members of a table; WrongKind for a value of any other kind
 abbrev pub table_in : Place → Data → Result Members ConfigFault
 table_in place d = ok_or (as_table d) (WrongKind place (kind_of d))
 
@@ -113,7 +113,7 @@ peer_in place d =
     text_in place d >>= λ text.
     ok_or (peer_of text) (BadPeer place (excerpt text))
 
--- a limit: its default where the key is absent, otherwise an integer in its range
+-- a limit: its default if the key is absent, otherwise an integer in its range
 abbrev pub in_range : Limit → ℤ → Result ℕ ConfigFault
 in_range limit z =
     if int_le (pos (lowest limit)) z && int_le z (pos (highest limit)) then Ok (unsigned_abs z) else Err (Range limit z)
@@ -143,12 +143,12 @@ version_in ms =
 abbrev pub default_listen : Peer
 default_listen = record { ip = 127 ∷ 0 ∷ 0 ∷ 1 ∷ []; port = 53 }
 
--- the address that is listened at, or its default
+-- the listening address, or its default
 abbrev pub listen_of : Option Data → Result Peer ConfigFault
 listen_of None = Ok default_listen
 listen_of (Some d) = peer_in place.Listen d
 
--- the address that a document listens at
+-- the listening address of a document
 unfoldable pub listen_in : Members → Result Peer ConfigFault
 listen_in ms = listen_of (get_member (codes "listen") ms)
 
@@ -184,17 +184,17 @@ limits_in version ms = limits_of version (get_member (codes "limits") ms)
 
 -- ---- a route
 
--- the name that a text writes, for the route at this place
+-- the name of a text, for the route at this place
 abbrev pub suffix_name : ℕ → List ℕ → Result (List (List ℕ)) NameFault → Result (List (List ℕ)) ConfigFault
 suffix_name place text (Ok name) = Ok name
 suffix_name place text (Err why) = Err (BadName place (excerpt text) why)
 
--- a suffix that no earlier route has
+-- a suffix, new among the routes
 abbrev pub new_suffix : ℕ → List (List ℕ) → Option ℕ → Result (List (List ℕ)) ConfigFault
 new_suffix place suffix None = Ok suffix
 new_suffix place suffix (Some earlier) = Err (TwiceSuffix place earlier)
 
--- the suffix of a route, which no earlier route has
+-- the suffix of a route, new among the earlier routes
 unfoldable pub suffix_in : List Route → Members → Result (List (List ℕ)) ConfigFault
 suffix_in earlier ms =
     required (place.Suffix (length earlier)) (codes "suffix") ms >>= λ d.
@@ -202,7 +202,7 @@ suffix_in earlier ms =
     suffix_name (length earlier) text (name_in text) >>= λ suffix.
     new_suffix (length earlier) suffix (route_at earlier suffix)
 
--- the servers, each after those before it
+-- the servers before, and the servers of the remaining values
 abbrev pub servers_after : ℕ → List Peer → List Data → Result (List Peer) ConfigFault
 servers_after route earlier [] = Ok earlier
 servers_after route earlier (d ∷ ds) = peer_in (place.Server route (length earlier)) d
@@ -221,7 +221,7 @@ servers_in route ms =
     array_in (place.Servers route) d >>= λ items.
     counted_servers route items
 
--- the route denies where it says so
+-- whether a route denies, by its value
 abbrev pub deny_of : ℕ → Option Data → Result Bool ConfigFault
 deny_of route None = Ok false
 deny_of route (Some d) = boolean_in (place.Deny route) d
@@ -230,18 +230,18 @@ deny_of route (Some d) = boolean_in (place.Deny route) d
 unfoldable pub deny_in : ℕ → Members → Result Bool ConfigFault
 deny_in route ms = deny_of route (get_member (codes "deny") ms)
 
--- a route that denies has no servers, and may not name any
+-- a denying route has no servers, and may not name any
 abbrev pub no_servers : ℕ → Option Data → Result (List Peer) ConfigFault
 no_servers route None = Ok []
 no_servers route (Some d) = Err (DenyWithServers route)
 
--- the servers of a route; a route that denies has none, and the value of a key `servers` there is
--- not looked at
+-- the servers of a route; a denying route has none, and the value of its key `servers` is not
+-- looked at
 unfoldable pub group_in : Bool → ℕ → Members → Result (List Peer) ConfigFault
 group_in true route ms = no_servers route (get_member (codes "servers") ms)
 group_in false route ms = servers_in route ms
 
--- a route that follows the earlier ones
+-- a route after the earlier routes
 unfoldable pub route_in : Version → List Route → Data → Result Route ConfigFault
 route_in version earlier d =
     table_in (place.Route (length earlier)) d >>= λ ms.
@@ -253,7 +253,7 @@ route_in version earlier d =
 
 -- ---- the routes
 
--- the earlier routes, and those of the remaining tables
+-- the earlier routes, and the routes of the remaining tables
 abbrev pub routes_after : Version → List Route → List Data → Result (List Route) ConfigFault
 routes_after version earlier [] = Ok earlier
 routes_after version earlier (d ∷ ds) = route_in version earlier d
@@ -284,13 +284,13 @@ config_in ms =
     routes_in version ms >>= λ routes.
     Ok (record { listen = listen; limits = limits; routes = routes })
 
--- the fault of a text that is no TOML, with the position of one of its octets or of its end
+-- the fault of a text that is no TOML, with the position of an octet or of the end
 abbrev pub IsNoToml : List ℕ → Result Config ConfigFault → Type 0
 IsNoToml text (Err (Toml position)) = (at : ℕ) × (at ≤ length text) × (position ≡ position_of (take at text))
 IsNoToml text (Err Memory) = Unit {0}
 IsNoToml text _ = ⊥
 
--- the answer for a text: by its document, if it could be read, otherwise the fault of no TOML
+-- the answer for a text: by its document, if readable, otherwise the fault of no TOML
 abbrev pub IsTold : List ℕ → Option Members → Result Config ConfigFault → Type 0
 IsTold text None answer = IsNoToml text answer
 IsTold text (Some ms) answer = Gives (λ c. c) answer (config_in ms)

@@ -1,11 +1,11 @@
--- Configurations, and what holds of accepted ones.
+-- Configurations, and the facts about accepted ones.
 use Rattle.std.specs.Prelude.{◌≡◌, ℕ, Bool, true, false, ◌≤◌, List, [], ◌∷◌, length}
 use Rattle.std.specs.List.{AllByRecursion}
 use Rattle.dns_name.specs.Labels.{IsName, IsSame}
 use Rattle.suffix_routes.specs.declared.peer.Peer.{Peer}
 use Rattle.suffix_routes.specs.declared.limits.Limits.{Limits}
 
--- suffix, whether it denies, and servers in the order in which they are asked
+-- suffix, whether the route denies, and servers in the order of asking
 pub record Route : Type 0 where
   pub suffix : List (List ℕ)
   pub deny : Bool
@@ -31,7 +31,7 @@ pub record AreLimits (limits : Limits) : Type 0 where
   pub deadline_ms : IsWithin 500 30000 limits.deadline_ms
   pub stale_s : IsWithin 0 86400 limits.stale_s
 
--- the limits of a configuration that names none
+-- the limits of a configuration without a table `limits`
 abbrev pub default_limits : Limits
 default_limits = record {
   questions = 1024;
@@ -43,7 +43,7 @@ default_limits = record {
   stale_s = 0;
 }
 
--- a suffix that is a name, and 1 to 8 servers, or none where the route denies
+-- the suffix is a name, with 1 to 8 servers, or none if the route denies
 pub record IsRoute (route : Route) : Type 0 where
   pub suffix : IsName route.suffix
   pub serves : route.deny ≡ false → IsWithin 1 8 (length route.servers)
@@ -53,7 +53,7 @@ pub record IsRoute (route : Route) : Type 0 where
 abbrev pub HasNoSuffix : List (List ℕ) → List Route → Type 0
 HasNoSuffix suffix routes = AllByRecursion (λ r. IsSame suffix r.suffix → ⊥) routes
 
--- no two suffixes are the same name
+-- no two suffixes are equal names
 abbrev pub AllDiffer : List Route → Type 0
 AllDiffer [] = Unit {0}
 AllDiffer (r ∷ rs) = HasNoSuffix r.suffix rs × AllDiffer rs
@@ -65,7 +65,7 @@ pub record IsConfig (config : Config) : Type 0 where
   pub each : AllByRecursion IsRoute config.routes
   pub differ : AllDiffer config.routes
 
--- no window for stale answers, and no route that denies
+-- no window for stale answers, and no denying route
 pub record HasNeither (config : Config) : Type 0 where
   pub window : config.limits.stale_s ≡ 0
   pub routes : AllByRecursion (λ r. r.deny ≡ false) config.routes

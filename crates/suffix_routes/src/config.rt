@@ -14,11 +14,11 @@ use plain_values::PlainList;
 use std::alloc::{AllocError, Allocator, Global};
 use std::marker::Model;
 
-/// A configuration that was accepted: its limits are in range, it has 1 to 64 routes, each has 1 to
-/// 8 servers, or none where it denies, and no two suffixes are the same name.
+/// An accepted configuration: limits in range, 1 to 64 routes, each with 1 to 8 servers, or none if
+/// denying, and no two suffixes are equal names.
 #[derive(Drop)]
 pub struct Config<A: Allocator = Global> {
-    /// Where clients are served, over UDP and TCP.
+    /// The address for clients, over UDP and TCP.
     pub listen: Peer,
     /// The limits.
     pub limits: Limits,
@@ -37,8 +37,8 @@ impl<A: Allocator> Model for Config<A> {
 }
 
 impl<A: Allocator> Config<A> {
-    /// The routes, in the order of the configuration. The clauses say what holds of each accepted
-    /// configuration. It does not allocate.
+    /// The routes, in the order of the configuration. The clauses state the facts about accepted
+    /// configurations.
     pub fn routes(&self) -> &[Route<A>]
         ensures routes { result.now ≡ self.now.routes }
         ensures accepted { IsConfig self.now }
@@ -46,8 +46,8 @@ impl<A: Allocator> Config<A> {
         self.routes.as_slice()
     }
 
-    /// The route of a name: the one whose suffix has the most labels among those that the name is
-    /// under; `None` where it is under none. It does not allocate.
+    /// The route of a name, by the suffix with the most labels above the name; `None` if no suffix
+    /// is above the name.
     pub fn route_of(&self, name: &Name<A>) -> Option<RouteId>
         ensures longest { IsAnswer self.now.routes name.now result }
         ensures computed { result ≡ route_of self.now.routes name.now }
@@ -55,7 +55,7 @@ impl<A: Allocator> Config<A> {
         self.route_of_key(&name.key())
     }
 
-    /// The route of the names that have this key, as `route_of` gives it. It does not allocate.
+    /// The route of the names with this key, as `route_of`.
     pub fn route_of_key(&self, key: &NameKey) -> Option<RouteId>
         ensures longest { IsAnswer self.now.routes key.now result }
         ensures computed { result ≡ route_of self.now.routes key.now }
@@ -63,8 +63,7 @@ impl<A: Allocator> Config<A> {
         longest(self.routes(), key)
     }
 
-    /// The routing of a name: the route that serves it, that its route denies it, or that it has
-    /// none. It does not allocate.
+    /// Looks up the longest suffix above a name: `Served(route)`, `Denied` or `None`.
     pub fn routing(&self, name: &Name<A>) -> Routing
         ensures served { served_by result ≡ serving_route_of self.now name.now }
         ensures denied { denied_by result ≡ is_local self.now name.now }
@@ -72,7 +71,7 @@ impl<A: Allocator> Config<A> {
         self.routing_on(self.route_of(name))
     }
 
-    /// The routing of the names that have this key, as `routing` gives it. It does not allocate.
+    /// The routing of the names with this key, as `routing`.
     pub fn routing_of_key(&self, key: &NameKey) -> Routing
         ensures served { served_by result ≡ serving_route_of self.now key.now }
         ensures denied { denied_by result ≡ is_local self.now key.now }
@@ -80,7 +79,7 @@ impl<A: Allocator> Config<A> {
         self.routing_on(self.route_of_key(key))
     }
 
-    /// The routing of the names of this route, or of those that have none.
+    /// The routing of the names of this route, or of names without a route.
     fn routing_on(&self, found: Option<RouteId>) -> Routing
         ensures served { served_by result ≡ serving self.now.routes found }
         ensures denied { denied_by result ≡ denies self.now.routes found }
@@ -96,7 +95,7 @@ impl<A: Allocator> Config<A> {
     }
 }
 
-/// The place of the longest suffix that the key's name is under.
+/// The place of the longest suffix above the key's name.
 fn longest<A: Allocator>(routes: &[Route<A>], key: &NameKey) -> Option<RouteId>
     ensures { IsAnswer routes.now key.now result }
 {
@@ -114,7 +113,7 @@ fn longest<A: Allocator>(routes: &[Route<A>], key: &NameKey) -> Option<RouteId>
 }
 
 impl<A: Allocator + Copy> Config<A> {
-    /// An equal configuration. `Err` where memory ran out.
+    /// An equal configuration.
     pub fn copy(&self, alloc: A) -> Result<Config<A>, AllocError>
         ensures { IfOk result (λ c. c ≡ self.now) }
     {

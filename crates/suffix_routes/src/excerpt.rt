@@ -1,4 +1,4 @@
-//! A text that was met in a configuration, as a fault shows it.
+//! The first octets of a text of the configuration, for a fault.
 
 ghost use Rattle.std.specs.Prelude.{◌≡◌, ◌≤◌, length};
 ghost use Rattle.suffix_routes.specs.Excerpts.{excerpt, padded};
@@ -6,8 +6,8 @@ ghost use Rattle.suffix_routes.specs.Excerpts.{excerpt, padded};
 use std::marker::Model;
 use std::{fmt, str};
 
-/// The first octets of a text that was met, 64 at most, so that a fault owns no memory. Contracts
-/// see it as the list of these octets.
+/// The first octets of a text, 64 at most, so that a fault owns no memory. Contracts see the list
+/// of these octets.
 #[derive(Clone, Copy, PartialEq, Eq)]
 #[tactic(auto, using(crate::specs::ExcerptLaws::octets_back, crate::specs::ExcerptLaws::len_back))]
 pub struct Excerpt {
@@ -34,7 +34,7 @@ impl Model for Excerpt {
 }
 
 impl Excerpt {
-    /// The first 64 octets of a text, the whole of a shorter one. It does not allocate.
+    /// The first 64 octets of a text, the whole of a shorter text.
     pub fn of(text: &str) -> Excerpt
         ensures { result ≡ excerpt text.now }
     {
@@ -46,8 +46,7 @@ impl Excerpt {
         }
     }
 
-    /// The octets. A text of several octets a character may be cut inside a character. It does not
-    /// allocate.
+    /// The octets. A text with several octets a character may be cut inside a character.
     pub fn octets(&self) -> &[u8]
         ensures { result.now ≡ self.now }
     {
@@ -55,7 +54,7 @@ impl Excerpt {
     }
 }
 
-/// The excerpt that has these octets.
+/// The excerpt with these octets.
 fn kept(octets: &[u8]) -> Excerpt
     requires { length octets.now ≤ 64 }
     ensures { result ≡ octets.now }
@@ -85,9 +84,9 @@ fn characters(octets: &[u8]) -> &str {
     }
 }
 
-/// The text between quotation marks, with characters that can't be printed escaped. Of a text of 64
-/// octets or more, the whole characters in its first 63 octets are shown, and two dots after the
-/// quotation marks.
+/// The text between quotation marks, with unprintable characters escaped. Of a text of 64 octets or
+/// more, the whole characters in its first 63 octets are shown, and two dots after the quotation
+/// marks.
 impl fmt::Display for Excerpt {
     fn fmt<W: fmt::Write>(&self, f: &mut fmt::Formatter<W>) -> fmt::Result {
         let octets = self.octets();

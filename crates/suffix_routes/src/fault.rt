@@ -14,13 +14,13 @@ use std::alloc::AllocError;
 use thiserror::Error;
 
 /// The reason why a text is no configuration: the first fault in the order of `Config::read`, or
-/// that memory ran out. Places are shown with routes and servers counted from 1.
+/// out of memory. Places are shown with routes and servers counted from 1.
 #[derive(Clone, Copy, Debug, PartialEq, Eq, Error)]
 pub enum ConfigFault {
-    /// The text is no TOML; where its reader stopped.
+    /// The text is no TOML from this position on.
     #[error("the text is no TOML: see {0}")]
     Toml(Position),
-    /// `version` is this number, which is neither 1 nor 2.
+    /// `version` is this number, neither 1 nor 2.
     #[error("`version` is {0}, and has to be 1 or 2")]
     Version(i64),
     /// This place is empty, or there is no route in the array of routes.
@@ -35,13 +35,13 @@ pub enum ConfigFault {
     /// The value at this place is this text, which is no peer.
     #[error("{0} is {1}, and has to be four numbers from 0 to 255 with dots between, a colon, and a port from 1 to 65535")]
     BadPeer(Place, Excerpt),
-    /// A limit has this value, which is out of its range.
+    /// A limit has this value, out of its range.
     #[error("{} is {}, and has to be {} to {}", Place::Limit(*.0), .1, .0.lowest(), .0.highest())]
     Range(Limit, i64),
     /// The number of servers of the route at this place, more than 8.
     #[error("{} are {}, and have to be 1 to 8", Place::Servers(*.0), .1)]
     TooManyServers(usize, usize),
-    /// The route at this place has the suffix of an earlier one.
+    /// The route at this place has the suffix of an earlier route.
     #[error("{} is that of {} too, and each route has to have its own", Place::Suffix(*.0), Place::Route(*.1))]
     TwiceSuffix(usize, usize),
     /// The number of routes, more than 64.
@@ -50,8 +50,8 @@ pub enum ConfigFault {
     /// The route at this place has no servers.
     #[error("{} is empty, and has to have 1 to 8", Place::Servers(*.0))]
     NoServers(usize),
-    /// In a text of this version the table at this place has this key, which is not known there. Of
-    /// several it is the least by its octets.
+    /// In a text of this version the table at this place has this unknown key: of several the least
+    /// by octets.
     #[error("{} has the key {}, which {} {}", .1, .2, .1.refusal(*.0, .2), .1.remedy(*.0, .2))]
     UnknownKey(Version, Place, Excerpt),
     /// The route at this place denies, and has the key `servers`.
@@ -65,7 +65,7 @@ pub enum ConfigFault {
 impl ConfigFault {
     /// The number of the fault, for programs: 1 no TOML, 2 version, 3 missing key, 4 wrong kind, 5
     /// bad name, 6 bad peer, 7 out of range, 8 suffix twice, 9 too many routes, 10 no servers, 11
-    /// unknown key, 12 memory, 13 servers of a route that denies.
+    /// unknown key, 12 memory, 13 servers of a denying route.
     pub fn number(&self) -> u8
         ensures { result ≡ number_of self.now }
     {

@@ -1,5 +1,4 @@
-//! The configuration: where the forwarder listens, its limits, and its routes by the suffix of a
-//! name.
+//! The configuration: the listening address, the limits, and the routes by the suffix of a name.
 #![tactic(auto)]
 
 mod config;

@@ -6,25 +6,25 @@ ghost use Rattle.suffix_routes.specs.Values.{default_limits};
 /// The limits of a forwarder. In an accepted configuration each is in its range.
 #[derive(Clone, Copy, Debug, PartialEq, Eq)]
 pub struct Limits {
-    /// The number of questions that may wait, 1 to 4,096.
+    /// The most waiting questions, 1 to 4,096.
     pub questions: usize,
-    /// The number of inquiries that may be open, 1 to 1,024.
+    /// The most open inquiries, 1 to 1,024.
     pub inquiries: usize,
-    /// The number of entries that the cache has room for, 1 to 65,536.
+    /// The most entries of the cache, 1 to 65,536.
     pub cache: usize,
-    /// The number of asks that one inquiry may make, 1 to 16.
+    /// The most asks of an inquiry, 1 to 16.
     pub tries: u8,
-    /// The time for which an ask is live, 100 to 10,000 ms.
+    /// The time of an ask, 100 to 10,000 ms.
     pub ask_ms: u64,
-    /// The time for which a question may wait, 500 to 30,000 ms.
+    /// The time of a waiting question, 500 to 30,000 ms.
     pub deadline_ms: u64,
-    /// The seconds for which an expired set may still be answered where all tries failed, 0 to
-    /// 86,400 (RFC 8767 5).
+    /// The seconds after its end in which an expired set may still be answered if all tries failed,
+    /// 0 to 86,400 (RFC 8767 5).
     pub stale_s: u32,
 }
 
 impl Limits {
-    /// The limits of a configuration that names none.
+    /// The limits of a configuration without a table `limits`.
     pub fn defaults() -> Limits
         ensures { result ≡ default_limits }
     {

@@ -18,9 +18,8 @@ pub struct Peer {
 }
 
 impl Peer {
-    /// The peer that a text writes: four decimal numbers from 0 to 255 with dots between, a colon,
-    /// and a port from 1 to 65535, where no number has a leading zero but `0` itself. `None` for
-    /// any other text. It does not allocate.
+    /// The peer of a text: four decimal numbers from 0 to 255 parted by dots, a colon, and a port
+    /// from 1 to 65535, without leading zeros except in `0` itself. `None` for any other text.
     #[tactic(auto, using(crate::proofs::PeerLaws::told_peer))]
     pub fn from_text(text: &str) -> Option<Peer>
         ensures exact { MatchOption result ((peer : Peer) → Writes text.now peer → ⊥) (λ peer. Writes text.now peer) }
@@ -30,7 +29,7 @@ impl Peer {
     }
 }
 
-/// The peer that the text writes.
+/// The peer of the text.
 #[tactic(auto, unfolding(crate::specs::Peers::peer_of))]
 fn read_peer(text: &[u8]) -> Option<Peer>
     ensures { result ≡ peer_of text.now }
@@ -44,7 +43,7 @@ fn read_peer(text: &[u8]) -> Option<Peer>
     Some(Peer { ip, port })
 }
 
-/// The octets before the first separator, and those after it; `None` where there is no separator.
+/// The octets before the first separator, and the octets after; `None` without a separator.
 fn cut(text: &[u8], separator: u8) -> Option<(&[u8], &[u8])>
     ensures { option_map (λ x. (x.0.now, x.1.now)) result ≡ cut separator text.now }
 {
@@ -66,7 +65,7 @@ fn octet(text: &[u8]) -> Option<u8>
     Some(number(text, 0, 255)? as u8)
 }
 
-/// The decimal number, where it has no leading zero and is from `low` to `high`.
+/// The decimal number, if without a leading zero and from `low` to `high`.
 #[tactic(auto, unfolding(crate::specs::Peers::number_in))]
 fn number(text: &[u8], low: u32, high: u32) -> Option<u32>
     requires { high ≤ 65535 }
@@ -80,7 +79,7 @@ fn number(text: &[u8], low: u32, high: u32) -> Option<u32>
     if value < low { None } else { Some(value) }
 }
 
-/// Whether the text has digits alone, and at least one, and no leading zero.
+/// Whether the text is digits alone, at least one, without a leading zero.
 fn is_decimal(text: &[u8]) -> bool
     ensures { result ≡ is_decimal text.now }
 {
@@ -97,7 +96,7 @@ fn has_digits(text: &[u8]) -> bool
     text.iter().all(|octet| octet.is_ascii_digit())
 }
 
-/// The value of the digits, where it is at most `high`.
+/// The value of the digits, if at most `high`.
 fn value_up_to(digits: &[u8], high: u32) -> Option<u32>
     requires digits { list_all is_ascii_digit digits.now ≡ true }
     requires small { high ≤ 65535 }

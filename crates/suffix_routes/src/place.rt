@@ -44,7 +44,7 @@ impl Limit {
         }
     }
 
-    /// The lowest value that is allowed.
+    /// The lowest allowed value.
     pub fn lowest(self) -> i64
         ensures { result ≡ pos (lowest self) }
     {
@@ -56,7 +56,7 @@ impl Limit {
         }
     }
 
-    /// The highest value that is allowed.
+    /// The highest allowed value.
     pub fn highest(self) -> i64
         ensures { result ≡ pos (highest self) }
     {
@@ -71,7 +71,7 @@ impl Limit {
         }
     }
 
-    /// The value where the key is absent.
+    /// The value without a key.
     pub fn default_value(self) -> u64
         ensures { result ≡ default_of self }
     {
@@ -87,8 +87,7 @@ impl Limit {
     }
 }
 
-/// A place in a configuration. Routes and servers are counted from 0 here, and from 1 where a place
-/// is shown.
+/// A place in a configuration. Routes and servers are counted from 0 here, and from 1 in text.
 #[derive(Clone, Copy, Debug, PartialEq, Eq)]
 pub enum Place {
     /// The whole document.
@@ -116,7 +115,7 @@ pub enum Place {
 }
 
 impl Place {
-    /// The value that this place has to have, in words.
+    /// The allowed values of this place, in words.
     pub fn wanted(&self) -> &'static str {
         match self {
             Place::Document | Place::Limits | Place::Route(_) => "a table",
@@ -137,7 +136,7 @@ impl Place {
         }
     }
 
-    /// The keys that a table at this place may have in this version.
+    /// The known keys of a table at this place in this version.
     pub fn keys(&self, version: Version) -> &'static str {
         match (self, version) {
             (Place::Document, _) => "`version`, `listen`, `limits`, `route`",
@@ -153,8 +152,8 @@ impl Place {
         }
     }
 
-    /// The reason why a key is refused, which a table at this place may not have in this version;
-    /// `remedy` follows it.
+    /// The reason why a key is refused that is unknown in this version for a table at this place;
+    /// `remedy` follows.
     pub(crate) fn refusal(&self, version: Version, key: &Excerpt) -> &'static str {
         if self.needs_second(version, key) {
             "needs"
@@ -163,7 +162,7 @@ impl Place {
         }
     }
 
-    /// The text to write for such a key, or next to it.
+    /// The text to write in place of such a key, or next to it.
     pub(crate) fn remedy(&self, version: Version, key: &Excerpt) -> &'static str {
         if self.needs_second(version, key) {
             "`version = 2`"

@@ -1,4 +1,4 @@
-//! A position in a text, as a person looks for it.
+//! A position in a text, as shown to a person.
 
 ghost use Rattle.std.specs.Prelude.{◌≡◌};
 ghost use Rattle.suffix_routes.specs.Positions.{begins_character, position_of};
@@ -8,14 +8,14 @@ use std::fmt;
 /// A line and a column of a text, both counted from 1; a column counts characters.
 #[derive(Clone, Copy, Debug, PartialEq, Eq)]
 pub struct Position {
-    /// The line; a line feed ends one.
+    /// The line; a line feed ends a line.
     pub line: usize,
-    /// The column in that line.
+    /// The column in the line.
     pub column: usize,
 }
 
 impl Position {
-    /// The position after these octets of UTF-8. It does not allocate.
+    /// The position after these octets of UTF-8.
     pub fn behind(octets: &[u8]) -> Position
         ensures { result ≡ position_of octets.now }
     {

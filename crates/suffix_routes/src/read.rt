@@ -23,18 +23,17 @@ use toml::Table;
 impl<A: Allocator + Copy> Config<A> {
     /// Reads a configuration from a TOML text.
     ///
-    /// `version` has to be 1 or 2. `listen` is the peer at which clients are served, `127.0.0.1:53`
-    /// where it is absent. The table `limits` may have the keys of `Limits`; one that is absent has
-    /// its default. `route` is an array of 1 to 64 tables with a `suffix`, read by
-    /// `Name::from_text`, and 1 to 8 `servers`, read by `Peer::from_text`. In version 2 alone
-    /// `limits` may have `stale_s`, and a route may have `deny`; one with `deny = true` may not
-    /// have `servers`.
+    /// `version` has to be 1 or 2. `listen` is the peer for clients, `127.0.0.1:53` by default. The
+    /// table `limits` may have the keys of `Limits`; an absent key has its default. `route` is an
+    /// array of 1 to 64 tables with a `suffix`, read by `Name::from_text`, and 1 to 8 `servers`,
+    /// read by `Peer::from_text`. In version 2 alone `limits` may have `stale_s`, and a route
+    /// `deny`; a route with `deny = true` may not have `servers`.
     ///
-    /// The fault is the first in this order: a text that is no TOML; `version`; a key of the
-    /// document that is not known; `listen`; `limits`, first its unknown keys and then each limit;
-    /// `route` and the count of routes; each route in turn: its kind, its unknown keys, its suffix,
-    /// `deny`, its servers and their count, each server. `Memory` where an allocation was refused:
-    /// the table that is read is in `heap`, the configuration in `alloc`.
+    /// The fault is the first in this order: a text that is no TOML; `version`; an unknown key of
+    /// the document; `listen`; `limits`, first its unknown keys and then each limit; `route` and
+    /// the count of routes; each route in turn: its kind, its unknown keys, its suffix, `deny`, its
+    /// servers and their count, each server. `Memory` if memory ran out: the table is read into
+    /// `heap`, the configuration into `alloc`.
     pub fn read(heap: Global, alloc: A, text: &str) -> Result<Config<A>, ConfigFault>
         ensures { IsReadIn text.now result }
     {
@@ -47,7 +46,7 @@ impl<A: Allocator + Copy> Config<A> {
         }
     }
 
-    /// The configuration that a table holds.
+    /// The configuration in a table.
     #[tactic(auto, unfolding(crate::specs::Reading::config_in))]
     pub(crate) fn from_table(alloc: A, table: &Table) -> Result<Config<A>, ConfigFault>
         ensures { Gives (λ c. c) result (config_in (table_view table.now)) }
@@ -73,7 +72,7 @@ fn not_toml(text: &str, at: usize) -> ConfigFault
     ConfigFault::Toml(Position::behind(&text.as_bytes()[..at]))
 }
 
-/// The version, which has to be 1 or 2.
+/// The version: 1 or 2.
 #[tactic(auto, unfolding(crate::specs::Reading::version_in))]
 fn read_version(table: &Table) -> Result<Version, ConfigFault>
     ensures { result ≡ version_in (table_view table.now) }
@@ -86,7 +85,7 @@ fn read_version(table: &Table) -> Result<Version, ConfigFault>
     }
 }
 
-/// Where clients are served.
+/// The peer for clients.
 #[tactic(auto, unfolding(crate::specs::Reading::listen_in))]
 fn read_listen(table: &Table) -> Result<Peer, ConfigFault>
     ensures { result ≡ listen_in (table_view table.now) }
@@ -100,7 +99,7 @@ fn read_listen(table: &Table) -> Result<Peer, ConfigFault>
     }
 }
 
-/// The limits, those of a configuration that names none where there is no table of them.
+/// The limits; the defaults without a table of limits.
 #[tactic(auto, unfolding(crate::specs::Reading::limits_in))]
 fn read_limits(table: &Table, version: Version) -> Result<Limits, ConfigFault>
     ensures given { result ≡ limits_in version (table_view table.now) }

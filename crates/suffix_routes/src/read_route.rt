@@ -56,7 +56,7 @@ fn read_each_route<A: Allocator + Copy>(
     Ok(routes)
 }
 
-/// Reads a route that follows the earlier ones.
+/// Reads a route after the earlier routes.
 #[tactic(auto, unfolding(crate::specs::Reading::route_in))]
 fn read_route<A: Allocator + Copy>(
     alloc: A,
@@ -79,7 +79,7 @@ fn read_route<A: Allocator + Copy>(
     })
 }
 
-/// The suffix of a route, which no earlier route has.
+/// The suffix of a route, new among the earlier routes.
 #[tactic(auto, unfolding(crate::specs::Reading::suffix_in))]
 fn read_suffix<A: Allocator>(
     alloc: A,
@@ -98,7 +98,7 @@ fn read_suffix<A: Allocator>(
     }
 }
 
-/// The name that a text writes, for the suffix of the route at this place.
+/// The name of a text, for the suffix of the route at this place.
 fn read_name<A: Allocator>(alloc: A, text: &str, place: usize) -> Result<Name<A>, ConfigFault>
     ensures { Gives (λ n. n) result (suffix_name place text.now (name_in text.now)) }
 {
@@ -109,7 +109,7 @@ fn read_name<A: Allocator>(alloc: A, text: &str, place: usize) -> Result<Name<A>
     }
 }
 
-/// The place of the route that has this suffix.
+/// The place of the route with this suffix.
 fn place_of<A: Allocator>(routes: &[Route<A>], name: &Name<A>) -> Option<usize>
     ensures { result ≡ route_at routes.now name.now }
 {
@@ -122,7 +122,7 @@ fn place_of<A: Allocator>(routes: &[Route<A>], name: &Name<A>) -> Option<usize>
     None
 }
 
-/// Whether the route at this place denies: not where the key `deny` is absent.
+/// Whether the route at this place denies; without the key `deny`, no.
 #[tactic(auto, unfolding(crate::specs::Reading::deny_in))]
 fn read_deny(table: &Table, route: usize) -> Result<bool, ConfigFault>
     ensures { result ≡ deny_in route (table_view table.now) }
@@ -133,8 +133,8 @@ fn read_deny(table: &Table, route: usize) -> Result<bool, ConfigFault>
     }
 }
 
-/// The group of the route at this place: none where it denies, and then the key `servers` may not
-/// be there.
+/// The group of the route at this place: none if the route denies, and then the key `servers` may
+/// not be there.
 #[tactic(auto, unfolding(crate::specs::Reading::group_in))]
 fn read_group<A: Allocator + Copy>(
     alloc: A,

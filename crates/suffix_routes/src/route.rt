@@ -1,4 +1,4 @@
-//! Routes: a suffix, and the group of servers for the names under it or that these are denied.
+//! Routes: a suffix, and the group of servers for the names under the suffix, or their denial.
 
 ghost use Rattle.std.specs.Prelude.{◌≡◌, IfOk};
 
@@ -15,8 +15,7 @@ pub struct Route<A: Allocator = Global> {
     pub suffix: Name<A>,
     /// Whether the names are denied; nothing is asked for them.
     pub deny: bool,
-    /// The group of servers in the order of the configuration, 1 to 8, or none where the route
-    /// denies.
+    /// The group of servers in the order of the configuration, 1 to 8, or none if the route denies.
     pub servers: PlainList<Peer, A>,
 }
 
@@ -31,7 +30,7 @@ impl<A: Allocator> Model for Route<A> {
 }
 
 impl<A: Allocator + Copy> Route<A> {
-    /// An equal route. `Err` where memory ran out.
+    /// An equal route.
     pub fn copy(&self, alloc: A) -> Result<Route<A>, AllocError>
         ensures { IfOk result (λ r. r ≡ self.now) }
     {
@@ -43,8 +42,7 @@ impl<A: Allocator + Copy> Route<A> {
     }
 }
 
-/// A route of a configuration, by its place among the routes, from 0. Contracts see it as that
-/// place.
+/// A route of a configuration, by its place among the routes, from 0. Contracts see the place.
 #[derive(Clone, Copy, Debug, PartialEq, Eq, PartialOrd, Ord, Hash)]
 pub struct RouteId {
     /// The place in `Config::routes`.

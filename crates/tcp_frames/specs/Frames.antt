@@ -1,5 +1,5 @@
--- Messages in a TCP stream (RFC 1035 4.2.2): each follows its length in two octets, the high one
--- first.
+-- Messages in a TCP stream (RFC 1035 4.2.2): two octets of length, high octet first, then the
+-- message.
 use Rattle.std.specs.Prelude.{◌≡◌, ℕ, suc, ◌+◌, ◌*◌, ◌/◌, ◌%◌, ◌<◌, ◌≤◌, List, [], ◌∷◌, ◌++◌, length, take, drop}
 use Rattle.std.specs.Prelude.{Option, Some, None, Result, Ok, Err, OnOk, OnErr, nat_le, if◌then◌else◌}
 use Rattle.std.specs.List.{flat_map, AllByRecursion}
@@ -23,8 +23,7 @@ pub record Leads (message rest stream : List ℕ) : Type 0 where
   pub short : length message ≤ 65535
   pub octets : stream ≡ framed message ++ rest
 
--- The stream ends within its first frame: before the length is there, or before as many octets as
--- it says.
+-- The stream ends within its first frame: in the length, or before the end of the message.
 abbrev pub IsUnfinished : List ℕ → Type 0
 IsUnfinished [] = Unit {0}
 IsUnfinished (high ∷ []) = Unit {0}
@@ -35,8 +34,7 @@ pub record Feeds (before piece : List ℕ) (answer : Result (Unit {0}) AllocErro
   pub ok : OnOk answer (after ≡ before ++ piece)
   pub err : OnErr answer (after ≡ before)
 
--- The beginning of the stream: a first message, or none; on `Err` there is one, but it was not
--- copied.
+-- The beginning of the stream: a first message, or none; on `Err` a first message, not copied.
 abbrev pub Finds : List ℕ → Result (Option (List ℕ)) AllocError → Type 0
 Finds stream (Ok (Some message)) = Leads message (drop (2 + length message) stream) stream
 Finds stream (Ok None) = IsUnfinished stream
@@ -60,11 +58,11 @@ frames_within most stream = []
 unfoldable pub frames_of : List ℕ → List (List ℕ)
 frames_of stream = frames_within (length stream) stream
 
--- what follows the last whole frame
+-- the octets after the last whole frame
 unfoldable pub unfinished_of : List ℕ → List ℕ
 unfinished_of stream = drop (length (flat_map framed (frames_of stream))) stream
 
--- The stream is the frames of these messages, one after the other, and a rest that is unfinished.
+-- The stream is the frames of these messages, in order, and an unfinished rest.
 pub record IsCut (messages : List (List ℕ)) (rest stream : List ℕ) : Type 0 where
   pub short : AllByRecursion (λ message. length message ≤ 65535) messages
   pub octets : stream ≡ flat_map framed messages ++ rest

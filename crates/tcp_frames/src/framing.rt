@@ -1,12 +1,12 @@
-//! The number of whole messages that a client has sent.
+//! The number of whole messages from a client.
 
 ghost use Rattle.std.specs.Prelude.{◌≡◌, ℕ, ◌<◌, ◌≤◌, List, length, take};
 ghost use Rattle.tcp_frames.specs.Counting.{Counts, Leaves, Stands, ended};
 
 use std::num::NonZeroU16;
 
-/// The place of a stream in its frames: each is a length in two octets, the high one first, and
-/// that many octets (RFC 1035 4.2.2).
+/// The position of a stream within its frames. A frame is a length of two octets, high octet first,
+/// and a message of this length (RFC 1035 4.2.2).
 #[derive(Clone, Copy)]
 pub enum Within {
     /// Between two frames.
@@ -17,7 +17,7 @@ pub enum Within {
     Message(NonZeroU16),
 }
 
-/// The place of the stream after a message, or before the rest of it.
+/// The position after a whole message, or before the rest of an unfinished message.
 fn before(left: u16) -> Within
     ensures { Leaves left result }
 {
@@ -28,7 +28,7 @@ fn before(left: u16) -> Within
 }
 
 impl Within {
-    /// The number of frames that end where a part of one leads here.
+    /// The number of frames that end exactly at this position.
     fn ended(self) -> usize
         ensures { result ≡ ended self }
     {
@@ -63,7 +63,7 @@ impl Within {
         }
     }
 
-    /// Goes on by a piece of the stream; returns the number of frames that ended in it.
+    /// Advances by a piece of the stream; returns the number of frames that end in the piece.
     pub fn count(&mut self, piece: &[u8]) -> usize
         ensures { (rest : List ℕ) → Stands self.old rest → Counts rest piece.now result self.new }
     {

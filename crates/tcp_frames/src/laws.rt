@@ -3,31 +3,31 @@
 ghost use Rattle.tcp_frames.specs.Laws.{AllFramesAreTaken, CutDoesNotMatter, FramesAreFound, FramesAreUnique};
 ghost use Rattle.tcp_frames.specs.Laws.{NothingIsLost, PiecesContinue, UnfinishedHasNoFrame};
 
-/// Over any run of feeds and takes, refused ones too: what was taken, each message with its length,
-/// followed by what is left, is what was there followed by what was fed.
+/// Over any run of feeds and takes, refused calls too: the taken messages with their lengths,
+/// followed by the octets left, are the octets before, followed by all fed octets.
 pub fn nothing_is_lost()
     ensures { NothingIsLost }
 {}
 
-/// However a stream was cut into pieces, and whenever takes came between them: the messages taken,
-/// followed by the frames that are left, are the frames of all that was fed.
+/// However a stream was cut into pieces, with takes at any point: the taken messages, followed by
+/// the frames left, are the frames of all fed octets.
 pub fn cut_does_not_matter()
     ensures { CutDoesNotMatter }
 {}
 
-/// Once no whole frame is left of what a new reader was fed, what was taken are the frames of all
-/// that it was fed, in order, and what is left is what follows them.
+/// Once a new reader has no whole frame left, the taken messages are the frames of all fed octets,
+/// in order, and the octets left follow them.
 pub fn all_frames_are_taken()
     ensures { AllFramesAreTaken }
 {}
 
-/// A stream is the frames of some messages and an unfinished rest in one way at most.
+/// A stream is the frames of some messages and an unfinished rest in at most one way.
 pub fn frames_are_unique()
     ensures { FramesAreUnique }
 {}
 
-/// A stream of octets is the frames of some messages and an unfinished rest in one way at least:
-/// `frames_of` and `unfinished_of` give it.
+/// A stream of octets is the frames of some messages and an unfinished rest in at least one way:
+/// the way of `frames_of` and `unfinished_of`.
 pub fn frames_are_found()
     ensures { FramesAreFound }
 {}
@@ -37,7 +37,7 @@ pub fn unfinished_has_no_frame()
     ensures { UnfinishedHasNoFrame }
 {}
 
-/// With a further piece the frames of a stream go on after those that were there: the new ones are
+/// With a further piece the frames of a stream go on after the frames before: the new frames are
 /// those of the unfinished rest and the piece.
 pub fn pieces_continue()
     ensures { PiecesContinue }

@@ -1,10 +1,9 @@
-//! DNS messages over TCP: each follows its length in two octets, the high one first (RFC 1035
-//! 4.2.2, RFC 7766 8).
+//! DNS messages over TCP: two octets of length, high octet first, then the message (RFC 1035 4.2.2,
+//! RFC 7766 8).
 //!
-//! `frame` makes the octets of one message for the stream. A `FrameReader` takes the octets of a
-//! stream in pieces as they come, cut anywhere, and gives the messages back whole and in order.
-//! Besides messages, a stream's place in its frames (`Within`) and the octets that it is still to
-//! take (`Unsent`) are kept.
+//! `frame` makes the octets of one message for the stream. A `FrameReader` takes a stream in
+//! pieces, cut anywhere, and gives the messages back whole and in order. `Within` is a stream's
+//! position within its frames, `Unsent` the octets that a slow stream has not yet taken.
 #![tactic(auto)]
 
 mod fault;

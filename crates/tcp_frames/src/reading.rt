@@ -1,4 +1,4 @@
-//! Frames that are read from a stream.
+//! Frames, read from a stream.
 
 ghost use Rattle.std.specs.Prelude.{◌≡◌, ◌+◌, ◌≤◌, [], length, drop, vec_len, MatchOption, IfOk, IsSome};
 ghost use Rattle.tcp_frames.specs.Frames.{Feeds, Finds, IsUnfinished, Leads, Takes};
@@ -7,13 +7,14 @@ use plain_values::Octets;
 use std::alloc::{AllocError, Allocator, Global};
 use std::marker::Model;
 
-/// The octets of one TCP stream that came and were not yet taken as messages. Contracts see it as
-/// the list of these octets.
+/// The octets of a TCP stream that were not yet taken as messages. Contracts see the list of these
+/// octets.
 #[derive(Drop)]
 pub struct FrameReader<A: Allocator = Global> {
     /// The octets since the rest was last moved to the front.
     octets: Vec<u8, A>,
-    /// The number of them that were taken already: at most half, so that the room is used again.
+    /// The number of octets in memory that were taken: at most half, so that the room is used
+    /// again.
     taken: usize,
     alloc: A,
 }
@@ -29,7 +30,7 @@ impl<A: Allocator> Model for FrameReader<A> {
 }
 
 impl<A: Allocator + Copy> FrameReader<A> {
-    /// A reader that was fed nothing. It does not allocate; later allocations come from `alloc`.
+    /// A reader without octets; later allocations come from `alloc`.
     pub fn new(alloc: A) -> FrameReader<A>
         ensures { result ≡ [] }
     {
@@ -41,8 +42,6 @@ impl<A: Allocator + Copy> FrameReader<A> {
     }
 
     /// Appends a piece of the stream. A piece may be cut anywhere, and may be empty.
-    ///
-    /// `Err` where memory ran out, and then nothing was fed.
     pub fn feed(&mut self, piece: &[u8]) -> Result<(), AllocError>
         ensures { Feeds self.old piece.now result self.new }
     {
@@ -50,10 +49,11 @@ impl<A: Allocator + Copy> FrameReader<A> {
         Ok(())
     }
 
-    /// Takes the first message out, with its length. `None` exactly where no whole frame came, and
-    /// then nothing is taken. A frame of length 0 is a message of 0 octets.
+    /// Takes the first frame out and returns its message. `None` exactly if no whole frame is
+    /// there; then nothing is taken. A frame of length 0 is a message of 0 octets.
     ///
-    /// `Err` where a whole frame came and memory for its message ran out; then nothing is taken.
+    /// `Err` exactly if a whole frame is there and memory for its message ran out; then nothing is
+    /// taken.
     pub fn take(&mut self) -> Result<Option<Octets<A>>, AllocError>
         ensures { Takes self.old result self.new }
     {
@@ -76,7 +76,7 @@ impl<A: Allocator + Copy> FrameReader<A> {
     }
 }
 
-/// The message of the frame with which a stream begins, if all of it came.
+/// The message of the first frame of a stream, if the frame is whole.
 fn message_of_first_frame(stream: &[u8]) -> Option<&[u8]>
     ensures { MatchOption result (IsUnfinished stream.now) (λ message. Leads message.now
         (drop (2 + length message.now) stream.now) stream.now) }
@@ -87,9 +87,9 @@ fn message_of_first_frame(stream: &[u8]) -> Option<&[u8]>
     more.get(..usize::from(*high) * 256 + usize::from(*low))
 }
 
-/// Forgets the first `taken` octets; returns how many of them are still there. The rest is moved to
-/// the front only where it is not longer than what is forgotten, so that each octet that is taken
-/// pays for one that is moved.
+/// Drops the first `taken` octets; returns how many of them are still in memory. The rest moves to
+/// the front only if it is not longer than the dropped octets, so each dropped octet pays for one
+/// moved octet.
 fn move_to_front<A: Allocator>(octets: &mut Vec<u8, A>, taken: usize) -> usize
     requires { taken ≤ vec_len octets.old }
     ensures rest { drop result octets.new.items ≡ drop taken octets.old.items }

@@ -1,4 +1,4 @@
-//! Octets that a stream is still to take.
+//! Octets for a slow stream.
 
 ghost use Rattle.std.specs.Prelude.{◌≡◌, ◌==◌, ◌≤◌, ◌++◌, [], length, IfOk, OnOk, OnErr};
 ghost use Rattle.std.specs.Io.{WritesAtMost};
@@ -11,13 +11,13 @@ use std::io;
 use std::io::Write;
 use std::marker::Model;
 
-/// Octets that a stream is still to take, in order. Contracts see these, and the number of taken
-/// ones that are still kept.
+/// The octets that a stream has not yet taken, in order. Contracts see these octets, and the number
+/// of taken octets still in memory.
 #[derive(Drop)]
 pub struct Unsent<A: Allocator> {
     alloc: A,
     octets: Vec<u8, A>,
-    /// The number of them that it took.
+    /// The number of taken octets in memory.
     taken: usize,
 }
 
@@ -33,7 +33,7 @@ impl<A: Allocator> Model for Unsent<A> {
 }
 
 impl<A: Allocator + Copy> Unsent<A> {
-    /// None; it does not allocate.
+    /// No octets.
     pub fn new(alloc: A) -> Unsent<A>
         ensures { result ≡ record { left = []; taken = 0 } }
     {
@@ -58,9 +58,8 @@ impl<A: Allocator + Copy> Unsent<A> {
         self.octets.len() - self.taken
     }
 
-    /// Puts octets last. Afterwards at most as many taken octets are kept as are left, so that a
-    /// stream that stays slow keeps little; and at most as many of those left are copied for it as
-    /// it took. `Err` where memory ran out, and then nothing has changed.
+    /// Puts octets last. Afterwards at most as many taken octets are in memory as are left, so a
+    /// slow stream keeps little; and at most as many octets are copied as the stream took.
     pub fn push(&mut self, more: Octets<A>) -> Result<(), AllocError>
         ensures ok { OnOk result (self.new ≡ pushed more self.old) }
         ensures few { OnOk result (self.new.taken ≤ length self.new.left) }
@@ -78,8 +77,7 @@ impl<A: Allocator + Copy> Unsent<A> {
         Ok(())
     }
 
-    /// Puts octets last, after a copy of those that are left. `Err` where memory ran out, and then
-    /// nothing has changed.
+    /// Puts octets last, after a copy of the octets left.
     fn push_anew(&mut self, more: &[u8]) -> Result<(), AllocError>
         ensures ok { OnOk result (self.new ≡ record { left = self.old.left ++ more.now; taken = 0 }) }
         ensures err { OnErr result (self.new ≡ self.old) }
@@ -92,8 +90,8 @@ impl<A: Allocator + Copy> Unsent<A> {
         Ok(())
     }
 
-    /// Lets the stream take octets, once; returns the number that it took, 0 where it takes none
-    /// any more. `Err` as the stream reports it, where it took none.
+    /// Offers the octets to the stream, once; returns the number of taken octets, 0 if the stream
+    /// takes none any more. `Err` as reported by the stream; then none was taken.
     pub fn send<W: Write>(&mut self, stream: &mut W) -> io::Result<usize>
         ensures taken { IfOk result (λ count. self.new ≡ sent count self.old) }
         ensures bound { WritesAtMost result self.old.left }

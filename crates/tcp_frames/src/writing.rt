@@ -1,4 +1,4 @@
-//! Frames that are written.
+//! Frames, written.
 
 ghost use Rattle.std.specs.Prelude.{◌≡◌, ◌/◌, ◌%◌, ◌<◌, ◌∷◌, [], length, MatchOption};
 ghost use Rattle.tcp_frames.specs.Frames.{Frames};
@@ -7,10 +7,10 @@ use crate::fault::FrameFault;
 use plain_values::Octets;
 use std::alloc::Allocator;
 
-/// The frame of a message: its length in two octets, the high one first, then its octets (RFC 1035
+/// The frame of a message: its length in two octets, high octet first, then its octets (RFC 1035
 /// 4.2.2). A message of 0 octets has a frame too.
 ///
-/// `TooLong` exactly where the message has over 65,535 octets; `Memory` where memory ran out.
+/// `TooLong` exactly if the message is longer than 65,535 octets; `Memory` if memory ran out.
 pub fn frame<A: Allocator>(alloc: A, message: &[u8]) -> Result<Octets<A>, FrameFault>
     ensures { Frames message.now result }
 {
@@ -23,7 +23,7 @@ pub fn frame<A: Allocator>(alloc: A, message: &[u8]) -> Result<Octets<A>, FrameF
     Ok(Octets::from_vec(octets))
 }
 
-/// The two octets that say a length, if two octets can.
+/// The two octets of a length, if it fits.
 fn length_octets(length: usize) -> Option<[u8; 2]>
     ensures { MatchOption result (65535 < length) (λ octets. (length < 65536)
         × (octets ≡ length / 256 ∷ length % 256 ∷ [])) }

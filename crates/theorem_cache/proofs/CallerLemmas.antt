@@ -1,5 +1,4 @@
 -- Lemmas for the proofs of crates above: the laws, and how aliases go on.
-pub use Rattle.theorem_cache.proofs.Slots.{AreOne, are_one, is_one}
 pub use Rattle.theorem_cache.proofs.Short.{alone_short}
 pub use Rattle.theorem_cache.proofs.Justifying.{follows_append, follows_first, leads_stay_leads}
 pub use Rattle.theorem_cache.proofs.Carrying.{accepted_pieces_can_be_kept, accepted_pieces_answer, accepted_pieces_lead_on}

@@ -10,6 +10,7 @@ use Rattle.record_cache.specs.Ageing.{end_of}
 use Rattle.record_cache.specs.Laws.{Among}
 use Rattle.step_values.specs.Values.{Step}
 use Rattle.suffix_routes.specs.Serving.{serving_route_of}
+use Rattle.cache_laws.proofs.CallerLemmas.{serves_exactly}
 use Rattle.step_history.specs.History.{is_restart, moment_at, InEra, Look, Carries}
 use Rattle.step_history.specs.Carried.{then_carried, CarriedInEra, NotReplaced, Justified}
 use Rattle.step_history.specs.Answers.{FollowsAliases}
@@ -98,7 +99,7 @@ kept_is_justified c asked before now name all o era carried kept alive route =
       new = since.1;
       carried_before = since.2;
       carried_now = subst (CarriedInEra c now) since.3 carried;
-      on_route = route;
+      on_route = serves_exactly.only c name o.piece.route route;
       counts = ⊎_elim (λ (a : Among o since.1). inr a) (λ (k : NotReplaced o since.0). inl (k, then)) (not_replaced_since o since.1 since.0 (subst (NotReplaced o) since.3 kept));
     }
 
@@ -121,6 +122,6 @@ new_is_justified c asked s before past ps os name o era run carries carried amon
       new = then_carried t ps since.1;
       carried_before = since.2;
       carried_now = inr (inr (run, ps, since.1 ++ since.0, carries, subst (CarriedInEra c past) since.3 carried, sym (then_carried-append t ps since.1 since.0)));
-      on_route = route;
+      on_route = serves_exactly.only c name o.piece.route route;
       counts = inr (among_newest t ps o since.1 among);
     }

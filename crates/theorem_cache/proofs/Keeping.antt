@@ -22,6 +22,7 @@ use Rattle.record_cache.proofs.CallerLemmas.{slots_decide, slots_are_the_same, n
 use Rattle.negative_cache.specs.Entries.{denies}
 use Rattle.negative_cache.specs.Showing.{shown}
 use Rattle.negative_cache.proofs.CallerLemmas.{shown_is_replaced}
+use Rattle.cache_laws.proofs.CallerLemmas.{keeps_place}
 use Rattle.alias_chains.specs.LookingUp.{promoted_all}
 use Rattle.alias_chains.specs.Offering.{shown_by, put, held_at}
 use Rattle.theorem_cache.specs.Kept.{IsKept, CanBeKept}
@@ -140,7 +141,7 @@ module _ (c : Config) (capacity n : ℕ) (p : Piece) (offer : CanBeKept c p) (os
   still : (e : Held) → Among e left → takes_place_of p e.piece ≡ false → IsKept c (new ∷ os) n e
   still e among free =
       let was = all_among (IsKept c os n) e es all (facts.was e among) in
-      record { on_route = was.on_route; earlier = was.earlier; has_lifetime = was.has_lifetime; not_replaced = inr (free, was.not_replaced); writable = was.writable }
+      record { on_route = was.on_route; earlier = was.earlier; has_lifetime = was.has_lifetime; not_replaced = inr (keeps_place p e.piece free, was.not_replaced); writable = was.writable }
 
   other_slot : (e : Held) → Among e left → of_slot p.slot e ≡ false → IsKept c (new ∷ os) n e
   other_slot e among other = still e among (not_taken p e offer.formed (all_among (λ x. IsPiece x.piece) e left facts.held.formed among) other (facts.over e among))

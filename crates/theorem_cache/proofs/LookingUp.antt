@@ -3,7 +3,8 @@ use Rattle.std.proofs.Common.{◌≡◌, ℕ, zero, suc, ◌+◌, ◌<◌, ◌�
 use Rattle.std.specs.Prelude.{◌≢◌, ◌==◌, ◌&&◌}
 use Rattle.std.specs.List.{AllByRecursion}
 use Rattle.std.proofs.lemmas.Bool.{and_parts, eqb-true, ltb-true, false≢true}
-use Rattle.dns_name.specs.Labels.{is_under}
+use Rattle.dns_name.specs.Labels.{IsUnder, is_under}
+use Rattle.dns_name.proofs.CallerLemmas.{is_under_decides}
 use Rattle.dns_message.specs.Values.{Question}
 use Rattle.dns_message.specs.Messages.{IsSameQuestion}
 use Rattle.suffix_routes.specs.Values.{Route}
@@ -28,12 +29,14 @@ use Rattle.negative_cache.proofs.CallerLemmas.{found_fits, equal_questions_find_
 use Rattle.suffix_routes.specs.Serving.{serving_route_of}
 use Rattle.step_history.specs.History.{Look}
 use Rattle.step_history.specs.Carried.{Justified}
-use Rattle.step_history.specs.Answers.{has_slot, FollowsAliases, EndsChain}
+use Rattle.step_history.specs.Answers.{IsOf, FollowsAliases, EndsChain}
+use Rattle.step_history.proofs.CallerLemmas.{alias_to}
+use Rattle.cache_laws.proofs.CallerLemmas.{one_slot}
 use Rattle.dns_message.specs.Questions.{asked_at}
 use Rattle.alias_chains.specs.LookingUp.{LookUp, look_up_behind, look_up_after, one_too_many, through, look_up, promoted_all}
 use Rattle.theorem_cache.specs.Kept.{CanBeTold}
 use Rattle.theorem_cache.specs.Chains.{IsRightEnd, EndsRight, IsSized}
-use Rattle.theorem_cache.proofs.Slots.{are_one, same_slot_turned}
+use Rattle.theorem_cache.proofs.Slots.{slot_turned}
 use Rattle.step_table.proofs.CallerLemmas.{All-append}
 use Rattle.theorem_cache.proofs.Justifying.{follows_append}
 
@@ -54,7 +57,7 @@ all_among P h (e ∷ entries) all (inr later) = all_among P h entries all.1 late
 
 -- an alias that leads on from the question
 abbrev IsRightAlias : Look → ℕ → Question → Held → Type 0
-IsRightAlias l n q h = CanBeTold n h × (q.kind ≢ 5) × Justified l q.name h × (has_slot h.piece q.name q.class (Some 5) ≡ true)
+IsRightAlias l n q h = CanBeTold n h × (q.kind ≢ 5) × Justified l q.name h × IsOf h.piece q.name q.class (Some 5)
 
 abbrev IsRightFind : Look → ℕ → Question → Found → Type 0
 IsRightFind l n q found.local = Unit {0}
@@ -64,17 +67,17 @@ IsRightFind l n q (found.no_data h) = IsRightEnd l n q h
 IsRightFind l n q (found.denied h) = IsRightEnd l n q h
 IsRightFind l n q miss = Unit {0}
 
-set_ends : (q : Question) (p : Piece) (b : Body) → are_rows b ≡ true → has_slot p q.name q.class (Some q.kind) ≡ true → EndsChain q p b
+set_ends : (q : Question) (p : Piece) (b : Body) → are_rows b ≡ true → IsOf p q.name q.class (Some q.kind) → EndsChain q p b
 set_ends q p (rows each) set slot = slot
 set_ends q p (no_data soa) set slot = absurd (false≢true set)
 set_ends q p (denied soa) set slot = absurd (false≢true set)
 
-no_data_ends : (q : Question) (p : Piece) (b : Body) → tells_no_data b ≡ true → has_slot p q.name q.class (Some q.kind) ≡ true → EndsChain q p b
+no_data_ends : (q : Question) (p : Piece) (b : Body) → tells_no_data b ≡ true → IsOf p q.name q.class (Some q.kind) → EndsChain q p b
 no_data_ends q p (rows each) tells slot = absurd (false≢true tells)
 no_data_ends q p (no_data soa) tells slot = slot
 no_data_ends q p (denied soa) tells slot = absurd (false≢true tells)
 
-denial_ends : (q : Question) (p : Piece) (k : Option ℕ) (b : Body) → p.slot.kind ≡ k → FitsKind k b → is_name_error p ≡ true → is_under q.name p.slot.key ≡ true → p.slot.class ≡ q.class → EndsChain q p b
+denial_ends : (q : Question) (p : Piece) (k : Option ℕ) (b : Body) → p.slot.kind ≡ k → FitsKind k b → is_name_error p ≡ true → IsUnder q.name p.slot.key → p.slot.class ≡ q.class → EndsChain q p b
 denial_ends q p (Some kind) b is fits error under class = absurd (false≢true (sym (ap Rattle.std.specs.Prelude.is_none is) ∙ error))
 denial_ends q p None (rows each) is fits error under class = absurd fits
 denial_ends q p None (no_data soa) is fits error under class = absurd fits
@@ -85,12 +88,12 @@ module _ (l : Look) (n : ℕ) (entries : List Held) (usable : AllByRecursion (Is
   use_of h living = (all_among (IsUsable l n) h entries usable living.among, ltb-true n (end_of h) living.alive)
 
   -- one of its slot serves the question
-  typed_serves : (q : Question) (kind : ℕ) (h : Held) → IsTyped n entries q kind h → CanBeTold n h × Justified l q.name h × (has_slot h.piece q.name q.class (Some kind) ≡ true)
+  typed_serves : (q : Question) (kind : ℕ) (h : Held) → IsTyped n entries q kind h → CanBeTold n h × Justified l q.name h × IsOf h.piece q.name q.class (Some kind)
   typed_serves q kind h typed =
       let asked : Slot = record { key = q.name; class = q.class; kind = Some kind } in
-      let one = are_one asked h.piece.slot typed.slot in
+      let one = one_slot asked h.piece.slot typed.slot in
       let use_it = use_of h typed.living in
-      (use_it.0.told, use_it.0.serves q.name use_it.1 (serving_respects_same l.config.routes q.name h.piece.slot.key one.name ∙ use_it.0.on_route), same_slot_turned asked h.piece.slot typed.slot)
+      (use_it.0.told, use_it.0.serves q.name use_it.1 (serving_respects_same l.config.routes q.name h.piece.slot.key one.name ∙ use_it.0.on_route), slot_turned asked h.piece.slot typed.slot)
 
   -- a name error above serves it
   denial_serves : (q : Question) (h : Held) → IsDenial l.config.routes n entries q h → IsRightEnd l n q h
@@ -100,7 +103,7 @@ module _ (l : Look) (n : ℕ) (entries : List Held) (usable : AllByRecursion (Is
       let use_it = use_of h denial.living in (
         use_it.0.told,
         use_it.0.serves q.name use_it.1 (ap (serving l.config.routes) (sym denial.route) ∙ use_it.0.on_route),
-        denial_ends q h.piece h.piece.slot.kind h.piece.body refl use_it.0.formed.body inner.0 outer.1 (sym (eqb-true q.class h.piece.slot.class inner.1)),
+        denial_ends q h.piece h.piece.slot.kind h.piece.body refl use_it.0.formed.body inner.0 ((is_under_decides q.name h.piece.slot.key).0 outer.1) (sym (eqb-true q.class h.piece.slot.class inner.1)),
       )
 
   fits_right : (q : Question) (f : Found) → Fits l.config.routes n entries q f → IsRightFind l n q f
@@ -124,7 +127,7 @@ module _ (l : Look) (n : ℕ) (entries : List Held) (usable : AllByRecursion (Is
 
   one_more : (from q : Question) (held : List Held) (h : Held) (name : List (List ℕ)) → FollowsAliases l from held q → IsRightAlias l n q h → target_of h.piece.body ≡ Some name
       → FollowsAliases l from (held ++ h ∷ []) (asked_at q name)
-  one_more from q held h name follows right leads = follows_append l from q (asked_at q name) held (h ∷ []) follows (right.1, right.2, right.3, name, leads, refl)
+  one_more from q held h name follows right leads = follows_append l from q (asked_at q name) held (h ∷ []) follows (right.1, right.2, right.3, name, alias_to h.piece name leads, refl)
 
   followed_right : (from q : Question) (held : List Held) (onward : Held → List (List ℕ) → LookUp) → AllByRecursion (CanBeTold n) held → FollowsAliases l from held q
       → ((h : Held) (name : List (List ℕ)) → IsRightAlias l n q h → target_of h.piece.body ≡ Some name → IsLed from (onward h name))

@@ -22,15 +22,16 @@ use Rattle.step_values.specs.Values.{Step}
 use Rattle.suffix_routes.specs.Serving.{serving_route_of}
 use Rattle.step_history.specs.History.{is_restart, moment_at, Look, NothingAccepted}
 use Rattle.step_history.specs.Carried.{NotReplaced}
-use Rattle.step_history.specs.Answers.{has_slot}
+use Rattle.step_history.specs.Answers.{IsOf}
 use Rattle.dns_message.specs.Questions.{asked_at}
 use Rattle.step_history.specs.Stale.{IsSet, JustifiedPastItsEnd}
-use Rattle.step_history.proofs.CallerLemmas.{moment_later}
+use Rattle.step_history.proofs.CallerLemmas.{moment_later, alias_to}
+use Rattle.cache_laws.proofs.CallerLemmas.{one_slot, serves_exactly}
 use Rattle.alias_chains.specs.PastEnds.{past_led, past_followed, look_up_past}
 use Rattle.theorem_cache.specs.Kept.{CanBeTold, IsKept, IsCached}
 use Rattle.theorem_cache.specs.Chains.{look_from, IsRightPast}
 use Rattle.theorem_cache.specs.Laws.{LookUpsPastEndsAreRight}
-use Rattle.theorem_cache.proofs.Slots.{are_one, same_slot_turned}
+use Rattle.theorem_cache.proofs.Slots.{slot_turned}
 use Rattle.theorem_cache.proofs.LookingUp.{all_among}
 
 -- a piece that is not replaced was carried
@@ -73,7 +74,7 @@ module _ (c : Config) (asked s : Step) (before past : List Step) (m n : ℕ) (ca
     carried_now = inr (inl (goes.0, goes.1, was.carried_is));
     came_before = carried_there h was.carried kept.not_replaced;
     not_replaced = kept.not_replaced;
-    on_route = on;
+    on_route = serves_exactly.only c name h.piece.route on;
     is_set = a_set h.piece.body set;
     has_lifetime = kept.has_lifetime;
     within = within_is h less;
@@ -83,17 +84,17 @@ module _ (c : Config) (asked s : Step) (before past : List Step) (m n : ℕ) (ca
   record Serves (q : Question) (kind : ℕ) (h : Held) : Type 0 where
     pub told : CanBeTold n h
     pub justified : JustifiedPastItsEnd l q.name h
-    pub slot : has_slot h.piece q.name q.class (Some kind) ≡ true
+    pub slot : IsOf h.piece q.name q.class (Some kind)
 
   typed_serves : (q : Question) (kind : ℕ) (h : Held) → IsTypedWithin window n cache.entries q kind h → Serves q kind h
   typed_serves q kind h typed =
       let asked_slot : Slot = record { key = q.name; class = q.class; kind = Some kind } in
-      let one = are_one asked_slot h.piece.slot typed.slot in
+      let one = one_slot asked_slot h.piece.slot typed.slot in
       let kept = all_among (IsKept c was.carried m) h cache.entries was.kept typed.among in
       record {
         told = told_of h (all_among (λ x. IsPiece x.piece) h cache.entries was.held.formed typed.among) kept;
         justified = serves h kept typed.set (ltb-true n (h.accepted + 1000 * (h.piece.lifetime + window)) typed.within) q.name (serving_respects_same c.routes q.name h.piece.slot.key one.name ∙ kept.on_route);
-        slot = same_slot_turned asked_slot h.piece.slot typed.slot;
+        slot = slot_turned asked_slot h.piece.slot typed.slot;
       }
 
   abbrev Right : Question → ℕ → List Held → Type 0
@@ -108,7 +109,7 @@ module _ (c : Config) (asked s : Step) (before past : List Step) (m n : ℕ) (ca
     end = right.end;
     whole = ap (λ (os : List Held). h ∷ os) right.whole;
     last = right.last;
-    follows = (kind, s.justified, s.slot, name, leads, right.follows);
+    follows = (kind, s.justified, s.slot, name, alias_to h.piece name leads, right.follows);
     justified = right.justified;
     slot = right.slot;
     few = let few = right.few in omega (arith, few);

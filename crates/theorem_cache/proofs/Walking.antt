@@ -1,8 +1,8 @@
 -- The walk of an accepted reply answers each question that waited for it.
 use Rattle.std.proofs.Common.{◌≡◌, ℕ, ◌≤◌, length, arith, List, [], ◌∷◌, true, refl, sym, ap, ◌∙◌, subst, inl, inr, Option, Some}
 use Rattle.std.specs.Prelude.{map}
-use Rattle.dns_name.specs.Labels.{lowered, IsSame, is_under}
-use Rattle.dns_name.proofs.CallerLemmas.{is_under_decides, under_itself, under_respects_same, lowered_is_same}
+use Rattle.dns_name.specs.Labels.{lowered, IsSame, IsUnder}
+use Rattle.dns_name.proofs.CallerLemmas.{under_itself, under_respects_same, lowered_is_same}
 use Rattle.dns_message.specs.Values.{Question, Message}
 use Rattle.dns_message.specs.Messages.{HasShapes}
 use Rattle.suffix_routes.specs.Values.{Config}
@@ -18,6 +18,7 @@ use Rattle.suffix_routes.specs.Serving.{serving_route_of}
 use Rattle.step_history.specs.History.{Look}
 use Rattle.step_history.specs.Carried.{Justified}
 use Rattle.step_history.specs.Answers.{FollowsAliases, EndsChain}
+use Rattle.step_history.proofs.CallerLemmas.{alias_to}
 use Rattle.alias_chains.specs.Offering.{held_at}
 use Rattle.theorem_cache.proofs.Slots.{slot_carried_over}
 
@@ -70,7 +71,7 @@ lead_follows l r t serves config name other last (p ∷ aliases) lead alike serv
     let alias : IsAliasTo r name target p = lead.1 in
     let rest = lead_follows l r t serves config target target last aliases lead.2 refl (λ o n among. serve o n (inr among)) in
     let route : serving_route_of l.config other ≡ Some p.route = subst (λ (c : Config). serving_route_of c other ≡ Some p.route) config (on_its_route r serves name other (Some 5) p alias.carried alike) in
-    (rest.0, rest.1, (alias.follows, serve (held_at t p) other (inl refl) route, slot_carried_over p name other r.question.class (Some 5) alias.carried.slot alike, target, alias.leads, rest.2))
+    (rest.0, rest.1, (alias.follows, serve (held_at t p) other (inl refl) route, slot_carried_over p name other r.question.class (Some 5) alias.carried.slot alike, target, alias_to p target alias.leads, rest.2))
 
 -- to the last name as it is spelled there, from the first as it is spelled there
 lead_goes : (l : Look) (r : Reply) (t : ℕ) → Serves r → r.config ≡ l.config → (name last : List (List ℕ)) (aliases : List Piece) → Lead r name aliases last → Serve l t (map (held_at t) aliases)
@@ -79,7 +80,7 @@ lead_goes l r t serves config name last [] lead serve = λ i. at_name (sym lead 
 lead_goes l r t serves config name last (p ∷ aliases) lead serve =
     let alias : IsAliasTo r name lead.0 p = lead.1 in
     let route : serving_route_of l.config name ≡ Some p.route = subst (λ (c : Config). serving_route_of c name ≡ Some p.route) config (on_its_route r serves name name (Some 5) p alias.carried refl) in
-    (alias.follows, serve (held_at t p) name (inl refl) route, slot_carried_over p name name r.question.class (Some 5) alias.carried.slot refl, lead.0, alias.leads, lead_goes l r t serves config lead.0 last aliases lead.2 (λ o n among. serve o n (inr among)))
+    (alias.follows, serve (held_at t p) name (inl refl) route, slot_carried_over p name name r.question.class (Some 5) alias.carried.slot refl, lead.0, alias_to p lead.0 alias.leads, lead_goes l r t serves config lead.0 last aliases lead.2 (λ o n among. serve o n (inr among)))
 
 -- or, where there is an alias, from each name that is the same
 pub lead_follows_to : (l : Look) (r : Reply) (t : ℕ) → Serves r → r.config ≡ l.config → (name other last : List (List ℕ)) (aliases : List Piece) → Lead r name aliases last → IsSame other name → 1 ≤ length aliases
@@ -88,16 +89,16 @@ lead_follows_to l r t serves config name other last [] lead alike some serve = a
 lead_follows_to l r t serves config name other last (p ∷ aliases) lead alike some serve =
     let alias : IsAliasTo r name lead.0 p = lead.1 in
     let route : serving_route_of l.config other ≡ Some p.route = subst (λ (c : Config). serving_route_of c other ≡ Some p.route) config (on_its_route r serves name other (Some 5) p alias.carried alike) in
-    (alias.follows, serve (held_at t p) other (inl refl) route, slot_carried_over p name other r.question.class (Some 5) alias.carried.slot alike, lead.0, alias.leads, lead_goes l r t serves config lead.0 last aliases lead.2 (λ o n among. serve o n (inr among)))
+    (alias.follows, serve (held_at t p) other (inl refl) route, slot_carried_over p name other r.question.class (Some 5) alias.carried.slot alike, lead.0, alias_to p lead.0 alias.leads, lead_goes l r t serves config lead.0 last aliases lead.2 (λ o n among. serve o n (inr among)))
 
 -- the piece that closes ends the look-up of each question at a name that is the same
 pub closes_ends : (r : Reply) (end : End) (last other : List (List ℕ)) (p : Piece) → has_last end ≡ true → IsCarriedFor r last (last_kind r end) p → IsLastBody end p.body → IsSame other last
     → EndsChain (at_name other r.question.kind r.question.class) p p.body
 closes_ends r end last other p fine carried body alike = by end fine carried p.body body
   where
-    under : is_under other p.slot.key ≡ true
-    under = (is_under_decides other p.slot.key).1
-        (under_respects_same other other other p.slot.key refl (sym (ap (λ (s : Rattle.trust_rank.specs.declared.slot.Slot.Slot). lowered s.key) carried.slot ∙ lowered_is_same last ∙ sym alike)) (under_itself other))
+    under : IsUnder other p.slot.key
+    under =
+        under_respects_same other other other p.slot.key refl (sym (ap (λ (s : Rattle.trust_rank.specs.declared.slot.Slot.Slot). lowered s.key) carried.slot ∙ lowered_is_same last ∙ sym alike)) (under_itself other)
 
     by : (e : End) → has_last e ≡ true → IsCarriedFor r last (last_kind r e) p → (b : Body) → IsLastBody e b → EndsChain (at_name other r.question.kind r.question.class) p b
     by found fine k (rows each) is = slot_carried_over p last other r.question.class (Some r.question.kind) k.slot alike

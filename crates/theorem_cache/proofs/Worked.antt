@@ -21,6 +21,8 @@ use Rattle.step_values.specs.declared.action.Why.TheVariants.{Answered}
 use Rattle.step_values.specs.Values.{Event, Delivered, from_client, tick, restart, send_reply, Step}
 use Rattle.step_history.specs.History.{Look, NothingAccepted}
 use Rattle.step_history.specs.Carried.{Justified}
+use Rattle.step_history.proofs.CallerLemmas.{alias_to, target_is}
+use Rattle.cache_laws.proofs.CallerLemmas.{keeps_place}
 use Rattle.step_history.specs.Answers.{FollowsAliases}
 use Rattle.alias_chains.specs.LookingUp.{ends, too_long, missed}
 use Rattle.alias_chains.specs.Offering.{held_at}
@@ -70,7 +72,7 @@ writable = record { owner = name_of_a; class = omega arith; kind = omega arith; 
 -- a piece that a reply carried, after another one of the same reply
 is_kept : IsKept config (held_at 1020 (set b) ∷ kept ∷ []) 2000 kept
 unfolding route_of
-is_kept = record { on_route = refl; earlier = omega arith; has_lifetime = omega arith; not_replaced = inr (refl, inl refl); writable = writable }
+is_kept = record { on_route = refl; earlier = omega arith; has_lifetime = omega arith; not_replaced = inr (keeps_place (set b) (set a) refl, inl refl); writable = writable }
 
 -- no piece is kept before it was accepted, and none that no reply carried
 yet_to_come : IsKept config (kept ∷ []) 1019 kept → ⊥
@@ -187,9 +189,9 @@ module _ (l : Look) (leads : Justified l b (held_at 1020 (alias b 97))) (justifi
     last = set a;
     whole = refl;
     to = address a;
-    follows = (no_alias, leads, refl, a, refl, refl);
+    follows = (no_alias, leads, record { name = refl; class = refl; kind = refl }, a, alias_to (alias b 97) a refl, refl);
     justified = justified;
-    right_end = refl;
+    right_end = record { name = refl; class = refl; kind = refl };
   }
 
   -- the alias alone leads to a.e
@@ -198,14 +200,14 @@ module _ (l : Look) (leads : Justified l b (held_at 1020 (alias b 97))) (justifi
   to_its_target = record {
     some = omega arith;
     few = omega arith;
-    follows = (no_alias, leads, refl, a, refl, refl);
+    follows = (no_alias, leads, record { name = refl; class = refl; kind = refl }, a, alias_to (alias b 97) a refl, refl);
   }
 
 -- and to no other name
 to_another_name : (l : Look) → LeadOn l 1020 (address b) (alias b 97 ∷ []) example → ⊥
 unfolding name_of_rdata name_within walk_in name_step
 to_another_name l h =
-    let leads : Some a ≡ Some h.follows.3 = h.follows.4 in
+    let leads : Some a ≡ Some h.follows.3 = target_is (alias b 97) h.follows.3 h.follows.4 in
     let target : a ≡ h.follows.3 = cc in
     let last : example ≡ h.follows.3 = ap (λ (q : Question). q.name) h.follows.5 in
     let labels : 1 ≡ 2 = ap (λ (n : List (List ℕ)). length n) (last ∙ sym target) in

@@ -1,5 +1,5 @@
 -- Chains of look-ups and of accepted replies, as a history justifies them.
-use Rattle.std.specs.Prelude.{◌≡◌, ℕ, ◌≤◌, Bool, true, false, List, [], ◌∷◌, ◌++◌, length, map, Some, ◌⊎◌}
+use Rattle.std.specs.Prelude.{◌≡◌, ℕ, ◌≤◌, false, List, [], ◌∷◌, ◌++◌, length, map, Some, ◌⊎◌}
 use Rattle.std.specs.List.{AllByRecursion}
 use Rattle.dns_message.specs.Values.{Question}
 use Rattle.suffix_routes.specs.Values.{Config}
@@ -8,14 +8,14 @@ use Rattle.record_cache.specs.Values.{Held}
 use Rattle.step_values.specs.Values.{Step}
 use Rattle.step_history.specs.History.{is_restart, Look, Carries, NothingAccepted}
 use Rattle.step_history.specs.Carried.{Justified}
-use Rattle.step_history.specs.Answers.{has_slot, FollowsAliases, EndsChain}
+use Rattle.step_history.specs.Answers.{IsOf, FollowsAliases, EndsChain}
 use Rattle.dns_message.specs.Questions.{asked_at}
 use Rattle.step_history.specs.Stale.{JustifiedPastItsEnd, FollowsPastEnds}
 use Rattle.alias_chains.specs.LookingUp.{LookUpEnd, ends, too_long, missed, LookUp}
 use Rattle.alias_chains.specs.Offering.{held_at}
 use Rattle.theorem_cache.specs.Kept.{CanBeTold}
 
--- the `Look` of these
+-- the `Look` of this step and history
 abbrev pub look_from : Config → Step → List Step → List Step → Look
 look_from c asked before now = record { config = c; asked = asked; before = before; now = now }
 
@@ -25,11 +25,11 @@ GoesOn c s past = (is_restart s ≡ false) × (NothingAccepted c s past ⊎ ((ps
 
 -- ---- of a look-up
 
--- it can be written at t, is justified, and ends the look-up of q
+-- the piece can be written at t, is justified, and ends the look-up of q
 abbrev pub IsRightEnd : Look → ℕ → Question → Held → Type 0
 IsRightEnd l t q h = CanBeTold t h × Justified l q.name h × EndsChain q h.piece h.piece.body
 
--- the piece that ends the look-up, if any, `IsRightEnd`
+-- the piece at the look-up's end, if any, `IsRightEnd`
 abbrev pub EndsRight : Look → ℕ → Question → LookUpEnd → Type 0
 EndsRight l t q (ends h) = IsRightEnd l t q h
 EndsRight l t q too_long = Unit {0}
@@ -41,8 +41,8 @@ IsSized (ends h) k = k ≤ 8
 IsSized too_long k = k ≡ 9
 IsSized missed k = k ≤ 8
 
--- its aliases can be written and lead from q to what it wants at its end; `EndsRight` and `IsSized`
--- hold
+-- the look-up's aliases can be written and lead from q to the wanted question; `EndsRight` and
+-- `IsSized` hold
 pub record IsRight (l : Look) (t : ℕ) (q : Question) (v : LookUp) : Type 0 where
   pub told : AllByRecursion (CanBeTold t) v.held
   pub follows : FollowsAliases l q v.held v.wanted
@@ -60,13 +60,13 @@ pub record IsRightPast (l : Look) (t : ℕ) (q : Question) (most : ℕ) (chain :
   pub last : Question
   pub follows : FollowsPastEnds l q aliases last
   pub justified : JustifiedPastItsEnd l last.name end
-  pub slot : has_slot end.piece last.name last.class (Some last.kind) ≡ true
+  pub slot : IsOf end.piece last.name last.class (Some last.kind)
   pub few : length aliases ≤ most
   pub told : AllByRecursion (CanBeTold t) chain
 
 -- ---- of an accepted reply
 
--- pieces that came at t: aliases from q on, and their end
+-- pieces from t: aliases from q on, and their end
 pub record LeadToEnd (l : Look) (t : ℕ) (q : Question) (ps : List Piece) : Type 0 where
   pub aliases : List Piece
   pub last : Piece
@@ -76,7 +76,7 @@ pub record LeadToEnd (l : Look) (t : ℕ) (q : Question) (ps : List Piece) : Typ
   pub justified : Justified l to.name (held_at t last)
   pub right_end : EndsChain to last last.body
 
--- pieces that came at t: one to eight aliases from q to this name
+-- pieces from t: one to eight aliases from q to this name
 pub record LeadOn (l : Look) (t : ℕ) (q : Question) (ps : List Piece) (name : List (List ℕ)) : Type 0 where
   pub some : 1 ≤ length ps
   pub few : length ps ≤ 8

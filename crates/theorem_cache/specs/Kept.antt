@@ -56,11 +56,11 @@ pub record CanBeRepeated (a : Asked) (q : Question) : Type 0 where
   pub id : a.id < 65536
   pub opcode : a.opcode < 16
 
--- the octets are read as the answer with these sections, or as the same cut
+-- the octets are read as the answer with these sections, or as the answer truncated
 abbrev pub SpellsSections : List ℕ → Asked → Sections → Type 0
 SpellsSections octets a s = Spells octets (full_answer a s) ⊎ Spells octets (cut_answer a s)
 
--- the same with the sections of this chain
+-- the octets are read so with the sections of this chain
 abbrev pub SpellsAnswer : List ℕ → Asked → List Held → ℕ → Type 0
 SpellsAnswer octets a chain t = SpellsSections octets a (sections_of t chain)
 
@@ -68,7 +68,7 @@ SpellsAnswer octets a chain t = SpellsSections octets a (sections_of t chain)
 abbrev pub looked : Config → ℕ → List Held → Question → LookUp
 looked c t entries q = look_up c.routes t entries most_aliases [] q
 
--- the octets answer q with what its look-up finds at t
+-- the octets answer q from its look-up at t
 pub record IsStillFound (c : Config) (t : ℕ) (entries : List Held) (q : Question) (octets : List ℕ) : Type 0 where
   pub end : Held
   pub ends_so : (looked c t entries q).met ≡ ends end

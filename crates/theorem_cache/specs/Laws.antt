@@ -28,8 +28,8 @@ use Rattle.theorem_cache.specs.Chains.{look_from, GoesOn, IsRight, IsRightPast, 
 
 -- ---- entries
 
--- A step of the era that accepts nothing keeps the cache explained, if its answers from cache are
--- found.
+-- A step of the era without an accepted reply keeps the cache explained, if its answers from cache
+-- are found.
 abbrev pub QuietStepsKeep : Type 0
 QuietStepsKeep = (c : Config) (past : List Step) (m n : ℕ) (cache : Cache) (s : Step) → IsCached c past m cache
     → m ≡ moment_at past → (is_restart s ≡ false) × NothingAccepted c s past → n ≡ moment_at (s ∷ past)
@@ -54,13 +54,13 @@ OffersKeep = (c : Config) (past : List Step) (m n : ℕ) (cache : Cache) (s : St
 
 -- ---- an accepted reply
 
--- The pieces of a reply that isn't lame can be kept.
+-- The pieces of a reply that is not lame can be kept.
 abbrev pub AcceptedPiecesCanBeKept : Type 0
 AcceptedPiecesCanBeKept = (c : Config) (m : Message) (q : Question) (route : ℕ) → IsMessage m → HasShapes m
     → IsQuestion q → serving_route_of c q.name ≡ Some route → is_lame (walk_of c m q route).end ≡ false
     → AllByRecursion (CanBeKept c) ((walk_of c m q route).pieces ++ (walk_of c m q route).authority)
 
--- A walk with a last piece answers each question of the era that equals the asked one.
+-- A walk with a last piece answers each question of the era equal to the asked question.
 abbrev pub AcceptedPiecesAnswer : Type 0
 AcceptedPiecesAnswer = (c : Config) (asked s : Step) (before past : List Step) (os : List Held) (m : Message)
     (q other : Question) (route : ℕ) → InEra (asked ∷ before) past → is_restart s ≡ false → CarriedInEra c past os
@@ -68,7 +68,7 @@ AcceptedPiecesAnswer = (c : Config) (asked s : Step) (before past : List Step) (
     → serving_route_of c q.name ≡ Some route → has_last (walk_of c m q route).end ≡ true → IsSameQuestion other q
     → LeadToEnd (look_from c asked before (s ∷ past)) (moment_at (s ∷ past)) other (walk_of c m q route).pieces
 
--- A walk that ends elsewhere leads each such question on to that name, by aliases.
+-- A walk that ends elsewhere leads each such question on to the last name, by aliases.
 abbrev pub AcceptedPiecesLeadOn : Type 0
 AcceptedPiecesLeadOn = (c : Config) (asked s : Step) (before past : List Step) (os : List Held) (m : Message)
     (q other : Question) (route : ℕ) (name : List (List ℕ)) → InEra (asked ∷ before) past → is_restart s ≡ false
@@ -79,15 +79,15 @@ AcceptedPiecesLeadOn = (c : Config) (asked s : Step) (before past : List Step) (
 
 -- ---- a look-up
 
--- A client's look-up is right in a step that accepts nothing.
+-- A client's look-up is right in a step without an accepted reply.
 abbrev pub LookUpsAreRight : Type 0
 LookUpsAreRight = (c : Config) (past : List Step) (m n : ℕ) (cache : Cache) (s : Step) (q : Question)
     → IsCached c past m cache → m ≡ moment_at past → (is_restart s ≡ false) × NothingAccepted c s past
     → n ≡ moment_at (s ∷ past)
     → IsRight (look_from c s past (s ∷ past)) n q (looked c n cache.entries q)
 
--- So is a waiting question's, which goes on from its aliases in the cache before the step, whatever
--- that accepts.
+-- A waiting question's look-up is right, too: from its aliases on, in the cache before the step, in
+-- any step.
 abbrev pub LookUpsThatGoOnAreRight : Type 0
 LookUpsThatGoOnAreRight = (c : Config) (asked s : Step) (before past : List Step) (m n : ℕ) (cache : Cache)
     (q wanted : Question) (held : List Held) (more : ℕ) → IsCached c past m cache → m ≡ moment_at past
@@ -95,7 +95,7 @@ LookUpsThatGoOnAreRight = (c : Config) (asked s : Step) (before past : List Step
     → FollowsAliases (look_from c asked before (s ∷ past)) q held wanted → more + length held ≡ most_aliases
     → IsRight (look_from c asked before (s ∷ past)) n q (look_up c.routes n cache.entries more held wanted)
 
--- In a step that accepts nothing a look-up among stale entries `IsRightPast` (RFC 8767 5).
+-- In a step without an accepted reply a look-up among stale entries `IsRightPast` (RFC 8767 5).
 abbrev pub LookUpsPastEndsAreRight : Type 0
 LookUpsPastEndsAreRight = (c : Config) (asked s : Step) (before past : List Step) (m n : ℕ) (cache : Cache)
     (q : Question) (most : ℕ) (chain : List Held) → IsCached c past m cache → m ≡ moment_at past
@@ -105,14 +105,15 @@ LookUpsPastEndsAreRight = (c : Config) (asked s : Step) (before past : List Step
 
 -- ---- answers
 
--- An answer's octets that fit the transport are read as it, or as the same cut.
+-- An answer's octets, if they fit the transport, are read as the answer, or as the answer
+-- truncated.
 abbrev pub AnswersAreSpelled : Type 0
 AnswersAreSpelled = (a : Asked) (q : Question) (t : ℕ) (aliases : List Held) (end : Held) → CanBeRepeated a q
     → AllByRecursion (CanBeTold t) (aliases ++ end ∷ []) → (client : Client)
     → FitsTransport client (sized_for client (answer_text a aliases end t) (cut_text a aliases end t))
     → SpellsAnswer (sized_for client (answer_text a aliases end t) (cut_text a aliases end t)) a (aliases ++ end ∷ []) t
 
--- So are those of an answer with expired data (RFC 8767 4).
+-- The octets of an answer with expired data are read so, too (RFC 8767 4).
 abbrev pub StaleAnswersAreSpelled : Type 0
 StaleAnswersAreSpelled = (a : Asked) (q : Question) (t : ℕ) (held past : List Held) (end : Held) → CanBeRepeated a q
     → AllByRecursion (CanBeTold t) (held ++ (past ++ end ∷ [])) → (client : Client)
@@ -121,7 +122,7 @@ StaleAnswersAreSpelled = (a : Asked) (q : Question) (t : ℕ) (held past : List 
     → SpellsSections (sized_for client (full_text a (stale_sections t held past end))
     (short_text a (stale_sections t held past end))) a (stale_sections t held past end)
 
--- So are those of a denial by the configuration.
+-- The octets of a denial by the configuration are read so, too.
 abbrev pub LocalAnswersAreSpelled : Type 0
 LocalAnswersAreSpelled = (a : Asked) (q : Question) (t : ℕ) (aliases : List Held) → CanBeRepeated a q
     → AllByRecursion (CanBeTold t) aliases → (client : Client)
@@ -136,7 +137,7 @@ AnswersFromCacheAgree = (c : Config) (past : List Step) (m n : ℕ) (cache : Cac
     → IsCached c past m cache → m ≡ moment_at past → IsStillFound c n cache.entries q octets
     → SameAsEarlierFromCache c n q octets past
 
--- A promotion changes no answer that is still found.
+-- A promotion changes no answer still found.
 abbrev pub PromotionsFindTheSame : Type 0
 PromotionsFindTheSame = (c : Config) (past : List Step) (m n : ℕ) (cache : Cache) (used : List Slot) (q : Question)
     (octets : List ℕ) → IsCached c past m cache → IsStillFound c n cache.entries q octets
@@ -144,7 +145,7 @@ PromotionsFindTheSame = (c : Config) (past : List Step) (m n : ℕ) (cache : Cac
 
 -- ---- aliases that are held
 
--- Aliases that lead on still do after one more step of the era.
+-- Aliases that lead on still do after a further step of the era.
 abbrev pub LeadsStayLeads : Type 0
 LeadsStayLeads = (c : Config) (asked s : Step) (before now : List Step) (q : Question) (held : List Held)
     (last : Question) → GoesOn c s now → Leads (look_from c asked before now) q held last

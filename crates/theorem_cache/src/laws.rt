@@ -8,26 +8,26 @@ ghost use Rattle.theorem_cache.specs.Laws.{OffersKeep};
 ghost use Rattle.theorem_cache.specs.Laws.{PromotionsFindTheSame, PromotionsKeep, QuietStepsKeep};
 ghost use Rattle.theorem_cache.specs.Laws.{StaleAnswersAreSpelled};
 
-/// The cache that a history explains stays explained: after a step that accepts nothing, where each
-/// of its answers from cache is found now; after a promotion; and after the offers of the pieces
-/// that an accepted reply carried, whatever memory there is.
+/// A cache explained by a history stays explained: after a step without an accepted reply, if each
+/// of its answers from cache is found now; after a promotion; and after the offers of an accepted
+/// reply's pieces, whatever memory there is.
 pub fn what_is_kept_stays_explained()
     ensures quiet { QuietStepsKeep }
     ensures promoted { PromotionsKeep }
     ensures offered { OffersKeep }
 {}
 
-/// The pieces of an accepted reply can be kept; and they answer each question of the era that is
-/// equal to the one asked, or lead it on to the name that the walk ends at.
+/// The pieces of an accepted reply can be kept; and they answer each question of the era equal to
+/// the asked question, or lead the question on to the name at the walk's end.
 pub fn accepted_pieces_serve()
     ensures kept { AcceptedPiecesCanBeKept }
     ensures answered { AcceptedPiecesAnswer }
     ensures led { AcceptedPiecesLeadOn }
 {}
 
-/// Look-ups of a client's question, and of one that waits and holds aliases. At most eight
-/// justified aliases lead to the piece that ends the look-up, or to a question that it misses; or
-/// nine lead on, and it fails.
+/// Look-ups of a client's question, and of a waiting question with aliases. At most eight justified
+/// aliases lead to the piece at the look-up's end, or to the missed question; or nine lead on, and
+/// the look-up fails.
 pub fn look_ups_are_right()
     ensures asked { LookUpsAreRight }
     ensures waiting { LookUpsThatGoOnAreRight }
@@ -40,22 +40,23 @@ pub fn look_ups_past_ends_are_right()
     ensures { LookUpsPastEndsAreRight }
 {}
 
-/// An answer from cache has the result code and sections of each earlier one to an equal question
-/// at its moment, as far back as nothing was accepted. A promotion changes no look-up.
+/// An answer from cache has the result code and sections of each earlier answer to an equal
+/// question at its moment, as far back as nothing was accepted. A promotion changes no look-up.
 pub fn answers_from_cache_agree()
     ensures agree { AnswersFromCacheAgree }
     ensures found { PromotionsFindTheSame }
 {}
 
-/// The octets that a client gets from a chain are read as the answer, or as the same cut to the
-/// question. So are those of an answer with expired data, and of a denial by the configuration.
+/// The octets for a client from a chain are read as the answer, or as the answer truncated to the
+/// question. The octets of an answer with expired data, and of a denial by the configuration, are
+/// read so, too.
 pub fn answers_are_spelled()
     ensures living { AnswersAreSpelled }
     ensures stale { StaleAnswersAreSpelled }
     ensures local { LocalAnswersAreSpelled }
 {}
 
-/// The aliases that a waiting question holds still lead on after each step of the era.
+/// The aliases of a waiting question still lead on after each step of the era.
 pub fn what_leads_still_leads()
     ensures { LeadsStayLeads }
 {}

@@ -20,12 +20,13 @@ use Rattle.step_values.specs.declared.action.Why.{Why}
 use Rattle.step_values.specs.declared.action.Why.TheVariants.{Answered, NoRoute, ChainLong, TooLarge, Stale, LocalDenied}
 use Rattle.step_values.specs.Values.{Action, send_reply, Step}
 use Rattle.suffix_routes.specs.Serving.{serving_route_of, is_local}
+use Rattle.cache_laws.proofs.CallerLemmas.{denies_names_exactly, none_serves_exactly}
 use Rattle.step_history.specs.History.{is_restart, is_taken_request, listed, moment_at, Look, Reads}
 use Rattle.step_history.specs.Answers.{FollowsAliases, Leads, Chain}
 use Rattle.step_history.specs.Stale.{ChainPastEnds}
 use Rattle.step_history.specs.Local.{ChainToLocal}
 use Rattle.step_history.specs.Replies.{answer_text, cut_text, full_text, short_text, stale_sections, denied_sections, sized_for, FitsTransport, failure_text}
-use Rattle.step_history.specs.Causes.{AllTriesFailed, Cause, ClosesNow, LastFailed, NoneAsks}
+use Rattle.step_history.specs.Causes.{AllTriesFailed, Cause, TriesFailed, NoneAsks}
 use Rattle.step_history.specs.Sound.{unanswered, RightReply}
 use Rattle.waiting_questions.specs.Values.{Waiting}
 use Rattle.step_table.specs.Steps.{transport_of, gives_up, sends, answered, answered_past, denied_locally}
@@ -163,10 +164,10 @@ answer_owned c n now x i k is aliases end chain told = sized_owned c now x i k A
 
 -- once all tries failed, the expired data that was found is sent, or is too large to be
 pub stale_owned : (c : Config) (n : ℕ) (now : List Step) (x : Waiting) (i : ℕ) (k : Comes now x.client x.asked i) → n ≡ moment_at now
-    → Leads (look_from c k.asked k.before now) k.question x.held x.wanted → LastFailed c x.wanted now c.limits.tries → ClosesNow x.wanted now → NoneAsks x.wanted (listed now)
+    → Leads (look_from c k.asked k.before now) k.question x.held x.wanted → TriesFailed c x.wanted now c.limits.tries → NoneAsks x.wanted (listed now)
     → 1 ≤ c.limits.stale_s → AllByRecursion (CanBeTold n) x.held
     → (most : ℕ) (found : List Held) → most + length x.held ≡ 8 → IsRightPast (look_from c k.asked k.before now) n x.wanted most found → OwnsReply c now i (answered_past n x found)
-stale_owned c n now x i k is leads failed closed none window told most found room right_past =
+stale_owned c n now x i k is leads failed none window told most found room right_past =
     subst (λ (chain : List Held). OwnsReply c now i (answered_past n x chain)) (sym right_past.whole) (sized_owned c now x i k Stale (stale_sections n x.held past end) right large)
   where
     look : Look
@@ -179,7 +180,7 @@ stale_owned c n now x i k is leads failed closed none window told most found roo
     end = right_past.end
 
     tries : AllTriesFailed look k.request
-    tries = record { question = k.question; reads = k.reads; aliases = x.held; last = x.wanted; leads = leads; failed = failed; closed = closed; none_left = none }
+    tries = record { question = k.question; reads = k.reads; aliases = x.held; last = x.wanted; leads = leads; failed = failed; none_left = none }
 
     chain : ChainPastEnds look x.held x.wanted past end
     chain = record {
@@ -287,7 +288,7 @@ pub without_server_owned : (c : Config) (n : ℕ) (now : List Step) (x : Waiting
     → OwnsReply c now i (without_server c n x aliases last.name)
 without_server_owned c n now x i k is aliases last leads none at_once told =
     cond_both (is_local c last.name) (denied_locally n x aliases) (gives_up NoRoute x) (OwnsReply c now i)
-    (λ denied. local_owned c n now x i k is aliases (record { last = last; leads = leads; denied = denied; at_once = at_once }) told)
+    (λ denied. local_owned c n now x i k is aliases (record { last = last; leads = leads; denied = denies_names_exactly.only c last.name denied; at_once = at_once }) told)
     (λ served. owns c now x.client x.asked i k NoRoute (failure_text x.asked NoRoute) (λ waiting. (
       failure_told now x.client x.asked i k NoRoute,
       record {
@@ -298,8 +299,7 @@ without_server_owned c n now x i k is aliases last leads none at_once told =
         aliases = aliases;
         last = last;
         leads = leads;
-        none = none;
-        not_denied = served;
+        none = none_serves_exactly.only c last.name none served;
         at_once = at_once;
       },
     )))

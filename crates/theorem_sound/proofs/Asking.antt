@@ -11,10 +11,10 @@ use Rattle.suffix_routes.specs.Values.{Config}
 use Rattle.outstanding.specs.declared.ask.Path.{Path}
 use Rattle.outstanding.specs.Values.{Ask}
 use Rattle.outstanding.specs.Lists.{Follows, AreInTurn, AreListed}
-use Rattle.step_values.specs.Values.{Step}
+use Rattle.step_values.specs.Values.{Action, Step}
 use Rattle.step_history.specs.History.{ShownAsk, is_restart, listed, on_path, closes_path, Reads}
 use Rattle.outstanding.specs.Draws.{ask_message}
-use Rattle.step_history.specs.Causes.{ClosesAsk, LastFailed, NoneAsks}
+use Rattle.step_history.specs.Causes.{ClosesAsk, NoneAsks, SendsAsk, LeavesAsks, FailedSoFar}
 use Rattle.step_history.specs.Asked.{DiffersFrom, AreApart, AreRightAsks, AsksWell}
 use Rattle.theorem_sound.specs.Explains.{shown, Tried}
 
@@ -49,9 +49,9 @@ asked_more c s past asks before shown_is are tried right =
 
 -- ---- tries
 
--- a step that closes no ask of a question leaves its tries
-pub tried_on : (c : Config) (s : Step) (past : List Step) (a : Ask) → is_restart s ≡ false → (ClosesAsk a.question s past → ⊥) → Tried c past a → Tried c (s ∷ past) a
-tried_on c s past a run none h = record {
+-- a step that closes no ask of a question and sends none leaves its tries
+pub tried_on : (c : Config) (s : Step) (past : List Step) (a : Ask) → is_restart s ≡ false → LeavesAsks a.question s past → Tried c past a → Tried c (s ∷ past) a
+tried_on c s past a run left h = record {
   question = h.question;
   reads = h.reads;
   identifier = h.identifier;
@@ -62,13 +62,18 @@ tried_on c s past a run none h = record {
   failed = by h.before h.failed;
 }
   where
-    by : (k : ℕ) → LastFailed c a.question past k → LastFailed c a.question (s ∷ past) k
-    by zero f = tt
-    by (suc k) f = (run, inr (none, f))
+    by : (k : ℕ) → FailedSoFar c a.question past k → FailedSoFar c a.question (s ∷ past) k
+    by zero f = (run, inr (left, f))
+    by (suc k) f = (run, inr (left, f))
 
-pub all_tried_on : (c : Config) (s : Step) (past : List Step) (asks : List Ask) → is_restart s ≡ false → ((q : Question) → ClosesAsk q s past → ⊥) → AllByRecursion (Tried c past) asks → AllByRecursion (Tried c (s ∷ past)) asks
-all_tried_on c s past [] run none all = tt
-all_tried_on c s past (a ∷ asks) run none all = (tried_on c s past a run (none a.question) all.0, all_tried_on c s past asks run none all.1)
+-- the actions ask the question of none of these
+abbrev pub AsksNone : List Action → List Ask → Type 0
+AsksNone actions asks = AllByRecursion (λ a. SendsAsk a.question actions → ⊥) asks
+
+pub all_tried_on : (c : Config) (s : Step) (past : List Step) (asks : List Ask) → is_restart s ≡ false → ((q : Question) → ClosesAsk q s past → ⊥) → AsksNone s.outcome.actions asks
+    → AllByRecursion (Tried c past) asks → AllByRecursion (Tried c (s ∷ past)) asks
+all_tried_on c s past [] run none silent all = tt
+all_tried_on c s past (a ∷ asks) run none silent all = (tried_on c s past a run (none a.question, silent.0) all.0, all_tried_on c s past asks run none silent.1 all.1)
 
 -- actions that close no path close no ask
 pub closes_none : (s : Step) (past : List Step) → ((p : Path) → closes_path p s.outcome.actions ≡ false) → (q : Question) → ClosesAsk q s past → ⊥
@@ -86,10 +91,10 @@ closes_one c s past a only on reads q k =
 
 -- so it leaves the tries of all others
 pub others_tried_on : (c : Config) (s : Step) (past : List Step) (a : Ask) (asks : List Ask) → is_restart s ≡ false → ((q : Question) → ClosesAsk q s past → same_question q a.question ≡ true)
-    → AllByRecursion (λ b. same_question b.question a.question ≡ false) asks → AllByRecursion (Tried c past) asks → AllByRecursion (Tried c (s ∷ past)) asks
-others_tried_on c s past a [] run only other all = tt
-others_tried_on c s past a (b ∷ asks) run only other all =
-    (tried_on c s past b run (λ k. false≢true (sym other.0 ∙ only b.question k)) all.0, others_tried_on c s past a asks run only other.1 all.1)
+    → AllByRecursion (λ b. same_question b.question a.question ≡ false) asks → AsksNone s.outcome.actions asks → AllByRecursion (Tried c past) asks → AllByRecursion (Tried c (s ∷ past)) asks
+others_tried_on c s past a [] run only other silent all = tt
+others_tried_on c s past a (b ∷ asks) run only other silent all =
+    (tried_on c s past b run ((λ k. false≢true (sym other.0 ∙ only b.question k)), silent.0) all.0, others_tried_on c s past a asks run only other.1 silent.1 all.1)
 
 -- none of the shown asks is of a question that no listed ask has
 pub none_asks : (c : Config) (now : List Step) (q : Question) (asks : List Ask) → AllByRecursion (Tried c now) asks → AllByRecursion (λ b. same_question b.question q ≡ false) asks → NoneAsks q (map shown asks)

@@ -5,6 +5,7 @@ use Rattle.dns_message.specs.Values.{Question}
 use Rattle.suffix_routes.specs.declared.peer.Peer.{Peer}
 use Rattle.suffix_routes.specs.Values.{Config, Route}
 use Rattle.suffix_routes.specs.Serving.{serving_route_of}
+use Rattle.cache_laws.proofs.CallerLemmas.{serves_exactly}
 use Rattle.step_history.specs.Asked.{IsServerFor}
 use Rattle.step_table.specs.Attempts.{group_of, servers_in, peer_at}
 
@@ -18,4 +19,4 @@ group_there (Some r) server p e = (r, refl, e)
 pub serves : (c : Config) (q : Question) (route server : ℕ) (p : Peer) → serving_route_of c q.name ≡ Some route → peer_at c route server ≡ Some p → IsServerFor c q p
 serves c q route server p on there =
     let at = group_there (group_of c route) server p there in
-    record { route = route; group = at.0; place = server; route_is = on; there = at.1; server = at.2 }
+    record { route = route; group = at.0; place = server; route_is = serves_exactly.only c q.name route on; there = at.1; server = at.2 }

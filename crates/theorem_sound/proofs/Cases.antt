@@ -30,8 +30,10 @@ use Rattle.theorem_sound.proofs.Answering.{comes_later}
 use Rattle.step_table.proofs.CallerLemmas.{All-append, All-weaker, All-filter, still_earlier, preferred_first}
 use Rattle.theorem_sound.proofs.Fates.{Distinct, fates_in, numbers_in, owners_by, left_by, left_firsts, left_seconds, All-owners, Distinct-owners, left_each}
 use Rattle.step_history.proofs.CallerLemmas.{moment_later}
-use Rattle.theorem_sound.proofs.Asking.{asked_more, closes_none, all_tried_on}
+use Rattle.theorem_sound.proofs.Asking.{asked_more, closes_none, AsksNone, all_tried_on}
 use Rattle.theorem_sound.proofs.Due.{due_is}
+use Rattle.theorem_sound.proofs.Nexts.{MayFollow, listed_next}
+use Rattle.theorem_sound.proofs.Tries.{sends_next, reply_sends_none, asks_none, next_asks_none}
 use Rattle.theorem_sound.proofs.Numbers.{unanswered-more, are_free, numbers_left, numbers_at_once, numbers_waiting}
 use Rattle.theorem_sound.proofs.Actions.{OwnsReply, AreFated, past_replies, fated_speak, owned_replies, owned_closing, owned_asks, AskedAt, next_listed, closing_tcp, next_tcp, asks_close_none, listed_settled, right_closing, IsRightNext, right_next, right_replies}
 
@@ -214,8 +216,8 @@ module _ (c : Config) (past : List Step) (w : List (List ℕ)) (s : State) (x : 
       earlier_now : AllByRecursion (λ a. a.asked ≤ n) (without_ask close s.asks ++ ask_list next)
       earlier_now = All-append (λ a. a.asked ≤ n) (without_ask close s.asks) (ask_list next) (earlier_left close) (earlier_next next asked_at)
 
-  none_tried : (actions : List Action) → IsNow actions → ((p : Path) → closes_path p actions ≡ false) → AllByRecursion (Tried c (step_of h actions unkept more ∷ past)) s.asks
-  none_tried actions now quiet = all_tried_on c (step_of h actions unkept more) past s.asks now.0 (closes_none (step_of h actions unkept more) past quiet) x.tried
+  none_tried : (actions : List Action) → IsNow actions → ((p : Path) → closes_path p actions ≡ false) → AsksNone actions s.asks → AllByRecursion (Tried c (step_of h actions unkept more ∷ past)) s.asks
+  none_tried actions now quiet silent = all_tried_on c (step_of h actions unkept more) past s.asks now.0 (closes_none (step_of h actions unkept more) past quiet) silent x.tried
 
   -- nothing happens
   pub idle_explained : (after : State) → after ≡ record s { moment = n } → IsNow [] → takes_question h.event ≡ false → NothingAccepted c (step_of h [] unkept more) past → more ≡ is_due_at c n after
@@ -229,7 +231,7 @@ module _ (c : Config) (past : List Step) (w : List (List ℕ)) (s : State) (x : 
     asks = ap (λ (st : State). map shown st.asks) after_is ∙ x.asks;
     asks_are = subst (λ (st : State). AreListed (record { capacity = c.limits.inquiries; asks = st.asks })) (sym after_is) x.asks_are;
     earlier = subst (λ (st : State). AllByRecursion (λ a. a.asked ≤ st.moment) st.asks) (sym after_is) (all_earlier [] now);
-    tried = subst (λ (st : State). AllByRecursion (Tried c (step ∷ past)) st.asks) (sym after_is) (none_tried [] now (λ p. refl));
+    tried = subst (λ (st : State). AllByRecursion (Tried c (step ∷ past)) st.asks) (sym after_is) (none_tried [] now (λ p. refl) (asks_none [] (λ q k. k) s.asks));
     connections = subst (λ (st : State). AllByRecursion (λ a. IsBelow st.tcp_asks a.path) st.asks) (sym after_is) x.connections;
     right = tt;
     preferred = subst (λ (st : State). ArePreferred c.routes st.preferred) (sym after_is) x.preferred;
@@ -267,7 +269,7 @@ module _ (c : Config) (past : List Step) (w : List (List ℕ)) (s : State) (x : 
     asks = ap (λ (st : State). map shown st.asks) after_is ∙ x.asks;
     asks_are = subst (λ (st : State). AreListed (record { capacity = c.limits.inquiries; asks = st.asks })) (sym after_is) x.asks_are;
     earlier = subst (λ (st : State). AllByRecursion (λ a. a.asked ≤ st.moment) st.asks) (sym after_is) (all_earlier (send_reply client octets why ∷ []) now);
-    tried = subst (λ (st : State). AllByRecursion (Tried c (step ∷ past)) st.asks) (sym after_is) (none_tried (send_reply client octets why ∷ []) now (λ p. refl));
+    tried = subst (λ (st : State). AllByRecursion (Tried c (step ∷ past)) st.asks) (sym after_is) (none_tried (send_reply client octets why ∷ []) now (λ p. refl) (asks_none (send_reply client octets why ∷ []) (λ q k. reply_sends_none q client octets why k) s.asks));
     connections = subst (λ (st : State). AllByRecursion (λ a. IsBelow st.tcp_asks a.path) st.asks) (sym after_is) x.connections;
     right = (tt, tt);
     preferred = subst (λ (st : State). ArePreferred c.routes st.preferred) (sym after_is) x.preferred;
@@ -289,14 +291,14 @@ module _ (c : Config) (past : List Step) (w : List (List ℕ)) (s : State) (x : 
       → after ≡ record s { cache = cache; asks = s.asks ++ ask_list next; waiting = s.waiting ++ y ∷ []; moment = n; tcp_asks = s.tcp_asks + tcp_count next }
       → IsNow (map asks (ask_list next)) → takes_question h.event ≡ true → NothingAccepted c (step_of h (map asks (ask_list next)) unkept more) past
       → Waits c (step_of h (map asks (ask_list next)) unkept more ∷ past) y (length past) → length s.waiting + 1 ≤ c.limits.questions
-      → AskedAt n next → AreListed (record { capacity = c.limits.inquiries; asks = s.asks ++ ask_list next })
+      → AskedAt n next → MayFollow c s.asks next
       → AllByRecursion (Tried c (step_of h (map asks (ask_list next)) unkept more ∷ past)) (ask_list next)
       → AllByRecursion (λ a. IsBelow (s.tcp_asks + tcp_count next) a.path) (s.asks ++ ask_list next)
       → IsRightNext c (step_of h (map asks (ask_list next)) unkept more) past next
       → IsCached c (step_of h (map asks (ask_list next)) unkept more ∷ past) n cache
       → more ≡ is_due_at c n after
       → Explains c (step_of h (map asks (ask_list next)) unkept more ∷ past) ([] ∷ w) after
-  taken_explained y next cache after after_is now takes nothing waiting_is room asked_at asks_are tried below right cached more_is = explained c past w s after step [] x (record {
+  taken_explained y next cache after after_is now takes nothing waiting_is room asked_at may tried below right cached more_is = explained c past w s after step [] x (record {
     runs = now.0;
     owned = owned_asks c (step ∷ past) next (concat w);
     same = λ q octets f. absurd (silent next octets f.1);
@@ -304,9 +306,9 @@ module _ (c : Config) (past : List Step) (w : List (List ℕ)) (s : State) (x : 
     tcp = ap (λ (st : State). st.tcp_asks) after_is ∙ (λ i. x.tcp i + sym (next_tcp next) i);
     asks = ap (λ (st : State). map shown st.asks) after_is ∙ map-append shown s.asks (ask_list next) ∙ ap (λ ls. ls ++ map shown (ask_list next)) x.asks
         ∙ sym (next_listed (moment_at (step ∷ past)) next (listed past) (subst (λ (t : ℕ). AskedAt t next) now.1 asked_at));
-    asks_are = subst (λ (st : State). AreListed (record { capacity = c.limits.inquiries; asks = st.asks })) (sym after_is) asks_are;
+    asks_are = subst (λ (st : State). AreListed (record { capacity = c.limits.inquiries; asks = st.asks })) (sym after_is) (listed_next c s.asks next x.asks_are may);
     earlier = subst (λ (st : State). AllByRecursion (λ a. a.asked ≤ st.moment) st.asks) (sym after_is) (All-append (λ a. a.asked ≤ n) s.asks (ask_list next) (all_earlier (map asks (ask_list next)) now) (earlier_one next asked_at));
-    tried = subst (λ (st : State). AllByRecursion (Tried c (step ∷ past)) st.asks) (sym after_is) (All-append (Tried c (step ∷ past)) s.asks (ask_list next) (none_tried (map asks (ask_list next)) now (λ p. asks_close_none p next)) tried);
+    tried = subst (λ (st : State). AllByRecursion (Tried c (step ∷ past)) st.asks) (sym after_is) (All-append (Tried c (step ∷ past)) s.asks (ask_list next) (none_tried (map asks (ask_list next)) now (λ p. asks_close_none p next) (next_asks_none c (step ∷ past) next s.asks (map asks (ask_list next)) tried may (λ q k. sends_next q next k))) tried);
     connections = subst (λ (st : State). AllByRecursion (λ a. IsBelow st.tcp_asks a.path) st.asks) (sym after_is) below;
     right = right_next c step past next right;
     preferred = subst (λ (st : State). ArePreferred c.routes st.preferred) (sym after_is) x.preferred;

@@ -22,6 +22,7 @@ use Rattle.step_values.specs.Values.{from_client, Action, ask_udp, ask_tcp, clos
 use Rattle.plain_values.specs.Octets.{AreOctets}
 use Rattle.suffix_routes.specs.Serving.{serving_route_of}
 use Rattle.step_history.specs.History.{moment_at, listed, Reads, NothingAccepted}
+use Rattle.step_history.specs.Causes.{NoneAsks}
 use Rattle.step_values.specs.Requests.{is_taken}
 use Rattle.step_history.specs.Draws.{drawn}
 use Rattle.step_history.specs.Replies.{failure_text}
@@ -41,14 +42,16 @@ use Rattle.theorem_cache.specs.Chains.{look_from, IsRightEnd, EndsRight, IsSized
 use Rattle.theorem_sound.specs.Explains.{shown, Comes, Waits, Explains}
 use Rattle.step_table.specs.Progress.{IsBelow}
 use Rattle.theorem_cache.proofs.CallerLemmas.{quiet_steps_keep, promotions_keep_cached, look_ups_are_right, answers_from_cache_agree, promotions_find_the_same}
-use Rattle.step_table.proofs.CallerLemmas.{All-append, still_earlier, IsAskBy, ask_by-some, ask_by-none, udp-some, udp-none, preferred_peer, IsFresh, drawn_fresh, free_now}
+use Rattle.step_table.proofs.CallerLemmas.{All-append, still_earlier, IsAskBy, ask_by-some, ask_by-none, udp-some, udp-none, preferred_peer, IsFresh, drawn_fresh, free_now, none_same}
 use Rattle.theorem_sound.proofs.Answering.{IsTold, answered_told, answer_owned, without_server_owned, without_server_fails}
 use Rattle.theorem_sound.proofs.Actions.{OwnsReply, asks_answer_none}
 use Rattle.theorem_sound.proofs.SendingOn.{question_led}
 use Rattle.theorem_sound.proofs.AskText.{read_well}
 use Rattle.theorem_sound.proofs.Listed.{drawn-shown}
 use Rattle.theorem_sound.proofs.Matching.{is_full, has_room}
-use Rattle.theorem_sound.proofs.Nexts.{IsNext, next_tried, next_right, listed_next, all_below}
+use Rattle.theorem_sound.proofs.Asking.{none_asks}
+use Rattle.theorem_sound.proofs.Nexts.{IsNext, next_tried, next_right, all_below}
+use Rattle.theorem_sound.proofs.Tries.{next_asks, next_sends}
 use Rattle.theorem_sound.proofs.Cases.{step_of, idle_explained, at_once_explained, taken_explained}
 use Rattle.step_history.proofs.CallerLemmas.{moment_small}
 
@@ -195,7 +198,7 @@ module _ (c : Config) (past : List Step) (w : List (List ℕ)) (s : State) (x : 
       opened room room_asked new (Some a) is = λ more_is. (
         [],
         taken_explained c past w s x handed unkept more n z (Some a) used after refl (refl, moment) takes (no_delivery (asks a ∷ [])) (waits_now (asks a ∷ [])) room facts.asked
-            (listed_next c s.asks (Some a) x.asks_are (record { path = free; question = ap (λ (v : Question). of_question v s.asks) facts.question ∙ new; later = later; in_time = in_time }, omega (arith, room_asked)))
+            (record { path = free; question = ap (λ (v : Question). of_question v s.asks) facts.question ∙ new; later = later; in_time = in_time }, omega (arith, room_asked))
             (next_tried c (step (asks a ∷ []) ∷ past) l.wanted a next, tt)
             below
             (next_right c (step (asks a ∷ [])) past (step (asks a ∷ []) ∷ past) l.wanted a next drawn_so)
@@ -215,6 +218,10 @@ module _ (c : Config) (past : List Step) (w : List (List ℕ)) (s : State) (x : 
           after : State
           after = record s { cache = used; asks = s.asks ++ a ∷ []; waiting = s.waiting ++ z ∷ []; moment = n; tcp_asks = s.tcp_asks + tcp_count (Some a) }
 
+          -- no ask of it was listed
+          none_before : NoneAsks l.wanted (listed past)
+          none_before = subst (NoneAsks l.wanted) x.asks (none_asks c past l.wanted s.asks x.tried (none_same l.wanted s.asks new))
+
           next : IsNext c (step (asks a ∷ []) ∷ past) l.wanted a
           next = record {
             question = facts.question;
@@ -224,7 +231,7 @@ module _ (c : Config) (past : List Step) (w : List (List ℕ)) (s : State) (x : 
             server = (λ i. peer_at c (facts.route_is i) (facts.server_is i)) ∙ facts.peer_is;
             before = 0;
             used = facts.used_is;
-            failed = tt;
+            failed = (refl, inl (next_sends l.wanted (Some a) (next_asks l.wanted a facts.question is_question fresh.small), inl none_before));
           }
 
           free : ask_on a.path s.asks ≡ None
@@ -261,7 +268,7 @@ module _ (c : Config) (past : List Step) (w : List (List ℕ)) (s : State) (x : 
       inquired room (Some a) there = λ more_is. (
         [],
         taken_explained c past w s x handed unkept more n z None used (record s { cache = used; asks = s.asks ++ []; waiting = s.waiting ++ z ∷ []; moment = n; tcp_asks = s.tcp_asks + 0 }) refl (refl, moment) takes (no_delivery []) (waits_now []) room tt
-            (listed_next c s.asks None x.asks_are tt) tt (subst (λ (as' : List Ask). AllByRecursion (λ b. IsBelow (s.tcp_asks + 0) b.path) as') (sym (append-nil s.asks)) all_below_one) tt
+            tt tt (subst (λ (as' : List Ask). AllByRecursion (λ b. IsBelow (s.tcp_asks + 0) b.path) as') (sym (append-nil s.asks)) all_below_one) tt
             (cached [] used used_is (λ v octets f. absurd f.1)) more_is,
       )
       inquired room None new =

@@ -32,10 +32,12 @@ use Rattle.trust_rank.specs.declared.slot.Slot.{Slot}
 use Rattle.trust_rank.specs.Values.{Piece, End, found, ends_no_data, ends_denied, elsewhere, lame, Walk}
 use Rattle.trust_rank.specs.Walks.{walk_of, is_lame, has_last}
 use Rattle.step_history.specs.History.{moment_at, ShownAsk, listed, on_path, Matches, Accepts, Carries, NothingAccepted}
+use Rattle.step_history.specs.Causes.{NoneAsks, AcceptsFor}
 use Rattle.step_history.specs.Draws.{drawn}
 use Rattle.step_history.specs.Asked.{IsDrawn}
 use Rattle.step_history.specs.Replies.{failure_text}
-use Rattle.step_history.proofs.CallerLemmas.{moment_small}
+use Rattle.step_history.proofs.CallerLemmas.{moment_small, accepted_fine, accepted_pieces, walk_accepted, walk_accepted-asked}
+use Rattle.cache_laws.proofs.CallerLemmas.{serves_exactly}
 use Rattle.step_table.specs.State.{State, turn}
 use Rattle.waiting_questions.specs.Values.{Waiting, waits_for}
 use Rattle.step_table.specs.Steps.{Done, Fate, gets, waits, still_waiting, with_preferred_server, with_promoted, ask_list, tcp_count, closing_step, offering_step}
@@ -51,9 +53,11 @@ use Rattle.theorem_sound.proofs.Fates.{Fated, fated, fated_fates, fated_each}
 use Rattle.theorem_sound.proofs.Names.{same_peer-is}
 use Rattle.theorem_sound.proofs.Messages.{spells_read, read_spells, read_header}
 use Rattle.theorem_sound.proofs.Listed.{on_path-shown, shown_from}
-use Rattle.step_table.proofs.CallerLemmas.{ask_on-is, without_shorter, IsFresh, drawn_fresh, free_now, still_earlier, draws_left, IsAskBy, ask_by-some, ask_by-none, udp-some, udp-none, peer_within, preferred_peer, preferred_put}
-use Rattle.theorem_sound.proofs.Matching.{judged_parts, MatchFacts, match_facts}
+use Rattle.step_table.proofs.CallerLemmas.{ask_on-is, without_shorter, IsFresh, drawn_fresh, free_now, still_earlier, draws_left, IsAskBy, ask_by-some, ask_by-none, udp-some, udp-none, peer_within, preferred_peer, preferred_put, none_same}
+use Rattle.theorem_sound.proofs.Matching.{judged_parts, judged_match, match_facts}
+use Rattle.theorem_sound.proofs.Asking.{none_asks}
 use Rattle.theorem_sound.proofs.Nexts.{IsNext, next_tried, next_right, MayFollow}
+use Rattle.theorem_sound.proofs.Tries.{next_asks, settled_sends, other_asks}
 use Rattle.theorem_sound.proofs.Actions.{OwnsReply, Speaks, fated_speak, AskedAt, IsRightNext}
 use Rattle.theorem_sound.proofs.Answering.{owns, failure_told}
 use Rattle.theorem_cache.proofs.CallerLemmas.{accepted_pieces_can_be_kept, promotions_keep_cached, offers_keep_cached}
@@ -92,25 +96,25 @@ module _ (c : Config) (past : List Step) (w : List (List ℕ)) (s : State) (x : 
     ask = a;
     on = at.1;
     live = lt-ltb n (timeout_of c a) (subst (λ (t : ℕ). t < timeout_of c a) (sym (moment_now actions)) (subst (λ (q : ShownAsk). moment_at (told actions ∷ past) < q.moment + c.limits.ask_ms) (sym at.2) of_ask.is_live));
-    whole = cond-true (matches a from octets) _ _ matched ∙ cond-false (header_in octets).tc _ _ (ap (λ (h : Header). h.tc) header_is ∙ k.accepts.untruncated) ∙ cond-true (((header_in octets).rcode == 0) || ((header_in octets).rcode == 3)) _ _ rcode ∙ ap judged_whole read;
-    message = k.message;
+    whole = cond-true (matches a from octets) _ _ matched ∙ cond-false (header_in octets).tc _ _ (ap (λ (h : Header). h.tc) header_is ∙ accepts.untruncated) ∙ cond-true (((header_in octets).rcode == 0) || ((header_in octets).rcode == 3)) _ _ rcode ∙ ap judged_whole read;
+    message = accepts.message;
     read = read;
-    fine = subst (λ (z : Question × ℕ). is_lame (walk_of c k.message z.0 z.1).end ≡ false) (λ i. (question_is i, route_is i)) accepts.not_lame;
+    fine = subst (λ (z : Question × ℕ). is_lame (walk_of c accepts.message z.0 z.1).end ≡ false) (λ i. (question_is i, route_is i)) (accepted_fine c (told actions) past k.pieces k.servers x.config.differ accepts);
     carried = ps;
-    carried_are = k.are ∙ (λ i. (walk_of c k.message (question_is i) (route_is i)).pieces ++ (walk_of c k.message (question_is i) (route_is i)).authority);
+    carried_are = k.are ∙ accepted_pieces c (told actions) past k.pieces k.servers x.config.differ accepts ∙ (λ i. (walk_of c accepts.message (question_is i) (route_is i)).pieces ++ (walk_of c accepts.message (question_is i) (route_is i)).authority);
   }
     where
-      accepts : Accepts c (told actions) past k.ask k.asked k.route k.message
+      accepts : Accepts c (told actions) past k.pieces k.servers
       accepts = k.accepts
 
-      of_ask : Matches c (told actions) past k.ask accepts.octets k.asked
+      of_ask : Matches c (told actions) past accepts.ask accepts.octets accepts.asked
       of_ask = accepts.matches
 
       came : Delivered
       came = record { path = path; from = from; octets = octets }
 
       awaited : Delivered
-      awaited = record { path = k.ask.path; from = k.ask.server; octets = accepts.octets }
+      awaited = record { path = accepts.ask.path; from = accepts.ask.server; octets = accepts.octets }
 
       delivered_is : came ≡ awaited
       delivered_is = let same : Some came ≡ Some awaited = of_ask.delivered in cc
@@ -118,8 +122,8 @@ module _ (c : Config) (past : List Step) (w : List (List ℕ)) (s : State) (x : 
       octets_is : octets ≡ accepts.octets
       octets_is = ap (λ (d : Delivered). d.octets) delivered_is
 
-      at : (a : Ask) × (ask_on path s.asks ≡ Some a) × (shown a ≡ k.ask)
-      at = shown_from (ask_on path s.asks) k.ask (sym (on_path-shown path s.asks) ∙ ap (on_path path) x.asks ∙ ap (λ (p : Path). on_path p (listed past)) (ap (λ (d : Delivered). d.path) delivered_is) ∙ of_ask.is_listed)
+      at : (a : Ask) × (ask_on path s.asks ≡ Some a) × (shown a ≡ accepts.ask)
+      at = shown_from (ask_on path s.asks) accepts.ask (sym (on_path-shown path s.asks) ∙ ap (on_path path) x.asks ∙ ap (λ (p : Path). on_path p (listed past)) (ap (λ (d : Delivered). d.path) delivered_is) ∙ of_ask.is_listed)
 
       a : Ask
       a = at.0
@@ -128,28 +132,28 @@ module _ (c : Config) (past : List Step) (w : List (List ℕ)) (s : State) (x : 
       tried = (ask_on-is (Tried c past) path s.asks a at.1 x.tried).1
 
       -- the ask's text reads as one question
-      question_is : k.asked ≡ a.question
+      question_is : accepts.asked ≡ a.question
       question_is =
-          let two : Some k.asked ≡ Some a.question = sym of_ask.ask_reads ∙ ap (λ (q : ShownAsk). one_question q.octets) (sym at.2) ∙ tried.reads in
-          let same : k.asked ≡ a.question = cc in
+          let two : Some accepts.asked ≡ Some a.question = sym of_ask.ask_reads ∙ ap (λ (q : ShownAsk). one_question q.octets) (sym at.2) ∙ tried.reads in
+          let same : accepts.asked ≡ a.question = cc in
           same
 
-      route_is : k.route ≡ a.route
+      route_is : accepts.route ≡ a.route
       route_is =
-          let two : Some k.route ≡ Some a.route = sym accepts.route_is ∙ ap (λ (q : Question). serving_route_of c q.name) question_is ∙ tried.on_route in
-          let same : k.route ≡ a.route = cc in
+          let two : Some accepts.route ≡ Some a.route = sym (serves_exactly.each c accepts.asked.name accepts.route x.config.differ accepts.route_is) ∙ ap (λ (q : Question). serving_route_of c q.name) question_is ∙ tried.on_route in
+          let same : accepts.route ≡ a.route = cc in
           same
 
-      read : message_of octets ≡ Ok k.message
-      read = ap message_of octets_is ∙ spells_read accepts.octets k.message accepts.spells
+      read : message_of octets ≡ Ok accepts.message
+      read = ap message_of octets_is ∙ spells_read accepts.octets accepts.message accepts.spells
 
-      header_is : header_in octets ≡ k.message.header
-      header_is = read_header octets k.message read
+      header_is : header_in octets ≡ accepts.message.header
+      header_is = read_header octets accepts.message read
 
       rcode : (((header_in octets).rcode == 0) || ((header_in octets).rcode == 3)) ≡ true
       rcode = ⊎_elim
-          (λ (e : k.message.header.rcode ≡ 0). ap (λ b. b || ((header_in octets).rcode == 3)) (eq-eqb (header_in octets).rcode 0 (ap (λ (h : Header). h.rcode) header_is ∙ e)))
-          (λ (e : k.message.header.rcode ≡ 3). ap (λ b. ((header_in octets).rcode == 0) || b) (eq-eqb (header_in octets).rcode 3 (ap (λ (h : Header). h.rcode) header_is ∙ e)) ∙ or_true ((header_in octets).rcode == 0))
+          (λ (e : accepts.message.header.rcode ≡ 0). ap (λ b. b || ((header_in octets).rcode == 3)) (eq-eqb (header_in octets).rcode 0 (ap (λ (h : Header). h.rcode) header_is ∙ e)))
+          (λ (e : accepts.message.header.rcode ≡ 3). ap (λ b. ((header_in octets).rcode == 0) || b) (eq-eqb (header_in octets).rcode 3 (ap (λ (h : Header). h.rcode) header_is ∙ e)) ∙ or_true ((header_in octets).rcode == 0))
           accepts.rcode
         where
           or_true : (b : Bool) → (b || true) ≡ true
@@ -190,8 +194,32 @@ module _ (c : Config) (past : List Step) (w : List (List ℕ)) (s : State) (x : 
     same_ask : (h : IsHeard) → h.ask ≡ a
     same_ask h = let one : Some h.ask ≡ Some a = sym h.on ∙ on in let same : h.ask ≡ a = cc in same
 
-    failed : (IsHeard → ⊥) → (f : Rattle.retry_failover.specs.declared.Failure.Failure) → D (Rattle.step_table.specs.Failures.row_of_failure (turn c n words s) a f)
-    failed none f = failures.failure_row c past w s x now words unkept more (delivery path from octets) refl refl a on_own (quiet none) f
+    shown_on : on_path a.path (listed past) ≡ Some (shown a)
+    shown_on = ap (on_path a.path) (sym x.asks) ∙ on_path-shown a.path s.asks ∙ ap (option_map shown) on_own
+
+    -- a reply that is no stranger's matches the ask
+    matches_it : nat_lt n (timeout_of c a) ≡ true → matches a from octets ≡ true → (actions : List Action) → Matches c (told actions) past (shown a) octets a.question
+    matches_it live matched actions =
+        let facts = match_facts a from octets matched in
+        record {
+          delivered = λ i. Some (record { path = sym path_is i; from = facts.server i; octets = octets });
+          is_listed = shown_on;
+          is_live = subst (λ (t : ℕ). t < timeout_of c a) (moment_now actions) (ltb-true n (timeout_of c a) live);
+          long_enough = facts.long_enough;
+          not_too_long = facts.not_too_long;
+          is_reply = facts.is_reply;
+          opcode = facts.opcode;
+          identifier = facts.identifier ∙ sym tried_a.identifier;
+          ask_reads = tried_a.reads;
+          question = facts.question;
+          reads = facts.reads;
+          same_question_as_ask = facts.same;
+        }
+
+    failed : nat_lt n (timeout_of c a) ≡ true → matches a from octets ≡ true → (IsHeard → ⊥) → (f : Rattle.retry_failover.specs.declared.Failure.Failure)
+        → D (Rattle.step_table.specs.Failures.row_of_failure (turn c n words s) a f)
+    failed live matched none f = failures.failure_row c past w s x now words unkept more (delivery path from octets) refl refl a on_own (quiet none)
+        (λ actions. inl (octets, matches_it live matched actions)) f
 
     -- an accepted reply: all that wait for it are answered or sent on, and its pieces are offered
     module _ (m : Message) (live : nat_lt n (timeout_of c a) ≡ true) (whole : judge a from octets ≡ Whole) (read : message_of octets ≡ Ok m) (fine : is_lame (walk_of c m a.question a.route).end ≡ false) where
@@ -216,38 +244,18 @@ module _ (c : Config) (past : List Step) (w : List (List ℕ)) (s : State) (x : 
           (λ (e : ((header_in octets).rcode == 3) ≡ true). inr (ap (λ (h : Header). h.rcode) (sym header_is) ∙ eqb-true (header_in octets).rcode 3 e))
           (or_cases ((header_in octets).rcode == 0) ((header_in octets).rcode == 3) parts.2)
 
-      facts : MatchFacts a from octets
-      facts = match_facts a from octets parts.0
+      abbrev accepts : (actions : List Action) → Accepts c (told actions) past walk.pieces walk.authority
+      accepts actions = walk_accepted c (told actions) past (shown a) a.question a.route octets m x.config.differ
+          (matches_it live parts.0 actions) spelled (ap (λ (h : Header). h.tc) (sym header_is) ∙ parts.1) rcode
+          tried_a.on_route fine
 
-      shown_on : on_path a.path (listed past) ≡ Some (shown a)
-      shown_on = ap (on_path a.path) (sym x.asks) ∙ on_path-shown a.path s.asks ∙ ap (option_map shown) on_own
-
-      accepts : (actions : List Action) → Accepts c (told actions) past (shown a) a.question a.route m
-      accepts actions = record {
-        octets = octets;
-        matches = record {
-          delivered = λ i. Some (record { path = sym path_is i; from = facts.server i; octets = octets });
-          is_listed = shown_on;
-          is_live = subst (λ (t : ℕ). t < timeout_of c a) (moment_now actions) (ltb-true n (timeout_of c a) live);
-          long_enough = facts.long_enough;
-          not_too_long = facts.not_too_long;
-          is_reply = facts.is_reply;
-          opcode = facts.opcode;
-          identifier = facts.identifier ∙ sym tried_a.identifier;
-          ask_reads = tried_a.reads;
-          question = facts.question;
-          reads = facts.reads;
-          same_question_as_ask = facts.same;
-        };
-        spells = spelled;
-        untruncated = ap (λ (h : Header). h.tc) (sym header_is) ∙ parts.1;
-        rcode = rcode;
-        route_is = tried_a.on_route;
-        not_lame = fine;
-      }
+      accepts_asked : (actions : List Action) → (accepts actions).asked ≡ a.question
+      accepts_asked actions = walk_accepted-asked c (told actions) past (shown a) a.question a.route octets m
+          x.config.differ (matches_it live parts.0 actions) spelled (ap (λ (h : Header). h.tc) (sym header_is) ∙ parts.1)
+          rcode tried_a.on_route fine
 
       pub carries : (actions : List Action) → Carries c (told actions) past (walk.pieces ++ walk.authority)
-      carries actions = record { ask = shown a; asked = a.question; route = a.route; message = m; accepts = accepts actions; are = refl }
+      carries actions = record { pieces = walk.pieces; servers = walk.authority; accepts = accepts actions; are = refl }
 
       shapes : HasShapes m
       shapes = spelled_message_has_shapes octets m spelled
@@ -372,6 +380,16 @@ module _ (c : Config) (past : List Step) (w : List (List ℕ)) (s : State) (x : 
             fresh : IsFresh (without_path a.path s.asks) None next.id drawn_path.0
             fresh = drawn_fresh words (without_path a.path s.asks) None next.id drawn_path.0 drawn_path.2
 
+            -- no ask of it was listed, but for one that got its reply now
+            begun : (v : Bool) → same_question a.question q ≡ v → NoneAsks q (listed past) ⊎ AcceptsFor c q (told_by fate (Some next)) past
+            begun true same = inr (record {
+              pieces = walk.pieces ++ walk.authority;
+              carries = record { pieces = walk.pieces; servers = walk.authority; accepts = accepts (done fate (Some next)); are = refl };
+              same = subst (λ (z : Question). same_question z q ≡ true) (sym (accepts_asked (done fate (Some next)))) same;
+            })
+            begun false other = inl (subst (NoneAsks q) x.asks (none_asks c past q s.asks x.tried
+                (other_asks a.path q s.asks a x.asks_are.by_arrival on_own other (none_same q (without_path a.path s.asks) new.new))))
+
             first : IsNext c (told_by fate (Some next) ∷ past) q next
             first = record {
               question = facts.question;
@@ -381,7 +399,7 @@ module _ (c : Config) (past : List Step) (w : List (List ℕ)) (s : State) (x : 
               server = (λ i. peer_at c (facts.route_is i) (facts.server_is i)) ∙ facts.peer_is;
               before = 0;
               used = facts.used_is;
-              failed = tt;
+              failed = (refl, inl (settled_sends q (Some a) (map fate s.waiting) (Some next) (next_asks q next facts.question new.is_question fresh.small), begun (same_question a.question q) refl));
             }
 
             free : ask_on next.path (without_path a.path s.asks) ≡ None
@@ -434,7 +452,7 @@ module _ (c : Config) (past : List Step) (w : List (List ℕ)) (s : State) (x : 
     walk_row : (m : Message) → nat_lt n (timeout_of c a) ≡ true → judge a from octets ≡ Whole → message_of octets ≡ Ok m → D (row_of_walk (turn c n words s) rooms a (walk_of c m a.question a.route))
     walk_row m live whole read =
         cond_both (is_lame (walk_of c m a.question a.route).end) _ _ D
-        (λ t. failed (λ h. no_end h (same_ask h) t) failure.Lame)
+        (λ t. failed live (judged_parts from octets a whole).0 (λ h. no_end h (same_ask h) t) failure.Lame)
         (λ f. accepted_row m live whole read f)
       where
         no_end : (h : IsHeard) → h.ask ≡ a → is_lame (walk_of c m a.question a.route).end ≡ true → ⊥
@@ -445,13 +463,13 @@ module _ (c : Config) (past : List Step) (w : List (List ℕ)) (s : State) (x : 
 
     message_row : nat_lt n (timeout_of c a) ≡ true → judge a from octets ≡ Whole → (r : Result Message Fault) → message_of octets ≡ r → D (row_of_message (turn c n words s) rooms a r)
     message_row live whole (Ok m) read = walk_row m live whole read
-    message_row live whole (Err fault) read = failed (λ h. let e : Ok h.message ≡ Err fault = sym h.read ∙ read in absurd (cc)) failure.Malformed
+    message_row live whole (Err fault) read = failed live (judged_parts from octets a whole).0 (λ h. let e : Ok h.message ≡ Err fault = sym h.read ∙ read in absurd (cc)) failure.Malformed
 
     verdict_row : nat_lt n (timeout_of c a) ≡ true → (v : Verdict) → judge a from octets ≡ v → D (row_of_verdict (turn c n words s) rooms a octets v)
     verdict_row live Stranger is = nothing_more (λ h. let e : Stranger ≡ Whole = sym is ∙ ap (λ q. judge q from octets) (sym (same_ask h)) ∙ h.whole in absurd (cc))
-    verdict_row live Truncated is = failed (λ h. let e : Truncated ≡ Whole = sym is ∙ ap (λ q. judge q from octets) (sym (same_ask h)) ∙ h.whole in absurd (cc)) failure.Truncated
-    verdict_row live (Failed rcode) is = failed (λ h. let e : Failed rcode ≡ Whole = sym is ∙ ap (λ q. judge q from octets) (sym (same_ask h)) ∙ h.whole in absurd (cc)) failure.Rcode
-    verdict_row live Malformed is = failed (λ h. let e : Malformed ≡ Whole = sym is ∙ ap (λ q. judge q from octets) (sym (same_ask h)) ∙ h.whole in absurd (cc)) failure.Malformed
+    verdict_row live Truncated is = failed live (judged_match from octets a Truncated is tt) (λ h. let e : Truncated ≡ Whole = sym is ∙ ap (λ q. judge q from octets) (sym (same_ask h)) ∙ h.whole in absurd (cc)) failure.Truncated
+    verdict_row live (Failed rcode) is = failed live (judged_match from octets a (Failed rcode) is tt) (λ h. let e : Failed rcode ≡ Whole = sym is ∙ ap (λ q. judge q from octets) (sym (same_ask h)) ∙ h.whole in absurd (cc)) failure.Rcode
+    verdict_row live Malformed is = failed live (judged_match from octets a Malformed is tt) (λ h. let e : Malformed ≡ Whole = sym is ∙ ap (λ q. judge q from octets) (sym (same_ask h)) ∙ h.whole in absurd (cc)) failure.Malformed
     verdict_row live Whole is = message_row live is (message_of octets) refl
 
   delivery_row : (r : Option Ask) → ask_on path s.asks ≡ r → D (row_of_delivery (turn c n words s) rooms from octets r)

@@ -26,7 +26,7 @@ use Rattle.answer_builder.specs.declared.fault.Fault.{Fault}
 use Rattle.answer_builder.specs.Transports.{stale_answer_of}
 use Rattle.step_history.specs.History.{is_restart_event, is_taken_request, moment_at, listed, tcp_asks, on_path, closes_path, takes_question, NothingAccepted}
 use Rattle.step_history.specs.Draws.{drawn}
-use Rattle.step_history.specs.Causes.{ClosesAsk, LastFailed, NoneAsks}
+use Rattle.step_history.specs.Causes.{ClosesAsk, NoneAsks, MayFail, FailsAsk, TriesFailed}
 use Rattle.step_history.specs.Asked.{IsDrawn}
 use Rattle.step_history.specs.Sound.{RightReply, FromCache, AsksIn}
 use Rattle.step_history.specs.Replies.{failure_text}
@@ -45,28 +45,15 @@ use Rattle.step_history.specs.Answers.{Leads}
 use Rattle.theorem_sound.proofs.Answering.{comes_later, owns, failure_told, stale_owned}
 use Rattle.theorem_sound.specs.Explains.{shown, Comes, Waits, Tried, Explains}
 use Rattle.step_table.specs.Progress.{IsBelow, ArePreferred}
-use Rattle.theorem_sound.proofs.Names.{same_question-sym, same_question-trans}
+use Rattle.theorem_sound.proofs.Names.{same_question-sym}
 use Rattle.theorem_sound.proofs.Fates.{Fated, fates_in, fated, fated_fates, fated_numbers, fated_each}
 use Rattle.theorem_sound.proofs.Asking.{closes_one, others_tried_on, none_asks}
 use Rattle.theorem_sound.proofs.Listed.{on_path-shown, drawn-shown}
+use Rattle.theorem_sound.proofs.Tries.{same_question-refl, next_asks, settled_sends, sends_settled, next_asks_none, failed_alike}
 use Rattle.theorem_sound.proofs.Nexts.{IsNext, next_tried, next_right, MayFollow, listed_next, all_below, gave_up, asked_next, asked_again}
 use Rattle.theorem_sound.proofs.Actions.{OwnsReply, Speaks, AskedAt, IsRightNext, listed_settled, closes_settled}
 use Rattle.theorem_sound.proofs.Cases.{step_of, waits_later, idle_explained, settled_explained}
 use Rattle.step_history.proofs.CallerLemmas.{moment_small}
-
--- a step that closes an ask of a question closes one of each equal question
-closes_alike : (q q' : Question) (s : Step) (past : List Step) → same_question q q' ≡ true → ClosesAsk q s past → ClosesAsk q' s past
-closes_alike q q' s past same k = record { ask = k.ask; asked = k.asked; is_listed = k.is_listed; closed = k.closed; reads = k.reads; same = same_question-trans k.asked q q' k.same same }
-
-pub failed_alike : (c : Config) (q q' : Question) → same_question q q' ≡ true → (now : List Step) (k : ℕ) → LastFailed c q now k → LastFailed c q' now k
-failed_alike c q q' same [] zero h = tt
-failed_alike c q q' same [] (suc k) h = h
-failed_alike c q q' same (s ∷ past) zero h = tt
-failed_alike c q q' same (s ∷ past) (suc k) h = (h.0, by (λ j. failed_alike c q q' same past j) h.1)
-  where
-    by : ((j : ℕ) → LastFailed c q past j → LastFailed c q' past j) → (ClosesAsk q s past × NothingAccepted c s past × LastFailed c q past k) ⊎ ((ClosesAsk q s past → ⊥) × LastFailed c q past (suc k)) → (ClosesAsk q' s past × NothingAccepted c s past × LastFailed c q' past k) ⊎ ((ClosesAsk q' s past → ⊥) × LastFailed c q' past (suc k))
-    by rest (inl f) = inl (closes_alike q q' s past same f.0, f.1, rest k f.2)
-    by rest (inr f) = inr ((λ x. f.0 (closes_alike q' q s past (same_question-sym q q' same) x)), rest (suc k) f.1)
 
 -- failures are replies
 pub fails_speak : (why : Why) (q : Question) (xs : List Waiting) → AllByRecursion Speaks (map (fails why q) xs)
@@ -141,9 +128,6 @@ module _ (c : Config) (past : List Step) (w : List (List ℕ)) (s : State) (x : 
 
     others_left : AllByRecursion (λ b. same_question b.question a.question ≡ false) (without_path a.path s.asks)
     others_left = none_same a.question (without_path a.path s.asks) (question_free a.path a.question s.asks a x.asks_are.by_arrival on (same_question-refl a.question))
-      where
-        same_question-refl : (q : Question) → same_question q q ≡ true
-        same_question-refl q = (Rattle.dns_message.proofs.CallerLemmas.same_question_decides q q).1 (record { name = refl; kind = refl; class = refl })
 
     abbrev pub actions_by : List Fate → Option Ask → List Action
     actions_by fates next = closing (Some a) ++ (replies fates ++ map asks (ask_list next))
@@ -158,11 +142,14 @@ module _ (c : Config) (past : List Step) (w : List (List ℕ)) (s : State) (x : 
     pub closes_ask : (fates : List Fate) (next : Option Ask) → AllByRecursion Speaks fates → (q : Question) → same_question a.question q ≡ true → ClosesAsk q (step (actions_by fates next)) past
     closes_ask fates next speak q same = record { ask = shown a; asked = a.question; is_listed = shown_on; closed = closes_it fates next speak; reads = tried_a.reads; same = same }
 
-    pub others_tried : (fates : List Fate) (next : Option Ask) → AllByRecursion Speaks fates → AllByRecursion (Tried c (step (actions_by fates next) ∷ past)) (without_path a.path s.asks)
-    others_tried fates next speak =
+    pub others_tried : (fates : List Fate) (next : Option Ask) → AllByRecursion Speaks fates → AllByRecursion (Tried c (step (actions_by fates next) ∷ past)) (ask_list next)
+        → MayFollow c (without_path a.path s.asks) next → AllByRecursion (Tried c (step (actions_by fates next) ∷ past)) (without_path a.path s.asks)
+    others_tried fates next speak tried may =
         others_tried_on c (step (actions_by fates next)) past a (without_path a.path s.asks) runs
         (λ q k. same_question-sym a.question q (closes_one c (step (actions_by fates next)) past a (only_it fates next speak) shown_on tried_a.reads q k))
-        others_left (All-filter (Tried c past) (λ b. Rattle.std.specs.Prelude.not (same_path b.path a.path)) s.asks x.tried)
+        others_left
+        (next_asks_none c (step (actions_by fates next) ∷ past) next (without_path a.path s.asks) (actions_by fates next) tried may (λ q k. sends_settled q (Some a) fates next speak k))
+        (All-filter (Tried c past) (λ b. Rattle.std.specs.Prelude.not (same_path b.path a.path)) s.asks x.tried)
 
     -- the port that is given up is closed, and no other
     frees : (fates : List Fate) (next : Option Ask) → AllByRecursion Speaks fates → (port : ℕ) → closes_path (Udp port) (actions_by fates next) ≡ is_freed port (freed_by a.path)
@@ -197,14 +184,19 @@ module _ (c : Config) (past : List Step) (w : List (List ℕ)) (s : State) (x : 
         (fated_each (OwnsReply c (step (actions_by (map fate s.waiting) next) ∷ past)) (Waits c (step (actions_by (map fate s.waiting) next) ∷ past)) (Waits c past) fate x.numbers_of fates x.waits)
         asked_at
         (listed_next c (without_path a.path s.asks) next (left a.path c.limits.inquiries s.asks x.asks_are) may)
-        (All-append (Tried c (step (actions_by (map fate s.waiting) next) ∷ past)) (without_path a.path s.asks) (ask_list next) (others_tried (map fate s.waiting) next speak) tried)
+        (All-append (Tried c (step (actions_by (map fate s.waiting) next) ∷ past)) (without_path a.path s.asks) (ask_list next) (others_tried (map fate s.waiting) next speak tried may) tried)
         (All-append (λ b. IsBelow (s.tcp_asks + tcp_count next) b.path) (without_path a.path s.asks) (ask_list next)
         (all_below s.tcp_asks (tcp_count next) (without_path a.path s.asks) (All-filter (λ b. IsBelow s.tcp_asks b.path) (λ b. Rattle.std.specs.Prelude.not (same_path b.path a.path)) s.asks x.connections)) below)
         right are_preferred cached more_is
 
     -- ---- a failed attempt
 
-    module _ (quiet : (actions : List Action) → NothingAccepted c (step actions) past) where
+    module _ (quiet : (actions : List Action) → NothingAccepted c (step actions) past) (why : (actions : List Action) → MayFail c (step actions) past (shown a) a.question) where
+      -- the ask failed
+      fails_ask : (fates : List Fate) (next : Option Ask) → AllByRecursion Speaks fates → (q : Question) → same_question a.question q ≡ true → FailsAsk c q (step (actions_by fates next)) past
+      unfolding closes_ask
+      fails_ask fates next speak q same = record { closes = closes_ask fates next speak q same; quiet = quiet (actions_by fates next); why = why (actions_by fates next) }
+
       on_now : (actions : List Action) → GoesOn c (step actions) past
       on_now actions = (runs, inl (quiet actions))
 
@@ -248,12 +240,9 @@ module _ (c : Config) (past : List Step) (w : List (List ℕ)) (s : State) (x : 
         leads : Leads (look_from c was.comes.asked was.comes.before now_of) was.comes.question y.held y.wanted
         leads = leads_stay_leads c was.comes.asked (step (actions_by lasts None)) was.comes.before past was.comes.question y.held y.wanted (on_now (actions_by lasts None)) was.leads
 
-        closes : ClosesAsk y.wanted (step (actions_by lasts None)) past
-        closes = closes_ask lasts None lasts_speak y.wanted (same_question-sym y.wanted a.question t)
-
-        failed : LastFailed c y.wanted now_of c.limits.tries
-        failed = subst (LastFailed c y.wanted now_of) (sym tried_a.used ∙ eqb-true a.used c.limits.tries last)
-            (runs, inl (closes, quiet (actions_by lasts None), failed_alike c a.question y.wanted (same_question-sym y.wanted a.question t) past tried_a.before tried_a.failed))
+        failed : TriesFailed c y.wanted now_of c.limits.tries
+        failed = subst (TriesFailed c y.wanted now_of) (sym tried_a.used ∙ eqb-true a.used c.limits.tries last)
+            (fails_ask lasts None lasts_speak y.wanted (same_question-sym y.wanted a.question t), failed_alike c a.question y.wanted (same_question-sym y.wanted a.question t) past tried_a.before tried_a.failed)
 
         none : NoneAsks y.wanted (listed now_of)
         none = subst (NoneAsks y.wanted) left_listed (none_asks c past y.wanted (without_path a.path s.asks) (All-filter (Tried c past) (λ b. Rattle.std.specs.Prelude.not (same_path b.path a.path)) s.asks x.tried)
@@ -266,7 +255,7 @@ module _ (c : Config) (past : List Step) (w : List (List ℕ)) (s : State) (x : 
         found_owned found is =
             let so = found_so c.limits.stale_s (c.limits.stale_s == 0) (look_up_past c.limits.stale_s n s.cache.entries (8 - length y.held) y.wanted) found refl is in
             let few : length y.held ≤ 8 = leads.few in
-            stale_owned c n now_of y i comes (moment_now (actions_by lasts None)) leads failed closes none so.0 held_told (8 - length y.held) found (omega (arith, few))
+            stale_owned c n now_of y i comes (moment_now (actions_by lasts None)) leads failed none so.0 held_told (8 - length y.held) found (omega (arith, few))
             (look_ups_past_ends_are_right c was.comes.asked (step (actions_by lasts None)) was.comes.before past s.moment n s.cache y.wanted (8 - length y.held) found x.cache x.moment (runs, quiet (actions_by lasts None)) (moment_now (actions_by lasts None)) so.1)
 
         last_owned : OwnsReply c now_of i (told_past n y (found_past c n s.cache.entries y))
@@ -275,7 +264,7 @@ module _ (c : Config) (past : List Step) (w : List (List ℕ)) (s : State) (x : 
             by : (r : Option (List Held)) → found_past c n s.cache.entries y ≡ r → OwnsReply c now_of i (told_past n y r)
             by None is = owns c now_of y.client y.asked i comes Exhausted (failure_text y.asked Exhausted) (λ k. (
               failure_told past y.client y.asked i was.comes Exhausted,
-              record { question = was.comes.question; reads = was.comes.reads; aliases = y.held; last = y.wanted; leads = leads; failed = failed; closed = closes; none_left = none },
+              record { question = was.comes.question; reads = was.comes.reads; aliases = y.held; last = y.wanted; leads = leads; failed = failed; none_left = none },
             ))
             by (Some found) is = found_owned found is
 
@@ -308,7 +297,7 @@ module _ (c : Config) (past : List Step) (w : List (List ℕ)) (s : State) (x : 
           x.preferred (cached_now (actions_by (map (λ y. waits y) s.waiting) (Some next)))
         where
           same : same_question a.question next.question ≡ true
-          same = subst (λ (q : Question). same_question a.question q ≡ true) (sym facts.question) ((Rattle.dns_message.proofs.CallerLemmas.same_question_decides a.question a.question).1 (record { name = refl; kind = refl; class = refl }))
+          same = subst (λ (q : Question). same_question a.question q ≡ true) (sym facts.question) (same_question-refl a.question)
 
           later : AllByRecursion (λ b. b.asked ≤ next.asked) s.asks
           later = still_earlier s.moment next.asked s.asks (let at : next.asked ≡ n = facts.asked in let le = later_moment in omega (arith, at, le)) x.earlier
@@ -325,7 +314,14 @@ module _ (c : Config) (past : List Step) (w : List (List ℕ)) (s : State) (x : 
             server = (λ i. peer_at c (facts.route_is i) (facts.server_is i)) ∙ there ∙ facts.peer_is;
             before = suc tried_a.before;
             used = facts.used_is ∙ (let was : a.used ≡ suc tried_a.before = tried_a.used in omega (arith, was));
-            failed = (runs, inl (closes_ask (map (λ y. waits y) s.waiting) (Some next) (waits_speak s.waiting) a.question ((Rattle.dns_message.proofs.CallerLemmas.same_question_decides a.question a.question).1 (record { name = refl; kind = refl; class = refl })), quiet (actions_by (map (λ y. waits y) s.waiting) (Some next)), tried_a.failed));
+            failed = (
+              runs,
+              inl (
+                fails_ask (map (λ y. waits y) s.waiting) (Some next) (waits_speak s.waiting) a.question (same_question-refl a.question),
+                settled_sends a.question (Some a) (map (λ y. waits y) s.waiting) (Some next) (next_asks a.question next facts.question tried_a.question small),
+                tried_a.failed,
+              ),
+            );
           }
 
       udp_row : (server : ℕ) (p : Peer) → peer_at c a.route server ≡ Some p → (r : Option Ask) → next_ask (turn c n words s) a (AskUdp server) ≡ r → P (row_of_attempt n a s r)

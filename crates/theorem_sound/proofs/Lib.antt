@@ -12,6 +12,7 @@ pub mod Answering
 pub mod Cases
 pub mod Matching
 pub mod Nexts
+pub mod Tries
 pub mod Clients
 pub mod Failures
 pub mod Times

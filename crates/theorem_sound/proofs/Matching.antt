@@ -1,10 +1,11 @@
 -- The facts from which a verdict follows.
-use Rattle.std.proofs.Common.{◌≡◌, ℕ, ◌+◌, ◌≤◌, List, length, Bool, true, false, refl, sym, ◌∙◌, arith, Option, Some, None}
+use Rattle.std.proofs.Common.{◌≡◌, ℕ, ◌+◌, ◌≤◌, List, length, Bool, true, false, refl, sym, ◌∙◌, subst, arith, Option, Some, None}
 use Rattle.std.specs.Prelude.{◌==◌, ◌&&◌, ◌||◌, nat_le}
 use Rattle.std.proofs.lemmas.Bool.{and_parts, leb-true, le-leb, cond-true, cond-false, eqb-true, false≢true}
 use Rattle.dns_message.specs.Values.{Question}
 use Rattle.suffix_routes.specs.declared.peer.Peer.{Peer}
-use Rattle.reply_match.specs.declared.verdict.Verdict.TheVariants.{Stranger, Truncated, Failed, Whole}
+use Rattle.reply_match.specs.declared.verdict.Verdict.{Verdict}
+use Rattle.reply_match.specs.declared.verdict.Verdict.TheVariants.{Stranger, Truncated, Failed, Malformed, Whole}
 use Rattle.reply_match.specs.Peers.{same_peer}
 use Rattle.reply_match.specs.Questions.{asks_this}
 use Rattle.dns_message.specs.Questions.{one_question}
@@ -25,6 +26,22 @@ judged_parts from octets a e = by (matches a from octets) refl (header_in octets
     by true m true tc r rc = let bad : Truncated ≡ Whole = sym (cond-true (matches a from octets) _ _ m ∙ cond-true (header_in octets).tc _ _ tc) ∙ e in absurd (cc)
     by true m false tc false rc = let bad : Failed (header_in octets).rcode ≡ Whole = sym (cond-true (matches a from octets) _ _ m ∙ cond-false (header_in octets).tc _ _ tc ∙ cond-false (((header_in octets).rcode == 0) || ((header_in octets).rcode == 3)) _ _ rc) ∙ e in absurd (cc)
     by true m false tc true rc = (m, tc, rc)
+
+-- the verdict is not that of a stranger's octets
+abbrev pub IsNoStranger : Verdict → Type 0
+IsNoStranger Stranger = ⊥
+IsNoStranger Truncated = Unit {0}
+IsNoStranger (Failed rcode) = Unit {0}
+IsNoStranger Malformed = Unit {0}
+IsNoStranger Whole = Unit {0}
+
+-- any other verdict is of octets that match
+pub judged_match : (from : Peer) (octets : List ℕ) (a : Ask) (v : Verdict) → judge a from octets ≡ v → IsNoStranger v → matches a from octets ≡ true
+judged_match from octets a v e known = by (matches a from octets) refl
+  where
+    by : (b : Bool) → matches a from octets ≡ b → matches a from octets ≡ true
+    by true m = m
+    by false m = absurd (subst IsNoStranger (sym e ∙ cond-false (matches a from octets) _ _ m) known)
 
 -- the parts of a match, as facts
 pub record MatchFacts (a : Ask) (from : Peer) (octets : List ℕ) : Type 0 where

@@ -19,7 +19,7 @@ use Rattle.retry_failover.specs.Table.{next_server, row}
 use Rattle.step_values.specs.Values.{Step}
 use Rattle.suffix_routes.specs.Serving.{serving_route_of}
 use Rattle.outstanding.specs.Draws.{ask_message}
-use Rattle.step_history.specs.Causes.{LastFailed}
+use Rattle.step_history.specs.Causes.{FailedSoFar}
 use Rattle.step_history.specs.Asked.{IsDrawn}
 use Rattle.step_table.specs.Attempts.{peer_at}
 use Rattle.step_table.specs.Steps.{ask_list}
@@ -38,7 +38,7 @@ pub record IsNext (c : Config) (now : List Step) (q : Question) (a : Ask) : Type
   pub server : peer_at c a.route a.server ≡ Some a.peer
   pub before : ℕ
   pub used : a.used ≡ suc before
-  pub failed : LastFailed c q now before
+  pub failed : FailedSoFar c q now before
 
 pub next_tried : (c : Config) (now : List Step) (q : Question) (a : Ask) → IsNext c now q a → Tried c now a
 next_tried c now q a next =
@@ -51,7 +51,7 @@ next_tried c now q a next =
       server = next.server;
       before = next.before;
       used = next.used;
-      failed = subst (λ (z : Question). LastFailed c z now next.before) (sym next.question) next.failed;
+      failed = subst (λ (z : Question). FailedSoFar c z now next.before) (sym next.question) next.failed;
     }
 
 pub next_right : (c : Config) (s : Step) (past now : List Step) (q : Question) (a : Ask) → IsNext c now q a → IsDrawn s past a.id a.path → IsRightNext c s past (Some a)

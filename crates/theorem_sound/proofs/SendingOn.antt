@@ -21,7 +21,7 @@ use Rattle.step_values.specs.Values.{Step}
 use Rattle.suffix_routes.specs.Serving.{serving_route_of}
 use Rattle.step_history.specs.History.{is_restart, moment_at, Look, Carries}
 use Rattle.step_history.specs.Answers.{FollowsAliases, Leads}
-use Rattle.step_history.proofs.CallerLemmas.{moment_later}
+use Rattle.step_history.proofs.CallerLemmas.{moment_later, target_is}
 use Rattle.waiting_questions.specs.Values.{Waiting, waits_for}
 use Rattle.step_table.specs.Steps.{Fate, gets, waits, waiting_in, still_waiting}
 use Rattle.alias_chains.specs.LookingUp.{LookUpEnd, ends, too_long, missed, LookUp, look_up}
@@ -51,7 +51,7 @@ target_is_name (denied soa) name e = absurd (cc)
 -- aliases lead from a question to one
 pub question_led : (l : Look) (q last : Question) (held : List Held) → IsQuestion q → FollowsAliases l q held last → IsQuestion last
 question_led l q last [] is h = subst IsQuestion (sym h) is
-question_led l q last (o ∷ os) is h = question_led l (asked_at q h.3) last os (record { name = target_is_name o.piece.body h.3 h.4; kind = is.kind; class = is.class }) h.5
+question_led l q last (o ∷ os) is h = question_led l (asked_at q h.3) last os (record { name = target_is_name o.piece.body h.3 (target_is o.piece h.3 h.4); kind = is.kind; class = is.class }) h.5
 
 -- the question that is now wanted can be asked: it is well formed and has a route
 abbrev pub CanBeSent : Config → Waiting → Type 0

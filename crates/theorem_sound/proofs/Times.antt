@@ -1,5 +1,5 @@
 -- The state stays explained by a failed path and by the passing of time.
-use Rattle.std.proofs.Common.{◌≡◌, ℕ, ◌+◌, ◌^◌, ◌≤◌, List, [], ◌∷◌, ◌++◌, length, Bool, true, false, cond, refl, sym, ap, ◌∙◌, subst, inl, arith, Option, Some, None}
+use Rattle.std.proofs.Common.{◌≡◌, ℕ, ◌+◌, ◌^◌, ◌≤◌, List, [], ◌∷◌, ◌++◌, length, Bool, true, false, cond, refl, sym, ap, ◌∙◌, subst, inl, inr, arith, Option, Some, None}
 use Rattle.std.specs.Prelude.{min, max, map, nat_le, not}
 use Rattle.std.specs.List.{list_any, AllByRecursion}
 use Rattle.std.proofs.lemmas.Bool.{cond_both, cond-true, leb-true}
@@ -28,13 +28,14 @@ use Rattle.step_table.proofs.CallerLemmas.{All-filter, ask_on-is, own_on}
 use Rattle.theorem_sound.proofs.Fates.{fates_in, fated, fated_fates, fated_numbers}
 use Rattle.theorem_sound.proofs.Asking.{all_tried_on, closes_none}
 use Rattle.theorem_sound.proofs.Nexts.{listed_next, all_below}
+use Rattle.theorem_sound.proofs.Tries.{asks_none, sends_settled}
 use Rattle.theorem_sound.proofs.Actions.{OwnsReply, AreFated, Speaks, closes_settled}
 use Rattle.theorem_sound.proofs.Cases.{step_of, waits_later, settled_explained}
 use Rattle.theorem_sound.proofs.Failures as failures
 
--- the ask on a path is the one on its own path
-own_path : (path : Path) (listed : List Ask) (a : Ask) → ask_on path listed ≡ Some a → ask_on a.path listed ≡ Some a
-own_path path listed a on = ap (λ (p : Path). ask_on p listed) (ask_on-is (λ b. Unit {0}) path listed a on (always listed)).0 ∙ on
+-- the ask on a path has that path
+path_of : (path : Path) (listed : List Ask) (a : Ask) → ask_on path listed ≡ Some a → a.path ≡ path
+path_of path listed a on = (ask_on-is (λ b. Unit {0}) path listed a on (always listed)).0
   where
     always : (xs : List Ask) → AllByRecursion (λ b. Unit {0}) xs
     always [] = tt
@@ -55,7 +56,8 @@ module _ (c : Config) (past : List Step) (w : List (List ℕ)) (s : State) (x : 
 
     by : (r : Option Ask) → ask_on path s.asks ≡ r → P (row_of_failed_path (turn c n words s) r)
     by None on = failures.idle_row c past w s x now words unkept more (path_failed path) refl refl (quiet [])
-    by (Some a) on = failures.failure_row c past w s x now words unkept more (path_failed path) refl refl a (own_path path s.asks a on) quiet failure.Broken
+    by (Some a) on = failures.failure_row c past w s x now words unkept more (path_failed path) refl refl a (ap (λ (p : Path). ask_on p s.asks) (path_of path s.asks a on) ∙ on) quiet
+        (λ actions. inr (inl (ap path_failed (sym (path_of path s.asks a on))))) failure.Broken
 
     pub path_explained : P (row_of_failed_path (turn c n words s) (ask_on path s.asks))
     path_explained = by (ask_on path s.asks) refl
@@ -108,8 +110,9 @@ module _ (c : Config) (past : List Step) (w : List (List ℕ)) (s : State) (x : 
     ))
 
     tried_left : (o : Option Ask) → IsListed o → AllByRecursion (Tried c (step (actions o) ∷ past)) (without_ask o s.asks)
-    tried_left None on = all_tried_on c (step (actions None)) past s.asks refl (closes_none (step (actions None)) past (λ p. closes_settled p None fates None speak)) x.tried
-    tried_left (Some a) on = failures.others_tried c past w s x now words unkept more tick refl refl a on fates None speak
+    tried_left None on = all_tried_on c (step (actions None)) past s.asks refl (closes_none (step (actions None)) past (λ p. closes_settled p None fates None speak))
+        (asks_none (actions None) (λ q k. sends_settled q None fates None speak k) s.asks) x.tried
+    tried_left (Some a) on = failures.others_tried c past w s x now words unkept more tick refl refl a on fates None speak tt tt
 
     listed_left : (o : Option Ask) → AreListed (record { capacity = c.limits.inquiries; asks = without_ask o s.asks })
     listed_left None = x.asks_are
@@ -170,7 +173,8 @@ module _ (c : Config) (past : List Step) (w : List (List ℕ)) (s : State) (x : 
   due_attempt : (a : Ask) (others : List Ask) → s.asks ≡ a ∷ others → T (row_of_item (turn c n words s) (attempt a))
   due_attempt a others first =
       cond_both (nat_le (timeout_of c a) n) _ _ T
-      (λ _. failures.failure_row c past w s x now words unkept more tick refl refl a (ap (ask_on a.path) first ∙ cond-true (same_path a.path a.path) _ _ (same_path_reflexive a.path)) no_delivery failure.TimedOut)
+      (λ t. failures.failure_row c past w s x now words unkept more tick refl refl a (ap (ask_on a.path) first ∙ cond-true (same_path a.path a.path) _ _ (same_path_reflexive a.path)) no_delivery
+      (λ actions. inr (inr (refl, subst (λ (m : ℕ). timeout_of c a ≤ m) (moment_now actions) (leb-true (timeout_of c a) n t)))) failure.TimedOut)
       (λ _. idle_tick)
 
   item_row : (ws : List Waiting) → s.waiting ≡ ws → (listed : List Ask) → s.asks ≡ listed → T (row_of_item (turn c n words s) (first_item c ws listed))

@@ -18,6 +18,7 @@ use Rattle.outstanding.specs.declared.ask.Path.TheVariants.{Udp}
 use Rattle.outstanding.specs.Values.{Ask}
 use Rattle.answer_builder.specs.Values.{Asked}
 use Rattle.step_values.specs.Values.{Delivered, Request, request_in, from_client, tick, ask_udp, close_udp, Step}
+use Rattle.cache_laws.proofs.CallerLemmas.{serves_exactly}
 use Rattle.step_history.specs.History.{InEra, NothingAccepted}
 use Rattle.step_history.specs.Asked.{AsksRight, AsksWell}
 use Rattle.step_history.specs.Sound.{Replies}
@@ -228,7 +229,7 @@ right_ask = record {
     route = 0;
     group = record { suffix = []; deny = false; servers = server ∷ other_server ∷ [] };
     place = 0;
-    route_is = refl;
+    route_is = serves_exactly.only for_one (address a).name 0 refl;
     there = refl;
     server = refl;
   };
@@ -245,7 +246,7 @@ tried = record {
   server = refl;
   before = 0;
   used = refl;
-  failed = tt;
+  failed = (refl, inl (inl (address a, refl, refl), inl tt));
 }
 
 -- nothing was answered from cache

@@ -14,7 +14,7 @@ use Rattle.step_values.specs.declared.event.Client.{Client}
 use Rattle.step_history.specs.Answers.{Leads}
 use Rattle.step_history.specs.History.{InEra, moment_at, ShownAsk, listed, tcp_asks, Reads, Sends, takes_question}
 use Rattle.outstanding.specs.Draws.{ask_message}
-use Rattle.step_history.specs.Causes.{LastFailed}
+use Rattle.step_history.specs.Causes.{FailedSoFar}
 use Rattle.dns_message.specs.Questions.{is_unserved}
 use Rattle.step_history.specs.Sound.{Sound, unanswered}
 use Rattle.step_history.specs.Accounting.{TellsMore}
@@ -28,12 +28,12 @@ use Rattle.theorem_cache.specs.Kept.{CanBeTold, IsCached}
 use Rattle.theorem_cache.specs.Chains.{look_from}
 use Rattle.step_table.specs.Progress.{ArePreferred, IsBelow}
 
--- an ask as its action showed it
+-- an ask in the form of its action
 abbrev pub shown : Ask → ShownAsk
 shown a = record { path = a.path; server = a.peer; octets = written (ask_message a.id a.question); moment = a.asked }
 
--- step i of the era took this client's message, with opcode 0 and one question of a served type and
--- class; its answer repeats a
+-- step i of the era accepted this client's message, with opcode 0 and one question of a served type
+-- and class; its answer repeats a
 pub record Comes (now : List Step) (client : Client) (a : Asked) (i : ℕ) : Type 0 where
   pub asked : Step
   pub before : List Step
@@ -49,8 +49,8 @@ pub record Comes (now : List Step) (client : Client) (a : Asked) (i : ℕ) : Typ
   pub opcode : (header_in request).opcode ≡ 0
   pub served : is_unserved question ≡ false
 
--- step i brought the waiting question, at its moment; its aliases lead to what it wants, and can be
--- written
+-- step i brought the waiting question, at its moment; its aliases lead to the wanted question, and
+-- can be written
 pub record Waits (c : Config) (now : List Step) (x : Waiting) (i : ℕ) : Type 0 where
   pub comes : Comes now x.client x.asked i
   pub moment : x.taken ≡ moment_at (comes.asked ∷ comes.before)
@@ -58,7 +58,7 @@ pub record Waits (c : Config) (now : List Step) (x : Waiting) (i : ℕ) : Type 0
   pub told : AllByRecursion (CanBeTold (moment_at now)) x.held
 
 -- the listed ask's text has its question and identifier, its server is at its place on the name's
--- route, and the earlier tries failed
+-- route, and the earlier tries of its inquiry failed
 pub record Tried (c : Config) (now : List Step) (a : Ask) : Type 0 where
   pub question : IsQuestion a.question
   pub reads : Reads (written (ask_message a.id a.question)) a.question
@@ -67,9 +67,9 @@ pub record Tried (c : Config) (now : List Step) (a : Ask) : Type 0 where
   pub server : peer_at c a.route a.server ≡ Some a.peer
   pub before : ℕ
   pub used : a.used ≡ suc before
-  pub failed : LastFailed c a.question now before
+  pub failed : FailedSoFar c a.question now before
 
--- the history, which is sound, explains the state with its owners
+-- the history is sound, and explains the state with its owners
 pub record Explains (c : Config) (past : List Step) (w : List (List ℕ)) (s : State) : Type 0 where
   pub config : IsConfig c
   pub sound : Sound c past w

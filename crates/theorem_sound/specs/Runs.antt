@@ -9,13 +9,13 @@ use Rattle.step_table.specs.State.{State}
 use Rattle.step_table.specs.Row.{Row}
 use Rattle.theorem_sound.specs.Explains.{Explains}
 
--- these steps are rows one after another, the oldest first, from s to s'
+-- these steps are rows in order, the oldest first, from s to s'
 abbrev pub Run : Config → State → List Step → State → Type 0
 Run c s [] s' = s' ≡ s
 Run c s (t ∷ steps) s' = (mid : State) × Row c s t.handed t.outcome mid × Run c mid steps s'
 
--- With some owners these steps, the oldest first, are `Sound` and say what is due. No more
--- questions lack a reply than may wait.
+-- With some owners these steps, the oldest first, are `Sound` and say what is due. The questions
+-- without a reply are no more than may wait.
 pub record IsSound (c : Config) (steps : List Step) : Type 0 where
   pub owners : List (List ℕ)
   pub sound : Sound c (reverse steps) owners

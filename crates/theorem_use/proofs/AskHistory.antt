@@ -11,6 +11,7 @@ use Rattle.outstanding.specs.Values.{Ask}
 use Rattle.step_values.specs.Values.{Step}
 use Rattle.step_history.specs.History.{ShownAsk, on_path, closes_path, NothingAccepted}
 use Rattle.step_history.specs.Causes.{ClosesAsk, LastFailed}
+use Rattle.step_history.proofs.CallerLemmas.{failed_so_far_last}
 use Rattle.step_table.specs.State.{State}
 use Rattle.step_table.proofs.CallerLemmas.{ask_on-is}
 use Rattle.waiting_questions.specs.Values.{Waiting, waits_for}
@@ -101,7 +102,8 @@ module _ (c : Config) (past : List Step) (w : List (List ℕ)) (s : State) (x : 
     unfolding closes
     follows = record {
       closes = closes;
-      failed = none_accepted tried.before tried.used tried.failed;
+      failed = none_accepted tried.before tried.used
+          (failed_so_far_last c a.question (t ∷ past) tried.before tried.failed);
       spelled = r.question;
     }
 

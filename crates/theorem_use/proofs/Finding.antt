@@ -18,7 +18,8 @@ use Rattle.record_cache.proofs.CallerLemmas.{among_filter, slots_are_the_same, s
 use Rattle.negative_cache.specs.Values.{rows, alias, no_data, denied, miss}
 use Rattle.negative_cache.specs.Entries.{is_set, is_no_data, denies}
 use Rattle.negative_cache.specs.Finding.{is_of_type, is_on_route, is_denial_for, nearer, nearest, denial_for, found_or, found}
-use Rattle.theorem_cache.proofs.CallerLemmas.{all_among, among_filtered, entry_among, are_one, is_one}
+use Rattle.theorem_cache.proofs.CallerLemmas.{all_among, among_filtered, entry_among}
+use Rattle.cache_laws.proofs.CallerLemmas.{one_slot, slot_test}
 
 -- ---- the first that passes a test
 
@@ -114,9 +115,9 @@ module _ (routes : List Route) (m capacity : ℕ) (es st : List Held) (held : Ar
   one_type : (kind : ℕ) (h k : Held) → is_of_type q kind h ≡ true → is_of_type q kind k ≡ true → same_slot h.piece.slot k.piece.slot ≡ true
   one_type kind h k a b =
       let asked : Slot = record { key = q.name; class = q.class; kind = Some kind } in
-      let one = are_one asked h.piece.slot a in
-      let two = are_one asked k.piece.slot b in
-      is_one h.piece.slot k.piece.slot (record { name = sym one.name ∙ two.name; class = sym one.class ∙ two.class; kind = sym one.kind ∙ two.kind })
+      let one = one_slot asked h.piece.slot a in
+      let two = one_slot asked k.piece.slot b in
+      slot_test h.piece.slot k.piece.slot (record { name = sym one.name ∙ two.name; class = sym one.class ∙ two.class; kind = sym one.kind ∙ two.kind })
 
   typed_alike : (kind : ℕ) (what : Held → Bool) → find (λ h. is_of_type q kind h && (is_alive m h && what h)) es ≡ find (λ h. is_of_type q kind h && (is_alive m h && what h)) st
   typed_alike kind what = find_alike test es st
@@ -155,7 +156,7 @@ module _ (routes : List Route) (m capacity : ℕ) (es st : List Held) (held : Ar
   one_denial h k mine other t u as_many =
       let a = denial_is h t in
       let b = denial_is k u in
-      one_entry h k mine other (is_one h.piece.slot k.piece.slot (record {
+      one_entry h k mine other (slot_test h.piece.slot k.piece.slot (record {
         name = suffixes_same q.name h.piece.slot.key k.piece.slot.key ((is_under_decides q.name h.piece.slot.key).0 a.under) ((is_under_decides q.name k.piece.slot.key).0 b.under) as_many;
         class = sym a.class ∙ b.class;
         kind = no_kind h.piece.slot.kind a.error ∙ sym (no_kind k.piece.slot.kind b.error);

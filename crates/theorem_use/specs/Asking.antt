@@ -14,12 +14,12 @@ use Rattle.step_history.specs.Causes.{ClosesAsk}
 use Rattle.step_history.specs.Sound.{unanswered}
 use Rattle.waiting_questions.specs.Values.{Waiting, waits_for}
 
--- P holds of one of them
+-- P holds of an element
 abbrev pub AnyByRecursion : {X : Type 0} → (X → Type 0) → List X → Type 0
 AnyByRecursion P [] = ⊥
 AnyByRecursion P (x ∷ xs) = P x ⊎ AnyByRecursion P xs
 
--- the question that step i of the era brought `Leads` to `wanted`
+-- the question of step i of the era `Leads` to `wanted`
 pub record Wants (c : Config) (now : List Step) (i : ℕ) (wanted : Question) : Type 0 where
   pub asked : Step
   pub before : List Step
@@ -46,17 +46,17 @@ pub record Asks (a : ShownAsk) (wanted : Question) : Type 0 where
   pub reads : Reads a.octets question
   pub same : same_question wanted question ≡ true
 
--- the same ask was listed before the newest step
+-- this ask was listed before the newest step
 abbrev pub WasListed : List Step → ShownAsk → Type 0
 WasListed past a = AnyByRecursion (λ b. b ≡ a) (listed past)
 
--- q opens an inquiry: the step failed no ask for it, and a waiting question wants it, so spelled
+-- q opens an inquiry: the step failed no ask for q, and a waiting question wants q in this spelling
 pub record OpensInquiry (c : Config) (s : Step) (past : List Step) (wanted : List Question) (q : Question) : Type 0
   where
     pub anew : ClosesAsk q s past → NothingAccepted c s past → ⊥
     pub spelled : AnyByRecursion (λ w. w ≡ q) wanted
 
--- q follows a failed ask: the step closed one for it, so spelled, and accepted nothing
+-- q follows a failed ask: the step closed an ask for q in this spelling, and accepted nothing
 pub record FollowsFailed (c : Config) (s : Step) (past : List Step) (q : Question) : Type 0 where
   pub closes : ClosesAsk q s past
   pub failed : NothingAccepted c s past
@@ -68,7 +68,8 @@ pub record IsSpelled (c : Config) (s : Step) (past : List Step) (wanted : List Q
   pub reads : Reads a.octets question
   pub from : OpensInquiry c s past wanted question ⊎ FollowsFailed c s past question
 
--- After step s the waiting questions want just what the listed asks ask. Each new ask `IsSpelled`.
+-- After step s the listed asks are exactly for the questions wanted by waiting questions. Each new
+-- ask `IsSpelled`.
 pub record AsksForWaiting (c : Config) (s : Step) (past : List Step) (owners : List ℕ) : Type 0 where
   pub wanted : List Question
   pub each : EachWants c (s ∷ past) (unanswered (s ∷ past) owners) wanted

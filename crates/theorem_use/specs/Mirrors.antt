@@ -1,4 +1,4 @@
--- How the entries mirror what stands.
+-- The entries of the cache and the pieces that stand.
 use Rattle.std.specs.Prelude.{◌≡◌, ℕ, ◌≤◌, true, List, ◌∷◌}
 use Rattle.suffix_routes.specs.Values.{Config}
 use Rattle.record_cache.specs.Values.{Held}
@@ -12,14 +12,15 @@ use Rattle.theorem_use.specs.Standing.{standing}
 use Rattle.theorem_use.specs.Use.{HasRoom, UsesWhatStands}
 use Rattle.theorem_use.specs.Asking.{AreServed, AsksForThoseWhoWait}
 
--- the entries were carried; at each moment from n on, the living ones are those that stand
+-- the entries were carried; at each moment from n on, the living entries are exactly the pieces
+-- that stand
 pub record Mirrors (n : ℕ) (carried entries : List Held) : Type 0 where
   pub was_carried : (h : Held) → Among h entries → Among h carried
   pub stands : (m : ℕ) → n ≤ m → (h : Held) → Among h entries → is_alive m h ≡ true → Among h (standing m carried)
   pub held : (m : ℕ) → n ≤ m → (h : Held) → Among h (standing m carried) → Among h entries
 
--- With room for all that the era carried, the entries mirror what stands. Each step used what
--- stood.
+-- With room for everything carried in the era, the entries mirror the standing pieces. Each step
+-- used the standing pieces.
 pub record IsMirrored (c : Config) (past : List Step) (w : List (List ℕ)) (s : State) : Type 0 where
   pub mirrors : (carried : List Held) → CarriedInEra c past carried → HasRoom c past carried
       → Mirrors s.moment carried s.cache.entries

@@ -1,4 +1,4 @@
--- Claims that a question is answered at once if enough stands for it.
+-- Claims that a question is answered at once if enough data stands.
 use Rattle.std.specs.Prelude.{◌≡◌, ℕ, zero, suc, ◌≤◌, true, false, List, [], ◌∷◌, length, Option, None, Some, ◌⊎◌}
 use Rattle.std.specs.List.{concat, AllByRecursion}
 use Rattle.dns_message.specs.Header.{header_in}
@@ -23,7 +23,7 @@ use Rattle.theorem_use.specs.Standing.{standing}
 
 -- ---- room
 
--- the slot is one of these
+-- the list has this slot
 abbrev pub IsOneOf : Slot → List Slot → Type 0
 IsOneOf slot [] = ⊥
 IsOneOf slot (s ∷ slots) = (s ≡ slot) ⊎ IsOneOf slot slots
@@ -39,14 +39,14 @@ abbrev pub FoundMemory : List Step → Type 0
 FoundMemory [] = Unit {0}
 FoundMemory (s ∷ past) = (is_restart s ≡ true) ⊎ ((s.outcome.unkept ≡ 0) × FoundMemory past)
 
--- the cache had room and memory for all that the era carried
+-- the cache had room and memory for everything carried in the era
 pub record HasRoom (c : Config) (past : List Step) (carried : List Held) : Type 0 where
   pub slots : HasFewSlots c.limits.cache carried
   pub memory : FoundMemory past
 
 -- ---- a question
 
--- a client's message is taken: opcode 0, and one question whose type, class and name are served
+-- an accepted client's message: opcode 0, and one question whose type, class and name are served
 pub record AsksToLookUp (c : Config) (s : Step) (client : Client) (q : Question) : Type 0 where
   pub octets : List ℕ
   pub sends : Sends s.handed.event client octets
@@ -57,7 +57,7 @@ pub record AsksToLookUp (c : Config) (s : Step) (client : Client) (q : Question)
   pub route : ℕ
   pub on_route : serving_route_of c q.name ≡ Some route
 
--- there is a target name, and `onward` holds of it
+-- there is a target name, and `onward` holds of the name
 abbrev pub AtTarget : (List (List ℕ) → Type 0) → Option (List (List ℕ)) → Type 0
 AtTarget onward None = ⊥
 AtTarget onward (Some name) = onward name
@@ -71,19 +71,19 @@ EndsOrLeadsOn onward (no_data h) = Unit {0}
 EndsOrLeadsOn onward (denied h) = Unit {0}
 EndsOrLeadsOn onward miss = ⊥
 
--- the pieces that stand answer the question after at most this number of aliases
+-- the standing pieces answer the question after at most this number of aliases
 abbrev pub LeadsToEnd : List Route → ℕ → List Held → ℕ → Question → Type 0
 LeadsToEnd routes n stood zero q = EndsOrLeadsOn (λ name. ⊥) (found routes n stood q)
 LeadsToEnd routes n stood (suc more) q =
     EndsOrLeadsOn (λ name. LeadsToEnd routes n stood more (asked_at q name)) (found routes n stood q)
 
--- the pieces that stand at the step's moment answer q after at most eight aliases; so their look-up
+-- the pieces standing at the step's moment answer q after at most eight aliases; so their look-up
 -- ends (`look_up_ends`)
 abbrev pub IsKnown : Config → Step → List Step → List Held → Question → Type 0
 IsKnown c s past carried q = LeadsToEnd c.routes (moment_at (s ∷ past)) (standing (moment_at (s ∷ past)) carried) 8 q
 
 -- The only action is the right reply to the step's question: `Answered` or `TooLarge` (RFC 1035
--- 4.2.2). `is` are the step's owners, `owners` those before it.
+-- 4.2.2). `is` are the step's owners, `owners` the owners before.
 pub record AnswersAtOnce (c : Config) (s : Step) (past : List Step) (owners is : List ℕ) (client : Client)
     (request : List ℕ)
     : Type 0 where

@@ -2,17 +2,17 @@
 
 ghost use Rattle.theorem_use.specs.Laws.{NothingFullyExplainsAStart, RowsKeepWhatFullyExplains, RunsServeTruly};
 
-/// A history that fully explains the state before a row does so after it, with the row's step and
-/// an owner for each of its replies: the entries mirror what stands, and a question that is known
-/// owns its reply. The empty history fully explains a new forwarder.
+/// A history that fully explains the state before a row explains the state after, too, with the
+/// row's step and an owner for each of its replies: the entries mirror the standing pieces, and a
+/// known question owns its reply. The empty history fully explains a new forwarder.
 pub fn rows_keep_what_fully_explains()
     ensures kept { RowsKeepWhatFullyExplains }
     ensures begun { NothingFullyExplainsAStart }
 {}
 
-/// A run from a new forwarder serves truly. With one list of owners it is sound and says when more
-/// is due, it asks well, and a question is answered at once where enough stands for it, the cache
-/// has room for all that its era carried, and memory was found for that.
+/// A run from a new forwarder serves truly. With one list of owners the run is sound, says when
+/// more is due, asks well, and answers a question at once if enough data stands, the cache has room
+/// for everything carried in the era, and memory was found.
 pub fn runs_serve_truly()
     ensures { RunsServeTruly }
 {}

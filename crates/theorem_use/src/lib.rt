@@ -1,5 +1,5 @@
-//! Every row of the table of steps uses the pieces that stand, where the cache has room for them;
-//! so every run serves truly.
+//! Every row of the table of steps uses the standing pieces, if the cache has room for them; so
+//! every run serves truly.
 #![tactic(auto)]
 
 mod laws;

@@ -11,7 +11,7 @@ use Rattle.trust_rank.specs.Sets.{seconds_of}
 abbrev pub is_soa_for : List (List ℕ) → ℕ → Record → Bool
 is_soa_for name class r = (r.kind == 6) && (r.class == class) && is_under name r.owner
 
--- the SOA record that a denial at the name holds: the first that fits
+-- the SOA record of a denial at the name: the first that fits
 abbrev pub soa_for : List (List ℕ) → ℕ → List Record → Option Record
 soa_for name class authority = find (is_soa_for name class) authority
 
@@ -19,17 +19,17 @@ soa_for name class authority = find (is_soa_for name class) authority
 abbrev pub minimum_of : List ℕ → ℕ
 minimum_of rdata = number32 rdata (length rdata - 4)
 
--- no denial lives longer than three hours (RFC 2308 5 advises that)
+-- no denial lives longer than three hours (advised by RFC 2308 5)
 abbrev pub longest_denial : ℕ
 longest_denial = 10800
 
--- a denial lives for the least of the SOA's TTL and its MINIMUM (RFC 2308 5); with no SOA it is
--- used once and not kept
+-- the least of the SOA's TTL and its MINIMUM (RFC 2308 5); a denial without SOA is used once and
+-- not kept
 abbrev pub denial_lifetime : Option Record → ℕ
 denial_lifetime None = 0
 denial_lifetime (Some soa) = min (min (seconds_of soa.ttl) (minimum_of soa.rdata)) longest_denial
 
--- the denial with this body and SOA, of one type, or of the whole name where there is no type
+-- the denial with this body and SOA, of one type, or without a type of the whole name
 abbrev pub denial_with : ℕ → ℕ → List (List ℕ) → ℕ → Option ℕ → Body → Option Record → Piece
 denial_with rank route name class kind body soa = record {
   owner = name;
@@ -44,6 +44,6 @@ denial_with rank route name class kind body soa = record {
 abbrev pub no_data_with : ℕ → ℕ → List (List ℕ) → ℕ → ℕ → Option Record → Piece
 no_data_with rank route name class kind soa = denial_with rank route name class (Some kind) (no_data soa) soa
 
--- a name error: the name is not there (RFC 2308 2.1), nor is any name under it (RFC 8020 2)
+-- a name error: there is no such name (RFC 2308 2.1), nor any name below (RFC 8020 2)
 abbrev pub name_error_with : ℕ → ℕ → List (List ℕ) → ℕ → Option Record → Piece
 name_error_with rank route name class soa = denial_with rank route name class None (denied soa) soa

@@ -9,7 +9,7 @@ use Rattle.dns_message.specs.Messages.{AreShaped}
 use Rattle.trust_rank.specs.Values.{Body, rows, no_data, denied, Piece}
 use Rattle.trust_rank.specs.Sets.{longest}
 
--- an SOA record whose data is of its shape
+-- an SOA record with data of the type's shape
 pub record IsSoa (soa : Record) : Type 0 where
   pub kind : soa.kind ≡ 6
   pub shaped : IsShaped 6 soa.rdata
@@ -29,7 +29,7 @@ FitsKind None (no_data soa) = ⊥
 FitsKind (Some kind) (denied soa) = ⊥
 
 -- The slot is the owner's; a name error, and nothing else, has no type. A set is not empty, a
--- denial's record is an SOA, data has its type's shape, and the lifetime is a week at most.
+-- denial's record is an SOA, data has the shape of its type, and the lifetime is a week at most.
 pub record IsPiece (p : Piece) : Type 0 where
   pub key : p.slot.key ≡ lowered p.owner
   pub body : FitsKind p.slot.kind p.body

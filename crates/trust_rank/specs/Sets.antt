@@ -15,7 +15,7 @@ is_of q r = (r.kind == q.kind) && (r.class == q.class) && same r.owner q.name
 abbrev pub records_for : Question → List Record → List Record
 records_for q records = filter (is_of q) records
 
--- data that is already there is left out (RFC 2181 5)
+-- data already there is left out (RFC 2181 5)
 abbrev pub with_data : List (List ℕ) → List ℕ → List (List ℕ)
 with_data kept octets = if list_any (same_octets octets) kept then kept else kept ++ octets ∷ []
 
@@ -33,11 +33,11 @@ abbrev pub lifetime_within : ℕ → List Record → ℕ
 lifetime_within most [] = most
 lifetime_within most (r ∷ records) = lifetime_within (min most (seconds_of r.ttl)) records
 
--- no piece lives longer than a week; that bound is of this project
+-- no piece lives longer than a week; this bound is the project's own
 abbrev pub longest : ℕ
 longest = 604800
 
--- the set of a record and of those after it: its owner is spelled as in the first
+-- the set of a record and the records after it: its owner is spelled as in the first
 abbrev pub set_with : ℕ → ℕ → Record → List Record → Piece
 set_with rank route first others = record {
   owner = first.owner;
@@ -48,7 +48,7 @@ set_with rank route first others = record {
   route = route;
 }
 
--- the set of these records, if there are any
+-- the set of these records, if any
 abbrev pub set_of : ℕ → ℕ → List Record → Option Piece
 set_of rank route [] = None
 set_of rank route (first ∷ others) = Some (set_with rank route first others)

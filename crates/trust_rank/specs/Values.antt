@@ -1,4 +1,4 @@
--- The pieces of one reply.
+-- The pieces of a reply.
 use Rattle.std.specs.Prelude.{ℕ, Bool, List, Option, Some, None, Box}
 use Rattle.dns_message.specs.Values.{Question, Record, Message}
 use Rattle.suffix_routes.specs.Values.{Config}
@@ -8,14 +8,14 @@ use Rattle.trust_rank.specs.declared.piece.Body.TheVariants.{Rows, NoData, Denie
 use Rattle.trust_rank.specs.declared.walk.End.{End as OwnedEnd}
 use Rattle.trust_rank.specs.declared.walk.End.TheVariants as ends
 
--- a set's data, or the SOA, if any, of a denial: of one type (NODATA), or of the whole name
+-- a set's data, or the SOA, if any, of a denial: of a type (NODATA), or of the whole name
 -- (NXDOMAIN) (RFC 2308 2)
 pub data Body : Type 0 where
   rows : List (List ℕ) → Body
   no_data : Option Record → Body
   denied : Option Record → Body
 
--- the content of one reply for one slot
+-- the content of a reply for a slot
 pub record Piece : Type 0 where
   pub owner : List (List ℕ)
   pub slot : Slot
@@ -32,13 +32,13 @@ pub data End : Type 0 where
   elsewhere : List (List ℕ) → End
   lame : End
 
--- its pieces in order, the name servers of the authority section, and its end
+-- the pieces of a walk in order, the name servers of the authority section, and the walk's end
 pub record Walk : Type 0 where
   pub pieces : List Piece
   pub authority : List Piece
   pub end : End
 
--- a reply to a question that was asked on a route, as far as the walk looks at it
+-- a reply to a question on a route, without the parts that no walk needs
 pub record Reply : Type 0 where
   pub config : Config
   pub route : ℕ

@@ -17,9 +17,9 @@ use Rattle.trust_rank.specs.Denials.{soa_for, no_data_with, name_error_with}
 
 -- ---- one name of the walk
 
--- The finding of a reply at a name: nothing that counts, so that the name has to be asked for; the
--- asked set; a denial of the type or of the name; an alias, and the name that it leads to; or
--- something that makes the whole reply lame.
+-- The finding of a reply at a name: nothing that counts, so the name has to be asked for; the asked
+-- set; a denial of the type or of the name; an alias, with its target; or a reason for which the
+-- whole reply is lame.
 pub data AtName : Type 0 where
   met_nothing : AtName
   met_set : Piece → AtName
@@ -33,11 +33,11 @@ abbrev pub is_place : Option ℕ → ℕ → Bool
 is_place None route = false
 is_place (Some place) route = place == route
 
--- the name is on the route that was asked
+-- the name is on the asked route
 abbrev pub is_on_route : Reply → List (List ℕ) → Bool
 is_on_route r name = is_place (route_of r.config.routes name) r.route
 
--- the asked name's own server is believed most about that name (RFC 2181 5.4.1)
+-- the asked name's own server is believed most about this name (RFC 2181 5.4.1)
 abbrev pub rank_at : Reply → List (List ℕ) → ℕ
 rank_at r name = if r.is_authoritative && same name r.question.name then 3 else 1
 
@@ -45,7 +45,7 @@ rank_at r name = if r.is_authoritative && same name r.question.name then 3 else 
 abbrev pub at_name : Reply → ℕ → List (List ℕ) → Question
 at_name r kind name = record { name = name; kind = kind; class = r.question.class }
 
--- the set of this type that the answer section has at the name
+-- the set of this type in the answer section, at the name
 abbrev pub answer_set : Reply → ℕ → List (List ℕ) → Option Piece
 answer_set r kind name = set_of (rank_at r name) r.route (records_for (at_name r kind name) r.answers)
 
@@ -59,7 +59,7 @@ has_many (rows each) = nat_lt 1 (length each)
 has_many (no_data soa) = false
 has_many (denied soa) = false
 
--- the name that an alias's one record leads to
+-- the target of an alias's only record
 abbrev pub target_of : Body → Option (List (List ℕ))
 target_of (rows []) = None
 target_of (rows (octets ∷ [])) = name_of_rdata octets
@@ -71,24 +71,24 @@ target_of (denied soa) = None
 abbrev pub is_name_server : Record → Bool
 is_name_server s = s.kind == 2
 
--- the authority section has name servers and the reply is not authoritative: others are to be asked
--- (RFC 2308 2.2)
+-- the authority section has name servers and the reply is not authoritative: different servers are
+-- to be asked (RFC 2308 2.2)
 abbrev pub is_referral : Reply → Bool
 is_referral r = not r.is_authoritative && list_any is_name_server r.authority
 
--- the name error that a reply carries for a name (RFC 2308 2.1)
+-- the name error of a reply for a name (RFC 2308 2.1)
 abbrev pub name_error_at : Reply → List (List ℕ) → Piece
 name_error_at r name = name_error_with (rank_at r name) r.route name r.question.class
     (soa_for name r.question.class r.authority)
 
--- the NODATA that a reply carries for a name (RFC 2308 2.2)
+-- the NODATA of a reply for a name (RFC 2308 2.2)
 abbrev pub no_data_at : Reply → List (List ℕ) → Piece
 no_data_at r name = no_data_with (rank_at r name) r.route name r.question.class r.question.kind
     (soa_for name r.question.class r.authority)
 
--- the finding where neither the asked set nor an alias is at the name, which may be the first of
--- the walk: a name error by the response code; after an alias without SOA the name has to be asked
--- for; a referral without SOA is lame; otherwise NODATA
+-- the finding at a name, first of the walk or not, with neither the asked set nor an alias: a name
+-- error by the response code; after an alias without SOA the name has to be asked for; a referral
+-- without SOA is lame; otherwise NODATA
 abbrev pub denial_met : Reply → Bool → List (List ℕ) → Bool → AtName
 denial_met r is_first name lacks_soa =
     if r.rcode == 3 then met_name_error (name_error_at r name)
@@ -96,7 +96,7 @@ denial_met r is_first name lacks_soa =
     else (if lacks_soa && is_referral r then met_lame
     else met_no_data (no_data_at r name)))
 
--- what a reply without a set or alias at this name says of it
+-- the finding of a reply without a set or alias at this name
 abbrev pub denial_at : Reply → Bool → List (List ℕ) → AtName
 denial_at r is_first name = denial_met r is_first name (is_none (soa_for name r.question.class r.authority))
 
@@ -105,7 +105,7 @@ abbrev pub leads : Piece → Option (List (List ℕ)) → AtName
 leads p None = met_lame
 leads p (Some target) = met_alias p target
 
--- the alias, if any, otherwise the other
+-- the alias, if any, otherwise the finding
 abbrev pub alias_or : Option Piece → AtName → AtName
 alias_or None other = other
 alias_or (Some p) other = leads p (target_of p.body)
@@ -114,12 +114,12 @@ alias_or (Some p) other = leads p (target_of p.body)
 abbrev pub set_met : ℕ → Piece → AtName
 set_met kind p = if (kind == 5) && has_many p.body then met_lame else met_set p
 
--- the set, if any, otherwise the other
+-- the set, if any, otherwise the finding
 abbrev pub set_or : ℕ → Option Piece → AtName → AtName
 set_or kind None other = other
 set_or kind (Some p) other = set_met kind p
 
--- what the reply has at a name: first that holds
+-- the finding at a name, first in this order
 abbrev pub met_at : Reply → Bool → List (List ℕ) → AtName
 met_at r is_first name =
     if is_on_route r name
@@ -127,7 +127,7 @@ met_at r is_first name =
     (alias_or (alias_set r name) (denial_at r is_first name))
     else met_nothing
 
--- what the code met at a name, as a plain value
+-- the code's finding at a name, as a plain value
 abbrev pub met_of : {A : Type 0} → OwnedAtName A → AtName
 met_of owned.Nothing = met_nothing
 met_of (owned.Set p) = met_set p
@@ -138,7 +138,7 @@ met_of owned.Lame = met_lame
 
 -- ---- the walk
 
--- the most aliases that a walk takes, a bound of this project
+-- the most aliases of a walk, a bound of this project
 abbrev pub most_aliases : ℕ
 most_aliases = 8
 
@@ -158,7 +158,7 @@ is_lame ends_no_data = false
 is_lame ends_denied = false
 is_lame (elsewhere name) = false
 
--- an alias, and the walk from the name that it leads to
+-- an alias, and the walk from its target
 abbrev pub behind : Piece → Walk → Walk
 behind alias w = if is_lame w.end then lame_walk else record {
   pieces = alias ∷ w.pieces;
@@ -166,7 +166,7 @@ behind alias w = if is_lame w.end then lame_walk else record {
   end = w.end;
 }
 
--- the walk after what was met at a name
+-- the walk after the finding at a name
 abbrev pub go_on : (List (List ℕ) → Walk) → List (List ℕ) → AtName → Walk
 go_on rest name met_nothing = ending [] (elsewhere name)
 go_on rest name (met_set p) = ending (p ∷ []) found
@@ -175,7 +175,7 @@ go_on rest name (met_name_error p) = ending (p ∷ []) ends_denied
 go_on rest name (met_alias p target) = behind p (rest target)
 go_on rest name met_lame = lame_walk
 
--- the walk from a name on, which may be the first; at most `most` aliases may be taken
+-- the walk from a name on, first or not, with at most `most` aliases
 unfoldable pub walk_from : Reply → ℕ → Bool → List (List ℕ) → Walk
 walk_from r zero is_first name = ending [] (elsewhere name)
 walk_from r (suc left) is_first name = go_on (λ target. walk_from r left false target) name (met_at r is_first name)
@@ -200,21 +200,21 @@ servers_with r first others = set_with 2 r.route first (records_for
 abbrev pub begins_set : Reply → List Piece → Record → Bool
 begins_set r carried first = is_server_for r first && not (list_any (has_owner first.owner) carried)
 
--- the NS set that begins with the first record, if one does
+-- the NS set of the first record, if the record begins a set
 abbrev pub servers_at : Reply → List Piece → Record → List Record → List Piece
 servers_at r carried first others = if begins_set r carried first then servers_with r first others ∷ [] else []
 
--- those sets, in the order of the section
+-- all such sets, in the order of the section
 unfoldable pub servers_from : Reply → List Piece → List Record → List Piece
 servers_from r carried [] = []
 servers_from r carried (s ∷ records) =
     servers_at r carried s records ++ servers_from r (carried ++ servers_at r carried s records) records
 
--- an authoritative reply that is not lame carries them
+-- the reply is authoritative and not lame
 abbrev pub carries_servers : Reply → End → Bool
 carries_servers r end = r.is_authoritative && not (is_lame end)
 
--- the walk with the name servers of the authority section, where the reply carries them
+-- the walk with the name servers of the authority section, if the reply carries them
 abbrev pub with_servers : Reply → Walk → Walk
 with_servers r w =
     if carries_servers r w.end
@@ -225,7 +225,7 @@ with_servers r w =
 abbrev pub walk_of : Config → Message → Question → ℕ → Walk
 walk_of c m q route = with_servers (reply_of c m q route) (walk_from (reply_of c m q route) most_aliases true q.name)
 
--- a walk that ends so has a last piece, which ends the look-up
+-- a walk with this end has a last piece, which ends the look-up
 abbrev pub has_last : End → Bool
 has_last found = true
 has_last ends_no_data = true

@@ -1,4 +1,4 @@
--- The properties of a piece without which its text could not be read.
+-- The properties of a piece without which no text of it could be read.
 use Rattle.std.specs.Prelude.{◌<◌}
 use Rattle.std.specs.Option.{IfSome}
 use Rattle.dns_name.specs.Labels.{IsName}

@@ -20,7 +20,7 @@ use std::alloc::{AllocError, Allocator};
 /// The longest lifetime of a denial, in seconds: three hours.
 const LONGEST_DENIAL: u32 = 10_800;
 
-/// The name is at or under the other, ASCII letter case aside.
+/// The name is at or under `suffix`, ASCII letter case aside.
 pub(crate) fn is_name_under<A: Allocator>(name: &Name<A>, suffix: &Name<A>) -> bool
     ensures { result ≡ is_under name.now suffix.now }
 {
@@ -34,7 +34,7 @@ fn is_soa_for<A: Allocator>(record: &Record<A>, name: &Name<A>, class: u16) -> b
     record.kind == SOA && record.class == class && is_name_under(name, &record.owner)
 }
 
-/// The first SOA record of the authority section that fits a denial at the name.
+/// The first fitting SOA record of the authority section for a denial at the name.
 fn find_soa<'a, A: Allocator>(
     name: &Name<A>,
     class: u16,
@@ -51,7 +51,7 @@ fn find_soa<'a, A: Allocator>(
     None
 }
 
-/// A copy of the SOA record that a denial at the name holds, in a box.
+/// A boxed copy of the SOA record for a denial at the name.
 pub(crate) fn soa_for<A: Allocator + Copy>(
     alloc: A,
     name: &Name<A>,
@@ -76,7 +76,7 @@ fn minimum_from(rdata: &[u8]) -> u32
     BigEndian::read_u32(&rdata[rdata.len() - 4..])
 }
 
-/// How long a denial with this SOA lives, in seconds: the least of the SOA's TTL, its MINIMUM and
+/// The lifetime of a denial with this SOA, in seconds: the least of the SOA's TTL, its MINIMUM and
 /// three hours (RFC 2308 5).
 fn lifetime_from<A: Allocator>(soa: &Record<A>) -> u32
     requires { IsSoa soa.now }
@@ -87,7 +87,7 @@ fn lifetime_from<A: Allocator>(soa: &Record<A>) -> u32
         .min(LONGEST_DENIAL)
 }
 
-/// How long a denial lives, in seconds; with no SOA it is used once and not kept.
+/// The lifetime of a denial, in seconds; a denial without SOA is used once and not kept.
 fn lifetime_with<A: Allocator>(soa: &Option<Box<Record<A>, A>>) -> u32
     requires { IfSome (unboxed soa.now) IsSoa }
     ensures { result ≡ denial_lifetime (unboxed soa.now) }
@@ -121,7 +121,7 @@ pub(crate) fn no_data<A: Allocator + Copy>(
     })
 }
 
-/// A name error: the name is not there (RFC 2308 2.1), nor is any name under it (RFC 8020 2).
+/// A name error: there is no such name (RFC 2308 2.1), nor any name below (RFC 8020 2).
 pub(crate) fn name_error<A: Allocator + Copy>(
     alloc: A,
     source: Source,

@@ -1,5 +1,4 @@
-//! The record sets and denials that one reply carries for a question, each with its rank: how far
-//! it is to be believed.
+//! The record sets and denials of a reply to a question, each with a rank: its degree of trust.
 #![tactic(auto)]
 
 mod denials;

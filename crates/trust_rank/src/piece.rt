@@ -1,4 +1,4 @@
-//! Record sets and denials, as one reply carried them.
+//! Record sets and denials of a reply.
 
 ghost use Rattle.std.specs.Prelude.{◌≡◌, IfOk};
 ghost use Rattle.trust_rank.specs.Formed.{IsPiece};
@@ -12,20 +12,19 @@ use std::alloc::{AllocError, Allocator, Global};
 use std::marker::Model;
 use suffix_routes::RouteId;
 
-/// The content of a piece. It is small, since most are sets: an SOA is in a box.
+/// The content of a piece, small since most pieces are sets: an SOA is in a box.
 #[derive(Drop)]
 pub enum Body<A: Allocator = Global> {
-    /// The data of a record set (RFC 2181 5), in the order of the reply, none of it twice.
+    /// The data of a record set (RFC 2181 5), in the order of the reply, without duplicates.
     Rows(Rows<A>),
-    /// The name has no records of the type, NODATA (RFC 2308 2.2); with the SOA, if the reply had
-    /// one.
+    /// NODATA: the name has no records of the type (RFC 2308 2.2); with the reply's SOA, if any.
     NoData(Option<Box<Record<A>, A>>),
-    /// A name error: the name is not there (RFC 2308 2.1); and the SOA, where the reply had one.
+    /// A name error: there is no such name (RFC 2308 2.1); with the reply's SOA, if any.
     Denied(Option<Box<Record<A>, A>>),
 }
 
-/// A record set or a denial, which lives and dies as one. Contracts see its class and type as a
-/// slot, with the owner's key.
+/// A record set or a denial, with a single lifetime. Contracts see its class and type as a slot,
+/// with the owner's key.
 #[derive(Drop)]
 pub struct Piece<A: Allocator = Global> {
     /// In seconds, a week at most.
@@ -36,11 +35,11 @@ pub struct Piece<A: Allocator = Global> {
     pub class: u16,
     /// The type; `None` for a name error.
     pub kind: Option<u16>,
-    /// The route of the ask that it answered.
+    /// The route of the answered ask.
     pub route: RouteId,
     /// The name, spelled as in the first record of a set.
     pub owner: Name<A>,
-    /// The content: `Denied` exactly where there is no type.
+    /// The content: `Denied` exactly if there is no type.
     pub body: Body<A>,
 }
 
@@ -75,7 +74,7 @@ impl<A: Allocator> Model for Piece<A> {
 }
 
 impl<A: Allocator> Piece<A> {
-    /// The slot that it fills. It does not allocate. `formed` repeats what holds of each piece.
+    /// The slot of the piece. The clause `formed` repeats the facts about each piece.
     pub fn slot(&self) -> Slot
         ensures slot { result ≡ self.now.slot }
         ensures formed { IsPiece self.now }
@@ -89,7 +88,7 @@ impl<A: Allocator> Piece<A> {
 }
 
 impl<A: Allocator + Copy> Piece<A> {
-    /// An equal piece. `Err` where memory ran out.
+    /// An equal piece.
     pub fn copy(&self, alloc: A) -> Result<Piece<A>, AllocError>
         ensures { IfOk result (λ copy. copy ≡ self.now) }
     {
@@ -106,7 +105,7 @@ impl<A: Allocator + Copy> Piece<A> {
 }
 
 impl<A: Allocator + Copy> Body<A> {
-    /// An equal body. `Err` where memory ran out.
+    /// An equal body.
     pub fn copy(&self, alloc: A) -> Result<Body<A>, AllocError>
         ensures { IfOk result (λ copy. body_of copy ≡ body_of self.now) }
     {

@@ -1,4 +1,4 @@
-//! A message as the reply to a question, and what it has at one name of the walk: RFC 1034 3.6.2,
+//! A message as the reply to a question, and its findings at one name of the walk: RFC 1034 3.6.2,
 //! RFC 2308 2.
 
 ghost use Rattle.std.specs.Prelude.{◌≡◌, ◌≢◌, IfOk, OnErr, None, is_none};
@@ -21,11 +21,11 @@ use std::alloc::{AllocError, Allocator};
 use std::marker::Model;
 use suffix_routes::{Config, RouteId};
 
-/// A reply, as far as the walk looks at it. The data of its records is of their shapes.
+/// A reply, without the parts that no walk needs. The data of its records has their shapes.
 #[derive(Drop)]
 pub(crate) struct Reply<'a, A: Allocator> {
     pub config: &'a Config<A>,
-    /// The route that was asked.
+    /// The asked route.
     pub route: RouteId,
     /// The asked name.
     pub name: &'a Name<A>,
@@ -64,20 +64,20 @@ impl<'a, A: Allocator> Model for Reply<'a, A> {
 pub(crate) enum AtName<A: Allocator> {
     /// Nothing that counts: the name has to be asked for.
     Nothing,
-    /// The set that was asked for.
+    /// The asked set.
     Set(Piece<A>),
     /// A denial of the type.
     NoData(Piece<A>),
     /// A denial of the name.
     NameError(Piece<A>),
-    /// An alias, and the name that it leads to.
+    /// An alias, and its target.
     Alias(Piece<A>, Name<A>),
-    /// A finding that makes the whole reply lame.
+    /// A finding for which the whole reply is lame.
     Lame,
 }
 
 impl<'a, A: Allocator + Copy> Reply<'a, A> {
-    /// The name is on the route that was asked.
+    /// The name is on the asked route.
     pub fn is_on_route(&self, name: &Name<A>) -> bool
         ensures { result ≡ is_on_route self.now name.now }
     {
@@ -87,8 +87,7 @@ impl<'a, A: Allocator + Copy> Reply<'a, A> {
         }
     }
 
-    /// How far a piece at the name is to be believed: most where it is the asked name, by its own
-    /// server.
+    /// The rank of a piece at the name: highest for the asked name, by its own server.
     fn source_at(&self, name: &Name<A>) -> Source
         ensures rank { result.rank ≡ rank_at self.now name.now }
         ensures route { result.route ≡ self.now.route }
@@ -111,7 +110,7 @@ impl<'a, A: Allocator + Copy> Reply<'a, A> {
         }
     }
 
-    /// The set of this type that the answer section has at the name.
+    /// The set of this type in the answer section, at the name.
     fn answer_set(
         &self,
         alloc: A,
@@ -138,7 +137,7 @@ impl<'a, A: Allocator + Copy> Reply<'a, A> {
         self.answer_set(alloc, CNAME, name)
     }
 
-    /// The SOA that a denial at the name holds, in a box.
+    /// The boxed SOA for a denial at the name.
     fn soa_for(&self, alloc: A, name: &Name<A>) -> Result<Option<Box<Record<A>, A>>, AllocError>
         ensures found { IfOk result (λ soa. unboxed soa ≡ soa_for name.now self.now.question.class self.now.authority) }
         ensures soa { IfOk result (λ soa. IfSome (unboxed soa) IsSoa) }
@@ -146,15 +145,15 @@ impl<'a, A: Allocator + Copy> Reply<'a, A> {
         soa_for(alloc, name, self.class, self.authority)
     }
 
-    /// The authority section has name servers, and the reply is not authoritative: others are to be
-    /// asked.
+    /// The authority section has name servers, and the reply is not authoritative: different
+    /// servers are to be asked.
     fn is_referral(&self) -> bool
         ensures { result ≡ is_referral self.now }
     {
         !self.is_authoritative && has_name_servers(self.authority)
     }
 
-    /// The finding at a name where the reply has neither the asked set nor an alias.
+    /// The finding at a name with neither the asked set nor an alias.
     fn met_denial(&self, alloc: A, is_first: bool, name: &Name<A>) -> Result<AtName<A>, AllocError>
         ensures { IfOk result (λ met. met_of met ≡ denial_at self.now is_first name.now) }
     {
@@ -174,8 +173,8 @@ impl<'a, A: Allocator + Copy> Reply<'a, A> {
         Ok(AtName::NoData(no_data(alloc, source, &denied, soa)?))
     }
 
-    /// The finding at a name, which may be the first of the walk: the asked set, otherwise an
-    /// alias, otherwise a denial.
+    /// The finding at a name, first of the walk or not: the asked set, otherwise an alias,
+    /// otherwise a denial.
     pub fn met_at(&self, alloc: A, is_first: bool, name: &Name<A>) -> Result<AtName<A>, AllocError>
         ensures { IfOk result (λ met. met_of met ≡ met_at self.now is_first name.now) }
     {
@@ -234,7 +233,7 @@ fn set_met<A: Allocator>(kind: u16, set: Piece<A>) -> AtName<A>
     AtName::Set(set)
 }
 
-/// The name that an alias leads to: that of its one record. `Err` where memory ran out.
+/// The target of an alias's only record.
 #[tactic(auto, using(crate::proofs::PieceLaws::no_target))]
 pub fn target_of<A: Allocator + Copy>(
     alloc: A,

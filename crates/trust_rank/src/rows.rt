@@ -8,8 +8,8 @@ use plain_values::PlainList;
 use std::alloc::{AllocError, Allocator, Global};
 use std::marker::Model;
 
-/// The data of a record set, in order: that of one record in place, so that it is met with no step
-/// to the heap, that of more in a list. Contracts see the list of the data.
+/// The data of a record set, in order: of a single record in place, so that no step to the heap is
+/// needed, of more records in a list. Contracts see the list of the data.
 #[derive(Drop)]
 pub struct Rows<A: Allocator = Global> {
     place: Place<A>,
@@ -33,7 +33,7 @@ impl<A: Allocator> Model for Rows<A> {
 }
 
 impl<A: Allocator> Rows<A> {
-    /// The data of the list. It does not allocate, and frees the memory of a list of one.
+    /// The data of the list. Frees the memory of a list of one.
     pub fn from_list(list: PlainList<Rdata<A>, A>) -> Rows<A>
         ensures { result ≡ list }
     {
@@ -69,7 +69,7 @@ impl<A: Allocator> Rows<A> {
         }
     }
 
-    /// The data, where that of one record is all.
+    /// The data of a set's only record; `None` for more.
     pub fn only(&self) -> Option<&Rdata<A>>
         ensures { MatchOption result (length self.now ≢ 1) (λ one. self.now ≡ one.now ∷ []) }
     {
@@ -80,7 +80,7 @@ impl<A: Allocator> Rows<A> {
     }
 }
 
-/// The element of a slice that has no other.
+/// The only element of a slice.
 fn only_in<A: Allocator>(rows: &[Rdata<A>]) -> Option<&Rdata<A>>
     ensures { MatchOption result (length rows.now ≢ 1) (λ one. rows.now ≡ one.now ∷ []) }
 {
@@ -91,7 +91,7 @@ fn only_in<A: Allocator>(rows: &[Rdata<A>]) -> Option<&Rdata<A>>
 }
 
 impl<A: Allocator + Copy> Rows<A> {
-    /// Equal data. `Err` where memory ran out.
+    /// Equal data.
     pub fn copy(&self, alloc: A) -> Result<Rows<A>, AllocError>
         ensures { IfOk result (λ copy. copy ≡ self.now) }
     {

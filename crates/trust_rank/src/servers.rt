@@ -38,7 +38,7 @@ fn is_among<A: Allocator>(pieces: &[Piece<A>], name: &Name<A>) -> bool
     pieces.iter().any(|piece| is_owner(piece, name))
 }
 
-/// One of all these pieces has this owner.
+/// A piece of either list has this owner.
 #[tactic(auto, using(crate::proofs::ServerLaws::among_both))]
 fn has_piece<A: Allocator>(pieces: &[Piece<A>], sets: &[Piece<A>], name: &Name<A>) -> bool
     ensures { result ≡ list_any (has_owner name.now) (pieces.now ++ sets.now) }
@@ -46,8 +46,8 @@ fn has_piece<A: Allocator>(pieces: &[Piece<A>], sets: &[Piece<A>], name: &Name<A
     is_among(pieces, name) || is_among(sets, name)
 }
 
-/// An NS record that fits, and whose owner has no piece yet. That is asked first: of many records
-/// of one owner the route of the first alone is looked for.
+/// The NS record fits, and its owner has no piece yet. The owner is looked for first: of many
+/// records of an owner the route of the first alone is looked up.
 #[tactic(auto, using(crate::proofs::ServerLaws::begins_none, crate::proofs::ServerLaws::begins_one))]
 fn begins_set<A: Allocator + Copy>(
     reply: &Reply<'_, A>,
@@ -86,7 +86,7 @@ fn servers_with<'a, A: Allocator + Copy>(
     set_with(alloc, source, first, others, &key)
 }
 
-/// Puts the set that begins with this record last, where the record fits and its owner has no piece
+/// Puts the set that begins with this record last, if the record fits and its owner has no piece
 /// yet.
 fn put_servers<'a, A: Allocator + Copy>(
     alloc: A,
@@ -106,8 +106,8 @@ fn put_servers<'a, A: Allocator + Copy>(
     sets.push(servers_with(alloc, reply, first, others)?)
 }
 
-/// The sets of the fitting NS records of the authority section, each where its owner has no piece
-/// yet, in order.
+/// The sets of the fitting NS records of the authority section whose owners have no piece yet, in
+/// order.
 pub(crate) fn servers_beside<'a, A: Allocator + Copy>(
     alloc: A,
     reply: &Reply<'a, A>,

@@ -22,10 +22,10 @@ use suffix_routes::RouteId;
 /// The longest lifetime of a piece, in seconds: a week.
 const LONGEST: u32 = 604_800;
 
-/// The number of data of a set that are compared one by one; further ones are found by an index.
+/// The number of a set's data compared one by one; further data is found by an index.
 const FEW: usize = 16;
 
-/// Which records make a set.
+/// The records of a set.
 #[derive(Drop)]
 pub(crate) struct SetKey<'a, A: Allocator> {
     pub name: &'a Name<A>,
@@ -41,7 +41,7 @@ impl<'a, A: Allocator> Model for SetKey<'a, A> {
     ghost view = { λ s. record { name = s.name.now; kind = s.kind; class = s.class } };
 }
 
-/// How far a piece is to be believed (RFC 2181 5.4.1), and the route of the ask that it answers.
+/// The rank of a piece (RFC 2181 5.4.1), and the route of the answered ask.
 #[derive(Clone, Copy)]
 pub(crate) struct Source {
     pub rank: u8,
@@ -66,14 +66,14 @@ impl<'a, A: Allocator + Copy> SetKey<'a, A> {
     }
 }
 
-/// The seconds of a TTL; with its top bit set it counts as 0 (RFC 2181 8).
+/// The seconds of a TTL; 0 with its top bit set (RFC 2181 8).
 pub(crate) fn seconds_from(ttl: u32) -> u32
     ensures { result ≡ seconds_of ttl }
 {
     if ttl >= 1 << 31 { 0 } else { ttl }
 }
 
-/// The data of a set and its lifetime, as far as its records were seen.
+/// The data of a set and its lifetime, from the records so far.
 #[derive(Drop)]
 struct Gathered<'a, A: Allocator> {
     rows: PlainList<Rdata<A>, A>,
@@ -94,7 +94,7 @@ fn is_among<A: Allocator>(octets: &[u8], rows: &[Rdata<A>]) -> bool
     rows.iter().any(|row| is_same_octets(octets, row.octets()))
 }
 
-/// The data that is compared one by one.
+/// The data compared one by one.
 fn first_few<A: Allocator>(rows: &[Rdata<A>]) -> &[Rdata<A>]
     ensures { result.now ≡ take few rows.now }
 {
@@ -117,7 +117,7 @@ impl<'a, A: Allocator + Copy> Gathered<'a, A> {
         })
     }
 
-    /// Puts the data last, where it isn't there already.
+    /// Puts the data last, if new.
     fn put_new(&mut self, alloc: A, row: &'a Rdata<A>) -> Result<(), AllocError>
         requires { Indexes self.old.index self.old.rows }
         ensures rows { OnOk result (self.new.rows ≡ with_data self.old.rows row.now) }
@@ -170,7 +170,7 @@ fn push_copy<A: Allocator + Copy>(
     rows.push(row.copy(alloc)?)
 }
 
-/// The data and the lifetime of the set that begins with this record and goes on among the others.
+/// The data and the lifetime of the set that begins with this record and goes on in the rest.
 fn gather<'a, A: Allocator + Copy>(
     alloc: A,
     first: &'a Record<A>,
@@ -189,7 +189,7 @@ fn gather<'a, A: Allocator + Copy>(
     Ok((Rows::from_list(rows), lifetime))
 }
 
-/// The set that begins with this record and goes on among the others.
+/// The set that begins with this record and goes on in the rest.
 pub(crate) fn set_with<'a, A: Allocator + Copy>(
     alloc: A,
     source: Source,
@@ -215,7 +215,7 @@ pub(crate) fn set_with<'a, A: Allocator + Copy>(
     })
 }
 
-/// The set of these records, if there are any.
+/// The set of these records, if any.
 pub(crate) fn set_among<'a, A: Allocator + Copy>(
     alloc: A,
     source: Source,

@@ -3,8 +3,8 @@
 use dns_name::NameKey;
 use std::hash::{Hash, Hasher};
 
-/// The key of a piece: a name and class with a type, or with none for the denial of a whole name.
-/// Class and type come first, so that in memory they are next to the octets of a usual name.
+/// The key of a piece: a name and class with a type, or without a type for the denial of a whole
+/// name. Class and type come first, next to the octets of a usual name in memory.
 #[derive(Clone, Copy, PartialEq, Eq)]
 pub struct Slot {
     /// 1 is IN.

@@ -1,4 +1,4 @@
-//! The walk of a reply: the pieces that it carries for a question, and its end.
+//! The walk of a reply to a question: its pieces, and its end.
 
 use crate::piece::Piece;
 use dns_name::Name;
@@ -9,7 +9,7 @@ use std::marker::Model;
 /// How the walk of a reply ends.
 #[derive(Drop)]
 pub enum End<A: Allocator = Global> {
-    /// With the set that was asked for.
+    /// With the asked set.
     Found,
     /// With NODATA: the last name has no records of the type (RFC 2308 2.2).
     NoData,
@@ -17,17 +17,17 @@ pub enum End<A: Allocator = Global> {
     Denied,
     /// At this name, which has to be asked for.
     Elsewhere(Name<A>),
-    /// The reply neither answers nor denies, or contradicts itself: it carries nothing.
+    /// The reply neither answers nor denies, or contradicts itself, and carries nothing.
     Lame,
 }
 
-/// The pieces that a reply carries for a question, and how its walk from the asked name ends.
+/// The pieces of a reply to a question, and the end of its walk from the asked name.
 #[derive(Drop)]
 pub struct Walk<A: Allocator = Global> {
-    /// The aliases in order, at most eight, and the piece that ends the walk, if one does.
+    /// The aliases in order, at most eight, and the piece at the end of the walk, if any.
     pub pieces: PlainList<Piece<A>, A>,
-    /// The name servers of the authority section, where the reply is authoritative: NS sets whose
-    /// owner has no other piece, in the order of the section.
+    /// The name servers of the authority section of an authoritative reply: NS sets of owners
+    /// without a piece, in the order of the section.
     pub authority: PlainList<Piece<A>, A>,
     /// How the walk ends.
     pub end: End<A>,

@@ -29,7 +29,7 @@ fn ending<A: Allocator + Copy>(alloc: A, pieces: PlainList<Piece<A>, A>, end: En
     }
 }
 
-/// These pieces and a last one.
+/// These pieces and a last piece.
 fn ending_with<A: Allocator + Copy>(
     alloc: A,
     mut pieces: PlainList<Piece<A>, A>,
@@ -99,20 +99,19 @@ fn with_servers<A: Allocator + Copy>(
     })
 }
 
-/// Returns the pieces that a reply to the question carries, and how the walk from the asked name
-/// ends. The question was asked on the route.
+/// Returns the pieces of a reply to the question on the route, and the end of the walk from the
+/// asked name.
 ///
-/// At each name, first that holds: the name is not on the route, so it has to be asked for; the
-/// answer section has the asked set; it has an alias (RFC 1034 3.6.2), of which eight at most are
-/// taken; the response code denies the name (RFC 2308 2.1); an alias was taken and no SOA of the
-/// authority section fits, so the name has to be asked for; none was taken, none fits and the reply
-/// is a referral, which is lame; otherwise the type is denied (RFC 2308 2.2). More than one alias
-/// at a name is lame (RFC 2181 10.1). An authoritative reply carries the NS sets of its authority
-/// section too, of the question's class, whose owner is at or above the asked name, on the route,
-/// and has no other piece.
+/// At each name, the first of these: the name is not on the route, so the name has to be asked for;
+/// the answer section has the asked set; an alias (RFC 1034 3.6.2), at most eight in all; the
+/// response code denies the name (RFC 2308 2.1); after an alias, without a fitting SOA in the
+/// authority section, the name has to be asked for; before any alias, without a fitting SOA, a
+/// referral is lame; otherwise the type is denied (RFC 2308 2.2). Two aliases at a name are lame
+/// (RFC 2181 10.1). An authoritative reply carries the NS sets of its authority section too: of the
+/// question's class, on the route, for owners at or above the asked name without a piece.
 ///
-/// `Err` where memory ran out. The time is in proportion to n log n for n records, since the data
-/// of a large set is found by an index; no contract says so.
+/// The time is in proportion to n log n for n records, since the data of a large set is found by an
+/// index; no contract says so.
 pub fn pieces<A: Allocator + Copy>(
     alloc: A,
     message: &Message<A>,

@@ -1,5 +1,5 @@
--- Waiting questions under the keys of a slab, and two lists of those keys: one in the order of
--- taking, one by question, with numbers.
+-- Waiting questions under the keys of a slab, and two lists of the keys: in the order of arrival,
+-- and by question, with numbers.
 use Rattle.std.specs.Prelude.{◌≡◌, ◌≢◌, ℕ, ◌<◌, ◌≤◌, ◌+◌, ◌^◌, ◌==◌, ◌&&◌, Bool, true, false, nat_le, nat_lt}
 use Rattle.std.specs.Prelude.{if◌then◌else◌, List, length, filter, map, Option, Some, None, IsSome, slice_index}
 use Rattle.std.specs.List.{All, AllPairs, between, filter_map}
@@ -16,7 +16,7 @@ use Rattle.outstanding.specs.Orders.{key_cmp, question_key}
 use Rattle.waiting_questions.specs.Values.{Waiting, waits_for}
 use Rattle.waiting_questions.specs.declared.table.Table.{Table}
 
--- what waits under these keys
+-- the waiting questions under these keys
 abbrev pub waiting_under : Slab Waiting → List ℕ → List Waiting
 waiting_under s keys = filter_map (λ key. get s key) keys
 
@@ -24,21 +24,21 @@ waiting_under s keys = filter_map (λ key. get s key) keys
 abbrev pub keys_of : List NumberedKey → List ℕ
 keys_of items = map (λ item. item.key) items
 
--- a test of what waits under a key
+-- a test of the question under a key
 abbrev pub passes : (Waiting → Bool) → Option Waiting → Bool
 passes p None = false
 passes p (Some x) = p x
 
--- how its question compares to another
+-- the order of the wanted question's key and this key
 abbrev pub to_question : QuestionKey → Waiting → Ordering
 to_question key x = key_cmp (question_key x.wanted) key
 
--- the same under a key, where a key without a question comes first
+-- the order by f under a slab key; a slab key without a question comes first
 abbrev pub compared : (Waiting → Ordering) → Option Waiting → Ordering
 compared f None = Less
 compared f (Some x) = f x
 
--- the same under a key with a number, where numbers that differ decide alone
+-- the order of an item and this key; different numbers decide alone
 abbrev pub compared_item : QuestionKey → Slab Waiting → NumberedKey → Ordering
 compared_item key s item = if item.number == key.number then compared (to_question key) (get s item.key)
     else nat_cmp item.number key.number
@@ -51,32 +51,31 @@ IsByQuestion a b = key_cmp (question_key a.wanted) (question_key b.wanted) ≢ G
 abbrev pub IsByTaken : Waiting → Waiting → Type 0
 IsByTaken a b = a.taken ≤ b.taken
 
--- each key once, with a question under it, and in an order
+-- each key once, with a question under the key, and in an order
 pub record AreKeys (L : Waiting → Waiting → Type 0) (s : Slab Waiting) (keys : List ℕ) : Type 0 where
   pub present : All (λ key. IsSome (get s key)) keys
   pub apart : AllPairs (λ j k. j ≢ k) keys
   pub in_order : AllPairs (λ j k. (a b : Waiting) → get s j ≡ Some a → get s k ≡ Some b → L a b) keys
 
--- each number is that of the question under the key
+-- each number is the number of the question under the key
 abbrev pub AreNumbered : Slab Waiting → List NumberedKey → Type 0
 AreNumbered s items = All (λ item. (a : Waiting) → get s item.key ≡ Some a
     → (question_key a.wanted).number ≡ item.number) items
 
--- the keys in the order of questions are those in the order of taking; those for one question are
--- in that order too
+-- both lists have equal keys; the keys of one question are in the order of arrival in both
 pub record AreIndexed (s : Slab Waiting) (by_question by_arrival : List ℕ) : Type 0 where
   pub questions : AreKeys IsByQuestion s by_question
   pub turns : AreKeys IsByTaken s by_arrival
   pub same : (q : Question) → filter (λ key. passes (waits_for q) (get s key)) by_question
       ≡ filter (λ key. passes (waits_for q) (get s key)) by_arrival
 
--- those that come before what is sought are before place i
+-- exactly the keys before place i come before the sought question
 abbrev pub BeginsAt : (Waiting → Ordering) → Slab Waiting → List ℕ → ℕ → Type 0
 BeginsAt f s keys i = (i ≤ length keys)
     × IsPartitionPoint (λ key. is_lt (compared f (get s key)) ≡ true) (λ key. is_lt (compared f (get s key))
     ≡ false) keys i
 
--- what is sought is from place i up to place j
+-- the keys of the sought question are those from place i up to place j
 pub record IsRange (f : Waiting → Ordering) (s : Slab Waiting) (keys : List ℕ) (i j : ℕ) : Type 0 where
   pub low : i ≤ j
   pub high : j ≤ length keys
@@ -84,22 +83,22 @@ pub record IsRange (f : Waiting → Ordering) (s : Slab Waiting) (keys : List �
   pub among : (k : ℕ) (a : Waiting) → i ≤ k → k < j → get s (slice_index keys k) ≡ Some a → f a ≡ Equal
   pub behind : (k : ℕ) (a : Waiting) → j ≤ k → k < length keys → get s (slice_index keys k) ≡ Some a → f a ≡ Greater
 
--- a question waits under each of the keys from one place up to another
+-- a question waits under each key from place i up to place j
 pub record ArePlaces (s : Slab Waiting) (items : List NumberedKey) (start end : ℕ) : Type 0 where
   pub low : start ≤ end
   pub high : end ≤ length items
   pub present : All (λ key. IsSome (get s key)) (between start end (keys_of items))
 
--- those of a table, in the order of taking
+-- the questions of a table, in the order of arrival
 abbrev pub items_of : {A : Type 0} → Table A → List Waiting
 items_of t = waiting_under t.waiting t.by_arrival.keys
 
--- both lists are in order, and have the keys and the numbers of what waits
+-- both lists are in order, and have the keys and numbers of the waiting questions
 pub record IsIndexed {A : Type 0} (t : Table A) : Type 0 where
   pub lists : AreIndexed t.waiting (keys_of t.by_question.items) t.by_arrival.keys
   pub numbers : AreNumbered t.waiting t.by_question.items
 
--- one more does not allocate, and its key takes no more than 32 bits
+-- one more question needs no allocation, and its key takes at most 32 bits
 abbrev pub has_room : {A : Type 0} → Table A → Bool
 has_room t =
     nat_le (slab_len t.waiting + 1) t.waiting.capacity

@@ -1,4 +1,4 @@
--- Questions that wait no more, or wait on: each that waits for a question has a fate.
+-- The fates of questions that wait for a reply: gone, or redirected.
 use Rattle.std.specs.Prelude.{ℕ, suc, if◌then◌else◌, Bool, List, [], ◌∷◌, ◌++◌, length, filter, take, drop, option_map}
 use Rattle.std.specs.Prelude.{Option, Some}
 use Rattle.std.specs.List.{cons_option, filter_map}
@@ -6,24 +6,23 @@ use Rattle.dns_message.specs.Values.{Question}
 use Rattle.waiting_questions.specs.Values.{Waiting, waits_for}
 use Rattle.waiting_questions.specs.Onward.{Onward, sent_on}
 
--- what its fate leaves of a question: with aliases and another question it is sent on, with none it
--- is gone
+-- the rest of a question after its fate: redirected with aliases and a wanted question, or gone
 abbrev pub left_by : Option Onward → Waiting → Option Waiting
 left_by fate x = option_map (λ s. sent_on s x) fate
 
--- those that wait for the question get the fates, in order; all others stay where they are, and so
--- do those for whom no fate is left
+-- each question that waits for q gets its fate, in order; questions without a fate and all further
+-- questions stay
 abbrev pub settled : Question → List (Option Onward) → List Waiting → List Waiting
 settled q fates [] = []
 settled q [] (x ∷ xs) = x ∷ xs
 settled q (fate ∷ fates) (x ∷ xs) = if waits_for q x then cons_option (left_by fate x) (settled q fates xs)
     else x ∷ settled q (fate ∷ fates) xs
 
--- the same, where a function gives the fates
+-- the rest, if a function gives the fates
 abbrev pub settled_by : Question → (Waiting → Option Onward) → List Waiting → List Waiting
 settled_by q f xs = filter_map (λ x. if waits_for q x then left_by (f x) x else Some x) xs
 
--- with this in place of the one there, or without it
+-- with this question in place of the old, or without any
 abbrev pub with_at : {X : Type 0} → List X → ℕ → Option X → List X
 with_at xs place o = take place xs ++ cons_option o (drop (suc place) xs)
 

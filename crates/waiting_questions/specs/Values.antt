@@ -6,7 +6,7 @@ use Rattle.record_cache.specs.Values.{Held}
 use Rattle.answer_builder.specs.Values.{Asked}
 use Rattle.step_values.specs.declared.event.Client.{Client}
 
--- a waiting question: what its answer repeats, the aliases that it holds, what it wants
+-- a waiting question: the request to repeat, the held aliases, the wanted question
 pub record Waiting : Type 0 where
   pub client : Client
   pub asked : Asked
@@ -14,11 +14,11 @@ pub record Waiting : Type 0 where
   pub held : List Held
   pub wanted : Question
 
--- it wants q
+-- w wants q
 abbrev pub waits_for : Question → Waiting → Bool
 waits_for q x = same_question x.wanted q
 
--- the questions that wait, in the order of taking, and whether one more fits without allocating
+-- the waiting questions, in the order of arrival, and whether one more fits without allocating
 pub record WaitingList : Type 0 where
   pub items : List Waiting
   pub has_room : Bool

@@ -1,4 +1,4 @@
-//! A waiting question as it is kept, with the key of its question.
+//! A waiting question with the key of its wanted question.
 
 ghost use Rattle.std.specs.Prelude.{◌≡◌};
 ghost use Rattle.outstanding.specs.Orders.{question_key};
@@ -11,8 +11,8 @@ use std::alloc::{Allocator, Global};
 use std::cmp::Ordering;
 use std::marker::Model;
 
-/// A waiting question, and the key of the question that it wants to know, which is made once. It is
-/// seen as the waiting question. The key comes first, where a search looks.
+/// A `Waiting` with the precomputed key of its wanted question. Contracts see the `Waiting` alone.
+/// The key comes first in memory, where a search looks.
 #[derive(Drop)]
 pub struct KeyedWaiting<A: Allocator = Global> {
     key: QuestionKey,
@@ -32,8 +32,7 @@ impl<A: Allocator> Model for KeyedWaiting<A> {
 }
 
 impl<A: Allocator> KeyedWaiting<A> {
-    /// A waiting question with the key of the question that it wants to know, which was made
-    /// before. It does not allocate.
+    /// A waiting question with this key, computed before for its wanted question.
     pub fn new(waiting: Waiting<A>, key: QuestionKey) -> KeyedWaiting<A>
         requires { key ≡ question_key waiting.wanted }
         ensures { result ≡ waiting }
@@ -41,8 +40,8 @@ impl<A: Allocator> KeyedWaiting<A> {
         KeyedWaiting { key, waiting }
     }
 
-    /// Replaces the aliases that it holds; from now on it waits for the question that the new ones
-    /// lead to.
+    /// Replaces the aliases; the question then waits for the question at the end of the new
+    /// aliases.
     pub(crate) fn send_on(&mut self, onward: SentOn<A>)
         ensures { self.new ≡ sent_on onward self.old }
     {
@@ -56,14 +55,14 @@ impl<A: Allocator> KeyedWaiting<A> {
         &self.waiting
     }
 
-    /// The key of the question that it wants to know.
+    /// The key of the wanted question.
     pub(crate) fn key(&self) -> &QuestionKey
         ensures { result.now ≡ question_key self.now.wanted }
     {
         &self.key
     }
 
-    /// The order of that question and another.
+    /// The order of the wanted question and `key`.
     pub(crate) fn cmp_question(&self, key: &QuestionKey) -> Ordering
         ensures { result ≡ to_question key.now self.now }
     {

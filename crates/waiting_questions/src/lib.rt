@@ -1,5 +1,5 @@
-//! The questions that wait for their replies, in the order in which they were taken. Those that
-//! wait for one question are found without a look at the others.
+//! The waiting questions, in the order of arrival. Those for one question are found without a look
+//! at the rest.
 #![tactic(auto)]
 
 mod keyed;

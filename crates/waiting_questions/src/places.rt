@@ -14,9 +14,9 @@ use std::alloc::Allocator;
 use std::cmp::Ordering;
 use std::collections::VecDeque;
 
-/// How the question under a key compares to another. Numbers that differ decide alone: the
-/// questions are far away in memory, and are looked at only where numbers are equal. A key without
-/// a question comes first then.
+/// The order of `key` and the question under a slab key. Different numbers decide alone: the
+/// questions are far away in memory, and are read only if numbers are equal. A slab key without a
+/// question comes first.
 #[inline]
 fn compare<A: Allocator>(
     waiting: &Slab<KeyedWaiting<A>, A>,
@@ -35,11 +35,11 @@ fn compare<A: Allocator>(
     }
 }
 
-/// The number of keys that are looked at one by one: for most questions few wait.
+/// The number of keys compared one by one: few clients wait for most questions.
 const FEW: usize = 4;
 
-/// The range of the keys of those that wait for a question, among keys in the order of their
-/// questions: its start and its end.
+/// The range, as start and end, of the questions that wait for `key`, among keys in the order of
+/// their questions.
 pub(crate) fn range_of<A: Allocator>(
     waiting: &Slab<KeyedWaiting<A>, A>,
     keys: &VecDeque<NumberedKey, A>,
@@ -53,7 +53,7 @@ pub(crate) fn range_of<A: Allocator>(
     (start, end_from(waiting, keys, question, start))
 }
 
-/// The end of the range of those that wait for a question, where it begins at this place.
+/// The end of the range that begins at this place.
 fn end_from<A: Allocator>(
     waiting: &Slab<KeyedWaiting<A>, A>,
     keys: &VecDeque<NumberedKey, A>,
@@ -74,8 +74,8 @@ fn end_from<A: Allocator>(
     keys.partition_point(|item| compare(waiting, *item, question).is_le())
 }
 
-/// The place of a key of this turn among the keys from one place up to another, which are in turn:
-/// after those of an earlier turn. A binary search.
+/// The place of the question with this turn in a range that is in the order of turns: after all
+/// questions with earlier turns. A binary search.
 pub(crate) fn place_by_turn<A: Allocator>(
     keys: &VecDeque<NumberedKey, A>,
     by_arrival: &ArrivalOrder<A>,

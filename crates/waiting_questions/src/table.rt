@@ -18,10 +18,9 @@ use slab::Slab;
 use std::alloc::{AllocError, Allocator};
 use std::collections::VecDeque;
 
-/// The waiting questions, each under a key that the slab picks, and two lists of the keys: in the
-/// order of the questions, those for equal ones in the order of taking; and of all in the order of
-/// taking. The first has the numbers of the questions next to the keys, so that a search seldom
-/// looks at the questions themselves.
+/// The waiting questions, each under a slab key, and two lists of the keys: by question, equal
+/// questions in the order of arrival; and all in the order of arrival. The first list has the
+/// numbers of the questions next to the keys, so that a search seldom reads a question.
 #[derive(Drop)]
 pub(crate) struct Table<A: Allocator> {
     pub(crate) waiting: Slab<KeyedWaiting<A>, A>,
@@ -30,7 +29,7 @@ pub(crate) struct Table<A: Allocator> {
 }
 
 impl<A: Allocator> Table<A> {
-    /// None. It does not allocate.
+    /// An empty table.
     pub(crate) fn new(alloc: A) -> Table<A>
     where
         A: Copy,
@@ -44,7 +43,7 @@ impl<A: Allocator> Table<A> {
         }
     }
 
-    /// The number that wait.
+    /// The number of waiting questions.
     pub(crate) fn len(&self) -> usize
         requires { IsIndexed self.now }
         ensures { result ≡ length (items_of self.now) }
@@ -52,7 +51,7 @@ impl<A: Allocator> Table<A> {
         self.by_arrival.len()
     }
 
-    /// The question that was taken first, with its key.
+    /// The oldest question, with its key.
     pub(crate) fn first(&self) -> Option<&KeyedWaiting<A>>
         requires { IsIndexed self.now }
         ensures { MatchOption result (items_of self.now ≡ []) (λ keyed. slice_get (items_of self.now) 0
@@ -62,8 +61,8 @@ impl<A: Allocator> Table<A> {
         Some(&self.waiting[key])
     }
 
-    /// The range of those that wait for this question, in the order of questions: its start and its
-    /// end.
+    /// The range, as start and end, of the questions that wait for `key`, in the order of
+    /// questions.
     pub(crate) fn range(&self, question: &QuestionKey) -> (usize, usize)
         requires { IsIndexed self.now }
         ensures { IsRange (to_question question.now) self.now.waiting
@@ -72,8 +71,7 @@ impl<A: Allocator> Table<A> {
         range_of(&self.waiting, &self.by_question, question)
     }
 
-    /// Makes room for one more. `Err` where memory ran out, or where its key takes more than 32
-    /// bits.
+    /// Makes room for one more question. A slab key longer than 32 bits counts as out of memory.
     pub(crate) fn reserve(&mut self) -> Result<(), AllocError>
         requires { IsIndexed self.old }
         ensures indexed { IsIndexed self.new }
@@ -89,7 +87,7 @@ impl<A: Allocator> Table<A> {
         self.by_arrival.reserve(key)
     }
 
-    /// Puts a question last, which was taken no earlier than the others, where there is room.
+    /// Puts the newest question last, if there is room.
     pub(crate) fn put(&mut self, waiting: KeyedWaiting<A>)
         requires indexed { IsIndexed self.old }
         requires room { has_room self.old ≡ true }
@@ -124,8 +122,8 @@ impl<A: Allocator> Table<A> {
         self.waiting.remove(item.key());
     }
 
-    /// Sends the question on whose key is at this place in the order of questions, and at this
-    /// turn, which it keeps.
+    /// Redirects the question whose key is at this place in the order of questions, and at this
+    /// turn, which stays.
     fn send_on(&mut self, place: usize, turn: usize, onward: SentOn<A>)
         requires indexed { IsIndexed self.old }
         requires place { place < length self.old.by_question.items }
@@ -151,8 +149,8 @@ impl<A: Allocator> Table<A> {
         };
     }
 
-    /// Gives its fate to the question whose key is at this place in the order of questions, and at
-    /// this turn: it is sent on, or removed.
+    /// Redirects or removes the question whose key is at this place in the order of questions, and
+    /// at this turn.
     fn settle_one(&mut self, place: usize, turn: usize, fate: Option<SentOn<A>>)
         requires indexed { IsIndexed self.old }
         requires place { place < length self.old.by_question.items }
@@ -168,8 +166,8 @@ impl<A: Allocator> Table<A> {
         }
     }
 
-    /// Gives their fates to those that wait for the question of this ask, the newest of them first,
-    /// so that the places of those before it stay.
+    /// Gives their fates to the questions that wait for this ask's question, the newest first, so
+    /// that the places of the older ones stay.
     pub(crate) fn settle(&mut self, ask: &KeyedAsk<A>, mut fates: Vec<Option<SentOn<A>>, A>)
         requires indexed { IsIndexed self.old }
         requires one_each { length fates.items ≡ length (filter (waits_for ask.now.question) (items_of self.old)) }
@@ -185,8 +183,8 @@ impl<A: Allocator> Table<A> {
         }
     }
 
-    /// Removes those that wait for the question of this ask, the newest of them first. Their keys
-    /// leave the list in the order of questions at once, when all are gone.
+    /// Removes the questions that wait for this ask's question, the newest first. Their keys leave
+    /// the list by question together, at the end.
     pub(crate) fn end(&mut self, ask: &KeyedAsk<A>)
         requires { IsIndexed self.old }
         ensures indexed { IsIndexed self.new }
@@ -202,7 +200,7 @@ impl<A: Allocator> Table<A> {
         take_range(&mut self.by_question, start, end);
     }
 
-    /// Removes all. It does not allocate.
+    /// Removes all.
     pub(crate) fn clear(&mut self)
         ensures indexed { IsIndexed self.new }
         ensures list { items_of self.new ≡ [] }
@@ -221,8 +219,8 @@ fn let_go<A: Allocator>(waiting: &mut Slab<KeyedWaiting<A>, A>, key: usize)
     waiting.remove(key);
 }
 
-/// Takes the keys from one place up to another out. The keys on the shorter side move up: once
-/// where one key goes, and twice where more do.
+/// Removes the keys from one place up to another. The keys on the shorter side move up: once for
+/// one removed key, twice for more.
 fn take_range<A: Allocator>(keys: &mut VecDeque<NumberedKey, A>, start: usize, end: usize)
     requires low { start ≤ end }
     requires high { end ≤ length keys.old.items }

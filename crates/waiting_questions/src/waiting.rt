@@ -1,4 +1,4 @@
-//! A question of a client, as it comes and as it waits.
+//! A client's question, on arrival and while waiting.
 
 ghost use Rattle.std.specs.Prelude.{◌≡◌, ◌<◌, ◌≤◌, length, IfOk};
 ghost use Rattle.waiting_questions.specs.Onward.{waits_on};
@@ -10,15 +10,14 @@ use std::alloc::{AllocError, Allocator, Global};
 use std::marker::Model;
 use step_values::Client;
 
-/// A client's request, with its question in place. Contracts see it as the question that waits for
-/// its reply.
+/// A client's request, with its question in place. Contracts see a waiting question.
 #[derive(Drop)]
 pub struct Request<'a> {
     pub client: Client,
     /// The header of the client's message.
     pub header: Header,
     pub question: QuestionRef<'a>,
-    /// The moment at which it was taken, in milliseconds.
+    /// The moment of arrival, in milliseconds.
     pub taken: u64,
 }
 
@@ -41,7 +40,7 @@ impl<'a> Model for Request<'a> {
 }
 
 impl<'a> Request<'a> {
-    /// The part of it that its answer repeats: its opcode has 4 bits. It does not allocate.
+    /// The part of the request that an answer repeats; the opcode has 4 bits.
     pub fn asked(&self) -> AskedRef<'a>
         ensures asked { result ≡ self.now.asked }
         ensures opcode { self.now.asked.opcode < 16 }
@@ -54,8 +53,8 @@ impl<'a> Request<'a> {
         }
     }
 
-    /// The same as a question that waits, with the aliases that it holds and the question that it
-    /// is sent on with, or for its own question: its name is copied. `Err` where memory ran out.
+    /// Copies the request into a `Waiting`. With `sent_on` the copy waits for this question instead
+    /// of its own.
     pub fn to_waiting<A: Allocator>(
         &self,
         alloc: A,
@@ -74,8 +73,8 @@ impl<'a> Request<'a> {
     }
 }
 
-/// The aliases that a question holds, at most eight, and the question that it wants to know now:
-/// its own at the name that they lead to.
+/// The held aliases, at most eight, and the wanted question: the client's question with the name at
+/// the end of the aliases.
 #[derive(Drop)]
 pub struct SentOn<A: Allocator = Global> {
     pub aliases: Vec<Held<A>, A>,
@@ -93,16 +92,16 @@ impl<A: Allocator> Model for SentOn<A> {
     ghost invariant = { λ s. length s.aliases.items ≤ 8 };
 }
 
-/// A question that waits for its reply.
+/// A question that waits for a reply.
 #[derive(Drop)]
 pub struct Waiting<A: Allocator = Global> {
     pub client: Client,
     /// The header of the client's message.
     pub header: Header,
     pub question: Question<A>,
-    /// The moment at which it was taken, in milliseconds.
+    /// The moment of arrival, in milliseconds.
     pub taken: u64,
-    /// `None` where it waits for its own question.
+    /// `None` if the client's own question is the wanted one.
     pub sent_on: Option<SentOn<A>>,
 }
 
@@ -126,7 +125,7 @@ impl<A: Allocator> Model for Waiting<A> {
 }
 
 impl<A: Allocator> Waiting<A> {
-    /// The client's request, borrowed. It does not allocate.
+    /// The client's request, borrowed.
     pub fn request(&self) -> Request<'_>
         ensures client { result.client ≡ self.now.client }
         ensures asked { result.asked ≡ self.now.asked }
@@ -140,7 +139,7 @@ impl<A: Allocator> Waiting<A> {
         }
     }
 
-    /// The aliases that it holds, in order: at most eight. It does not allocate.
+    /// The held aliases, in order: at most eight.
     pub fn aliases(&self) -> &[Held<A>]
         ensures aliases { result.now ≡ self.now.held }
         ensures few { length self.now.held ≤ 8 }
@@ -151,7 +150,7 @@ impl<A: Allocator> Waiting<A> {
         }
     }
 
-    /// The question that it wants to know now. It does not allocate.
+    /// The wanted question.
     pub fn wanted(&self) -> &Question<A>
         ensures { result.now ≡ self.now.wanted }
     {
@@ -161,8 +160,8 @@ impl<A: Allocator> Waiting<A> {
         }
     }
 
-    /// Replaces the aliases that it holds; from now on it waits for the question that the new ones
-    /// lead to. It does not allocate.
+    /// Replaces the aliases; the question then waits for the question at the end of the new
+    /// aliases.
     pub fn send_on(&mut self, sent_on: SentOn<A>)
         ensures { self.new ≡ record self.old { held = sent_on.held; wanted = sent_on.wanted } }
     {

@@ -1,4 +1,4 @@
-//! The questions that wait.
+//! The waiting questions.
 
 ghost use Rattle.std.specs.Prelude.{◌≡◌, ◌<◌, ◌≤◌, ◌∷◌, ◌++◌, [], true, not, drop, filter, length, None, Some, IsSome};
 ghost use Rattle.std.specs.Prelude.{MatchOption, OnErr, OnOk, slice_get, slice_index};
@@ -18,7 +18,7 @@ use std::alloc::{AllocError, Allocator, Global};
 use std::collections::VecDeque;
 use std::marker::Model;
 
-/// The questions that wait, in the order in which they were taken.
+/// The waiting questions, in the order of arrival.
 #[derive(Drop)]
 pub struct WaitingQuestions<A: Allocator = Global> {
     table: Table<A>,
@@ -36,7 +36,7 @@ impl<A: Allocator> Model for WaitingQuestions<A> {
 }
 
 impl<A: Allocator> WaitingQuestions<A> {
-    /// None. It does not allocate; `reserve_one` and `push` later allocate from `alloc`.
+    /// No questions; `reserve_one` and `push` later allocate from `alloc`.
     pub fn new(alloc: A) -> WaitingQuestions<A>
     where
         A: Copy,
@@ -47,22 +47,21 @@ impl<A: Allocator> WaitingQuestions<A> {
         }
     }
 
-    /// The number that wait. It does not allocate.
+    /// The number of waiting questions.
     pub fn len(&self) -> usize
         ensures { result ≡ length self.now.items }
     {
         self.table.len()
     }
 
-    /// The question that was taken first. `None` exactly where none waits. It does not allocate.
+    /// The oldest question. `None` exactly if no question waits.
     pub fn first(&self) -> Option<&Waiting<A>>
         ensures { MatchOption result (self.now.items ≡ []) (λ waiting. slice_get self.now.items 0 ≡ Some waiting.now) }
     {
         Some(self.table.first()?.waiting())
     }
 
-    /// Makes room for one more question. `Err` where memory ran out; the same questions wait in
-    /// either case.
+    /// Makes room for one more question.
     pub fn reserve_one(&mut self) -> Result<(), AllocError>
         ensures same { self.new.items ≡ self.old.items }
         ensures room { OnOk result (self.new.has_room ≡ true) }
@@ -70,8 +69,8 @@ impl<A: Allocator> WaitingQuestions<A> {
         self.table.reserve()
     }
 
-    /// Puts a question last. It does not allocate. The caller makes sure that there is room for it
-    /// (`reserve_one`) and that no question was taken later.
+    /// Puts a question last. The caller makes sure that there is room (`reserve_one`) and that the
+    /// question is the newest.
     pub fn push_reserved(&mut self, waiting: KeyedWaiting<A>)
         requires room { self.old.has_room ≡ true }
         requires later { AllByRecursion (λ x. x.taken ≤ waiting.taken) self.old.items }
@@ -80,8 +79,8 @@ impl<A: Allocator> WaitingQuestions<A> {
         self.table.put(waiting);
     }
 
-    /// Puts a question last. `Err` where memory ran out, and then the same questions wait. The
-    /// caller makes sure that no question was taken later.
+    /// Puts a question last, with room of its own. The caller makes sure that the question is the
+    /// newest.
     pub fn push(&mut self, waiting: KeyedWaiting<A>) -> Result<(), AllocError>
         requires { AllByRecursion (λ x. x.taken ≤ waiting.taken) self.old.items }
         ensures ok { OnOk result (self.new.items ≡ self.old.items ++ waiting ∷ []) }
@@ -92,7 +91,7 @@ impl<A: Allocator> WaitingQuestions<A> {
         Ok(())
     }
 
-    /// Removes the question that was taken first. It does not allocate.
+    /// Removes the oldest question.
     pub fn drop_first(&mut self)
         ensures { self.new.items ≡ drop 1 self.old.items }
     {
@@ -103,17 +102,17 @@ impl<A: Allocator> WaitingQuestions<A> {
         self.table.take(place, 0);
     }
 
-    /// Removes those that wait for the question of this ask, the newest of them first. It does not
-    /// allocate, and looks at no other question but those that the binary searches meet.
+    /// Removes the questions that wait for this ask's question, the newest first. Of further
+    /// questions only those met by the binary searches are read.
     pub fn end(&mut self, ask: &KeyedAsk<A>)
         ensures { self.new.items ≡ filter (λ x. not (waits_for ask.now.question x)) self.old.items }
     {
         self.table.end(ask);
     }
 
-    /// Gives a fate to each that waits for the question of this ask, in the order of taking: the
-    /// aliases and the question that it is sent on with, or none, which removes it. It does not
-    /// allocate, and each keeps its place in the order of taking.
+    /// Gives a fate to each question that waits for this ask's question, in the order of arrival: a
+    /// redirection (aliases and a wanted question), or none, which removes the question. Redirected
+    /// questions keep their places in the order of arrival.
     pub fn send_on(&mut self, ask: &KeyedAsk<A>, fates: Vec<Option<SentOn<A>>, A>)
         requires { length fates.items ≡ length (filter (waits_for ask.now.question) self.old.items) }
         ensures { self.new.items ≡ settled ask.now.question fates.items self.old.items }
@@ -121,7 +120,7 @@ impl<A: Allocator> WaitingQuestions<A> {
         self.table.settle(ask, fates);
     }
 
-    /// Those that wait for the question of this ask, in the order of taking. It does not allocate.
+    /// The questions that wait for this ask's question, in the order of arrival.
     pub fn for_ask(&self, ask: &KeyedAsk<A>) -> WaitingFor<'_, A>
         ensures { result ≡ filter (waits_for ask.now.question) self.now.items }
     {
@@ -129,7 +128,7 @@ impl<A: Allocator> WaitingQuestions<A> {
         WaitingFor::new(&self.table.waiting, &self.table.by_question, start, end)
     }
 
-    /// Whether any but the question that was taken first waits for this one. It does not allocate.
+    /// Whether any question but the oldest waits for this question.
     pub fn is_any_other_for(&self, question: &Question<A>) -> bool
         ensures { result ≡ list_any (waits_for question.now) (drop 1 self.now.items) }
     {
@@ -142,7 +141,7 @@ impl<A: Allocator> WaitingQuestions<A> {
         }
     }
 
-    /// Removes all. It does not allocate.
+    /// Removes all.
     pub fn clear(&mut self)
         ensures { self.new.items ≡ [] }
     {
@@ -150,7 +149,7 @@ impl<A: Allocator> WaitingQuestions<A> {
     }
 }
 
-/// Those that wait for one question, in the order of taking.
+/// The questions that wait for one question, in the order of arrival.
 #[derive(Drop)]
 pub struct WaitingFor<'a, A: Allocator = Global> {
     waiting: &'a Slab<KeyedWaiting<A>, A>,
@@ -193,14 +192,14 @@ impl<'a, A: Allocator> WaitingFor<'a, A> {
         }
     }
 
-    /// The number of questions. It does not allocate.
+    /// The number of questions.
     pub fn len(&self) -> usize
         ensures { result ≡ length self.now }
     {
         self.end - self.start
     }
 
-    /// The one at this place, from 0. It does not allocate.
+    /// The question at this place, from 0.
     pub fn get(&self, place: usize) -> &'a Waiting<A>
         requires { place < length self.now }
         ensures { slice_get self.now place ≡ Some result.now }

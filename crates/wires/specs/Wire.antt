@@ -31,18 +31,18 @@ arrival_of (ServerDatagram port from octets) = server_datagram port from octets
 arrival_of (ServerStream conn from octets) = server_stream conn from octets
 arrival_of (PathGone path) = path_gone path
 
--- the arrival that a call of the wire gave; nothing is known of one that was refused
+-- the arrival of a call of the wire; nothing is known of a refused arrival
 abbrev pub given : {A : Type 0} → Result (OwnedArrival A) WireFault → Option Arrival
 given (Ok arrival) = Some (arrival_of arrival)
 given (Err refused) = None
 
--- an action that was put, and whether the wire took it
+-- an action, and whether the wire took it
 pub record Put : Type 0 where
   pub action : Action
   pub sent : Bool
 
--- the report of a wire: its arrivals, the actions that were put, and the moments in milliseconds
--- and words that it gave, each in order
+-- the report of a wire: its arrivals, the actions put, and the moments in milliseconds and words,
+-- each in order
 pub record Told : Type 0 where
   pub arrivals : List (Option Arrival)
   pub puts : List Put
@@ -65,15 +65,15 @@ a then b = record {
   words = a.words ++ b.words;
 }
 
--- the report of one arrival
+-- the report of an arrival
 abbrev pub arrived : Option Arrival → Told
 arrived a = record silence { arrivals = a ∷ [] }
 
--- the report of one action and whether it was sent
+-- the report of an action and whether it was sent
 abbrev pub was_put : Action → Bool → Told
 was_put action sent = record silence { puts = record { action = action; sent = sent } ∷ [] }
 
--- the report of one moment
+-- the report of a moment
 abbrev pub moment_was : ℕ → Told
 moment_was now = record silence { moments = now ∷ [] }
 
@@ -81,7 +81,7 @@ moment_was now = record silence { moments = now ∷ [] }
 abbrev pub words_were : List ℕ → Told
 words_were words = record silence { words = words ∷ [] }
 
--- a report, with more after it
+-- a report, if any, with more at its end
 abbrev pub told_more : Option Told → Told → Option Told
 told_more told more = option_map (λ before. before then more) told
 
@@ -90,13 +90,13 @@ pub record Telling : Type 0 where
   pub told : Option Told
   pub faults : ℕ
 
--- the report of a wire, if it reports, and its count of faults
+-- the report of a wire, if any, and its count of faults
 abbrev pub telling : Option Told → ℕ → Telling
 telling told faults = record { told = told; faults = faults }
 
--- Between the two, the wire reported just this: its report now is the one before, followed by this;
--- its count of faults never falls; and the report before stays, with this after it, unless it
--- counted a fault. A count that is at its last value can't rise.
+-- Between the two, the wire reported exactly `more`: a report of now is the report before, followed
+-- by `more`; the count of faults never falls; and a report before stays, with `more` at its end,
+-- unless the wire counted a fault. A count at its last value cannot rise.
 pub record TellsMore (old : Telling) (more : Told) (new : Telling) : Type 0 where
   pub tells : (now : Told) → new.told ≡ Some now → (before : Told) × (old.told ≡ Some before) × (now ≡ before then more)
   pub counts : old.faults ≤ new.faults

@@ -21,7 +21,7 @@ pub enum Arrival<A: Allocator = Global> {
         from: Peer,
         bytes: Octets<A>,
     },
-    /// A piece of the stream on a connection that a client opened, cut anywhere.
+    /// A piece of the stream on a client's connection, cut anywhere.
     ClientStream {
         conn: u64,
         bytes: Octets<A>,
@@ -49,7 +49,7 @@ pub enum Arrival<A: Allocator = Global> {
 }
 
 impl<A: Allocator + Copy> Arrival<A> {
-    /// An equal arrival. `Err` where memory ran out.
+    /// An equal arrival.
     pub fn copy(&self, alloc: A) -> Result<Arrival<A>, AllocError>
         ensures { IfOk result (λ arrival. arrival ≡ self.now) }
     {
@@ -93,22 +93,19 @@ pub trait Wire<A: Allocator> {
     /// Its count of faults.
     ghost fault_count: { Self → ℕ };
 
-    /// The next arrival. `Err` only where the wire met a fault and counted it; the arrival is lost
-    /// then.
+    /// The next arrival. `Err` only after a fault, which the wire counted; the arrival is lost.
     fn arrival(&mut self) -> Result<Arrival<A>, WireFault>
         ensures tells { TellsMore (telling (told self.old) (fault_count self.old)) (arrived (given result))
             (telling (told self.new) (fault_count self.new)) }
         ensures faults { OnErr result (fault_count self.old < fault_count self.new) };
 
-    /// Does an action. `Err` only where the wire met a fault and counted it; the action is lost
-    /// then.
+    /// Does an action. `Err` only after a fault, which the wire counted; the action is lost.
     fn put(&mut self, action: &Action<A>) -> Result<(), WireFault>
         ensures tells { TellsMore (telling (told self.old) (fault_count self.old))
             (was_put (action_of action.now) (is_ok result)) (telling (told self.new) (fault_count self.new)) }
         ensures faults { OnErr result (fault_count self.old < fault_count self.new) };
 
-    /// May take back the memory of octets that it gave, once they are served: the next arrival may
-    /// be in it.
+    /// May take back the memory of served octets: the next arrival may be in this memory.
     fn take_back(&mut self, octets: &mut Octets<A>)
         ensures tells { told self.new ≡ told self.old }
         ensures faults { fault_count self.new ≡ fault_count self.old };
@@ -118,12 +115,12 @@ pub trait Wire<A: Allocator> {
         ensures tells { TellsMore (telling (told self.old) (fault_count self.old)) (moment_was result)
             (telling (told self.new) (fault_count self.new)) };
 
-    /// Random words, none of which was sent to anybody.
+    /// Random words, sent to nobody yet.
     fn words(&mut self) -> [u32; 8]
         ensures tells { TellsMore (telling (told self.old) (fault_count self.old)) (words_were result)
             (telling (told self.new) (fault_count self.new)) };
 
-    /// Its count of faults, which stays at its last value.
+    /// The count of faults, which stays at its last value.
     fn faults(&self) -> u64
         ensures { result ≡ fault_count self.now };
 }

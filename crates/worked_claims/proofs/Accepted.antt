@@ -18,9 +18,11 @@ use Rattle.record_cache.specs.Values.{Held}
 use Rattle.outstanding.specs.declared.ask.Path.TheVariants.{Udp}
 use Rattle.step_values.specs.declared.action.Why.TheVariants.{Answered}
 use Rattle.step_values.specs.Values.{from_client, delivery, send_reply, ask_udp, close_udp, Step}
+use Rattle.cache_laws.proofs.CallerLemmas.{serves_exactly}
 use Rattle.step_history.specs.History.{Look, ShownAsk, Matches, Accepts, Carries}
 use Rattle.step_history.specs.Carried.{CarriedInEra, Justified}
 use Rattle.step_history.specs.Answers.{Chain, Answers}
+use Rattle.step_history.proofs.CallerLemmas.{walk_accepted}
 use Rattle.step_table.proofs.Played.{a, address, server, config}
 use Rattle.worked_claims.proofs.Texts.{question_text, client, step_of}
 use Rattle.worked_claims.proofs.Silent.{nothing_heard}
@@ -114,29 +116,15 @@ matches tries stale_s = record {
   same_question_as_ask = refl;
 }
 
-pub accepts : (tries stale_s : ℕ)
-    → Accepts (with_limits tries stale_s) answered (asked ∷ []) ask (address a) 0 (says 60)
+pub accepts : (tries stale_s : ℕ) → Accepts (with_limits tries stale_s) answered (asked ∷ []) (piece ∷ []) []
 unfolding route_of walk_from servers_from
-accepts tries stale_s = record {
-  octets = reply_text;
-  matches = matches tries stale_s;
-  spells = message_read_is_spelled reply_text (says 60) reply_is_read;
-  untruncated = refl;
-  rcode = inl refl;
-  route_is = refl;
-  not_lame = refl;
-}
+accepts tries stale_s = walk_accepted (with_limits tries stale_s) answered (asked ∷ []) ask (address a) 0 reply_text
+    (says 60) (tt, tt) (matches tries stale_s) (message_read_is_spelled reply_text (says 60) reply_is_read) refl
+    (inl refl) refl refl
 
 pub carries : (tries stale_s : ℕ) → Carries (with_limits tries stale_s) answered (asked ∷ []) (piece ∷ [])
-unfolding route_of walk_from servers_from
-carries tries stale_s = record {
-  ask = ask;
-  asked = address a;
-  route = 0;
-  message = says 60;
-  accepts = accepts tries stale_s;
-  are = refl;
-}
+carries tries stale_s =
+    record { pieces = piece ∷ []; servers = []; accepts = accepts tries stale_s; are = refl }
 
 -- ---- it justifies the answer
 
@@ -162,7 +150,7 @@ justified = record {
   new = held ∷ [];
   carried_before = carried_before 4 0;
   carried_now = carried_now 4 0;
-  on_route = refl;
+  on_route = serves_exactly.only config a 0 refl;
   counts = inr (inl refl);
 }
 
@@ -171,7 +159,7 @@ chain = record {
   last = address a;
   leads = record { few = omega arith; follows = refl };
   justified = justified;
-  ends = refl;
+  ends = record { name = refl; class = refl; kind = refl };
 }
 
 pub answers : Answers seen client (header_in (question_text 7 1)) (address a) client_text

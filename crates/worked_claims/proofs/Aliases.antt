@@ -17,11 +17,13 @@ use Rattle.record_cache.specs.Values.{Held}
 use Rattle.outstanding.specs.declared.ask.Path.TheVariants.{Udp}
 use Rattle.step_values.specs.declared.action.Why.TheVariants.{ChainLong}
 use Rattle.step_values.specs.Values.{tick, delivery, ask_udp, close_udp, Step}
+use Rattle.cache_laws.proofs.CallerLemmas.{serves_exactly}
 use Rattle.step_history.specs.History.{Look, Carries}
 use Rattle.step_history.specs.Carried.{CarriedInEra, Justified}
 use Rattle.step_history.specs.Answers.{FollowsAliases, Leads, Chain}
 use Rattle.step_history.specs.Stale.{FollowsPastEnds}
 use Rattle.step_history.specs.Causes.{Cause, FollowsTooMany}
+use Rattle.step_history.proofs.CallerLemmas.{walk_accepted, alias_to, target_is}
 use Rattle.step_table.proofs.Played.{a, address, name_data, server, config}
 use Rattle.worked_claims.proofs.Texts.{question_text, client, step_of}
 use Rattle.worked_claims.proofs.Silent.{nothing_heard, nothing_justified}
@@ -71,32 +73,22 @@ pub carries : (tries stale_s : ℕ)
 unfolding first_question question_at octets_end name_within walk_in name_step route_of walk_from servers_from
     name_of_rdata
 carries tries stale_s = record {
-  ask = ask;
-  asked = address a;
-  route = 0;
-  message = says;
-  accepts = record {
-    octets = reply_text;
-    matches = record {
-      delivered = refl;
-      is_listed = refl;
-      is_live = omega arith;
-      long_enough = omega arith;
-      not_too_long = omega arith;
-      is_reply = refl;
-      opcode = refl;
-      identifier = refl;
-      ask_reads = refl;
-      question = address a;
-      reads = refl;
-      same_question_as_ask = refl;
-    };
-    spells = message_read_is_spelled reply_text says reply_is_read;
-    untruncated = refl;
-    rcode = inl refl;
-    route_is = refl;
-    not_lame = refl;
-  };
+  pieces = alias ∷ alias ∷ alias ∷ alias ∷ alias ∷ alias ∷ alias ∷ alias ∷ [];
+  servers = [];
+  accepts = walk_accepted (with_limits tries stale_s) sent_on (asked ∷ []) ask (address a) 0 reply_text says (tt, tt) (record {
+    delivered = refl;
+    is_listed = refl;
+    is_live = omega arith;
+    long_enough = omega arith;
+    not_too_long = omega arith;
+    is_reply = refl;
+    opcode = refl;
+    identifier = refl;
+    ask_reads = refl;
+    question = address a;
+    reads = refl;
+    same_question_as_ask = refl;
+  }) (message_read_is_spelled reply_text says reply_is_read) refl (inl refl) refl refl;
   are = refl;
 }
 
@@ -128,7 +120,7 @@ justified = record {
   new = eight;
   carried_before = carried_before;
   carried_now = carried_now;
-  on_route = refl;
+  on_route = serves_exactly.only config a 0 refl;
   counts = inr (inl refl);
 }
 
@@ -140,7 +132,7 @@ no_alias_asked same = let kinds : 1 ≡ 5 = same in omega (arith, kinds)
 follows_one_more : (os : List Held) → FollowsAliases seen (address a) os (address a)
     → FollowsAliases seen (address a) (loop ∷ os) (address a)
 unfolding name_of_rdata name_within walk_in name_step
-follows_one_more os rest = (no_alias_asked, justified, refl, a, refl, rest)
+follows_one_more os rest = (no_alias_asked, justified, record { name = refl; class = refl; kind = refl }, a, alias_to alias a refl, rest)
 
 all_follow : (n : ℕ) → FollowsAliases seen (address a) (loops n) (address a)
 all_follow zero = refl
@@ -203,6 +195,6 @@ an_alias_leads_to_its_own_name : (l : Look) (last : Question) → FollowsAliases
     → last ≡ address a
 unfolding name_of_rdata name_within walk_in name_step
 an_alias_leads_to_its_own_name l last h =
-    let leads : Some a ≡ Some h.3 = h.4 in
+    let leads : Some a ≡ Some h.3 = target_is alias h.3 h.4 in
     let target : a ≡ h.3 = cc in
     h.5 ∙ ap address (sym target)

@@ -15,6 +15,7 @@ use Rattle.suffix_routes.specs.Routes.{route_of}
 use Rattle.outstanding.specs.declared.ask.Path.{Path}
 use Rattle.outstanding.specs.declared.ask.Path.TheVariants.{Udp, Tcp}
 use Rattle.step_values.specs.Values.{from_client, ask_udp, Step}
+use Rattle.cache_laws.proofs.CallerLemmas.{serves_exactly}
 use Rattle.step_history.specs.History.{ShownAsk, listed}
 use Rattle.step_history.specs.Asked.{AreApart, IsDrawn, AsksRight, AsksWell}
 use Rattle.step_table.proofs.Played.{address, server, config}
@@ -113,7 +114,7 @@ first_is_right inquiries = record {
   question = named 97;
   text = refl;
   reads = refl;
-  server = record { route = 0; group = _; place = 0; route_is = refl; there = refl; server = refl };
+  server = record { route = 0; group = _; place = 0; route_is = serves_exactly.only (open_at_most inquiries) (named 97).name 0 refl; there = refl; server = refl };
   drawn_so = refl;
 }
 
@@ -126,7 +127,7 @@ second_is_right inquiries = record {
   question = named 98;
   text = refl;
   reads = refl;
-  server = record { route = 0; group = _; place = 0; route_is = refl; there = refl; server = refl };
+  server = record { route = 0; group = _; place = 0; route_is = serves_exactly.only (open_at_most inquiries) (named 98).name 0 refl; there = refl; server = refl };
   drawn_so = refl;
 }
 

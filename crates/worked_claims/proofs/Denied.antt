@@ -16,6 +16,7 @@ use Rattle.step_values.specs.Values.{from_client, tick, send_reply, Step}
 use Rattle.suffix_routes.specs.Serving.{is_local}
 use Rattle.step_history.specs.History.{Look}
 use Rattle.dns_message.specs.Questions.{is_unserved}
+use Rattle.cache_laws.proofs.CallerLemmas.{denies_names_exactly}
 use Rattle.step_history.specs.Local.{ChainToLocal, LocalAnswers}
 use Rattle.step_history.specs.Sound.{RightReply, RightLocalAnswer}
 use Rattle.step_table.proofs.Played.{a, address, config}
@@ -47,7 +48,7 @@ unfolding route_of
 chain = record {
   last = address a;
   leads = record { few = omega arith; follows = refl };
-  denied = refl;
+  denied = denies_names_exactly.only denies_a a refl;
   at_once = λ none. refl;
 }
 
@@ -91,7 +92,8 @@ of_a_name_that_is_not_denied octets h =
     let to = h.answers.chain in
     let last : to.last ≡ h.question =
     (nothing_followed not_denied h.question to.last h.answers.aliases (refl, tt) to.leads.follows).1 in
-    true≢false (sym to.denied ∙ ap (λ (q : Question). is_local config q.name) (last ∙ sym own))
+    true≢false (sym (denies_names_exactly.each config to.last.name (tt, tt) to.denied)
+    ∙ ap (λ (q : Question). is_local config q.name) (last ∙ sym own))
 
 for_another_opcode : (l : Look) (octets : List ℕ) → RightLocalAnswer l client (status_text 7) octets → ⊥
 for_another_opcode l octets h = let opcode : 2 ≡ 0 = h.opcode in omega (arith, opcode)

@@ -24,11 +24,11 @@ use Rattle.step_history.specs.Answers.{Chain}
 use Rattle.step_history.specs.Replies.{answer_text, full_text, stale_sections}
 use Rattle.answer_builder.specs.Values.{asked_in}
 use Rattle.step_history.specs.Stale.{ChainPastEnds}
-use Rattle.step_history.specs.Causes.{Cause, AllTriesFailed, ClosesAsk, LastFailed, AnswerIsTooLarge}
+use Rattle.step_history.specs.Causes.{Cause, AllTriesFailed, ClosesAsk, LastFailed, MayFail, FailedSoFar, AnswerIsTooLarge}
 use Rattle.step_history.specs.Causes.{StaleAnswerIsTooLarge}
 use Rattle.step_table.proofs.Played.{a, b, address, server, config}
 use Rattle.worked_claims.proofs.Texts.{question_text, client, stream_client, step_of, the_only_ask, none_listed}
-use Rattle.worked_claims.proofs.Silent.{IsSilent, nothing_heard, nothing_followed}
+use Rattle.worked_claims.proofs.Silent.{nothing_heard}
 use Rattle.worked_claims.proofs.Accepted.{asked, ask, piece, answered, reply_text, carries}
 
 -- ---- all tries failed
@@ -50,26 +50,29 @@ closes_it : ClosesAsk (address a) gave_up (asked ∷ [])
 unfolding first_question question_at octets_end name_within walk_in name_step
 closes_it = record { ask = ask; asked = address a; is_listed = refl; closed = refl; reads = refl; same = refl }
 
-one_try_failed : Cause (after 1 (gave_up ∷ asked ∷ [])) client (question_text 7 1) 0 Exhausted
+-- its 1,500 milliseconds are over
+time_is_over : MayFail (with_tries 1) gave_up (asked ∷ []) ask (address a)
+time_is_over = inr (inr (refl, omega arith))
+
+-- nothing was asked before
+pub begun : (c : Config) → FailedSoFar c (address a) (asked ∷ []) 0
 unfolding first_question question_at octets_end name_within walk_in name_step
+begun c = (refl, inl (inl (address a, refl, refl), inl tt))
+
+one_try_failed : Cause (after 1 (gave_up ∷ asked ∷ [])) client (question_text 7 1) 0 Exhausted
+unfolding first_question question_at octets_end name_within walk_in name_step closes_it
 one_try_failed = record {
   question = address a;
   reads = refl;
   aliases = [];
   last = address a;
   leads = record { few = omega arith; follows = refl };
-  failed = (refl, inl (closes_it, nothing_heard (with_tries 1) gave_up (asked ∷ []) refl, tt));
-  closed = closes_it;
+  failed = (
+    record { closes = closes_it; quiet = nothing_heard (with_tries 1) gave_up (asked ∷ []) refl; why = time_is_over },
+    begun (with_tries 1),
+  );
   none_left = tt;
 }
-
--- where no server was heard, the last asked question is the client's own
-own_question : (l : Look) → IsSilent l.now → (h : AllTriesFailed l (question_text 7 1)) → h.last ≡ address a
-unfolding first_question question_at octets_end name_within walk_in name_step
-own_question l silent h =
-    let reads : Some (address a) ≡ Some h.question = h.reads in
-    let same : address a ≡ h.question = cc in
-    (nothing_followed l h.question h.last h.aliases silent h.leads.follows).1 ∙ sym same
 
 -- no ask came before the first
 pub the_first_closes_none : (q : Question) → ClosesAsk q asked [] → ⊥
@@ -77,21 +80,10 @@ the_first_closes_none q h = none_listed h.is_listed
 
 -- one ask is none of two tries
 one_of_two_tries_failed : Cause (after 2 (gave_up ∷ asked ∷ [])) client (question_text 7 1) 0 Exhausted → ⊥
-one_of_two_tries_failed h =
-    let own : h.last ≡ address a = own_question (after 2 (gave_up ∷ asked ∷ [])) (refl, (refl, tt)) h in
-    by (subst (λ (q : Question). LastFailed (with_tries 2) q (gave_up ∷ asked ∷ []) 2) own h.failed)
-  where
-    first : (k : ℕ) → LastFailed (with_tries 2) (address a) (asked ∷ []) 1 → ⊥
-    first k h = elim h.1 [
-      | inl closes ↦ the_first_closes_none (address a) closes.0
-      | inr none ↦ none.1
-    ]
-
-    by : LastFailed (with_tries 2) (address a) (gave_up ∷ asked ∷ []) 2 → ⊥
-    by h = elim h.1 [
-      | inl closes ↦ first 0 closes.2
-      | inr none ↦ none.0 closes_it
-    ]
+one_of_two_tries_failed h = elim h.failed.1.1 [
+  | inl failed ↦ the_first_closes_none h.last failed.0.closes
+  | inr left ↦ left.1
+]
 
 -- an ask that an accepted reply closes did not fail
 the_accepted_did_not_fail : LastFailed config (address a) (answered ∷ asked ∷ []) 1 → ⊥
@@ -106,11 +98,11 @@ the_accepted_did_not_fail h = elim h.1 [
 a_step_after_the_last_failure : Cause (after 1 (passes 2501 ∷ gave_up ∷ asked ∷ [])) client
     (question_text 7 1) 0 Exhausted
     → ⊥
-a_step_after_the_last_failure h = none_listed h.closed.is_listed
+a_step_after_the_last_failure h = none_listed h.failed.0.closes.is_listed
 
 -- and not while the ask is open
 before_the_last_failure : Cause (after 1 (passes 2499 ∷ asked ∷ [])) client (question_text 7 1) 0 Exhausted → ⊥
-before_the_last_failure h = true≢false (sym h.closed.closed)
+before_the_last_failure h = true≢false (sym h.failed.0.closes.closed)
 
 -- the ask of another question failed
 abbrev text_of_b : List ℕ

@@ -24,5 +24,6 @@ mod ServerDenials
 mod Use
 mod StaleChains
 mod Tries
+mod Inquiries
 mod Transports
 mod Truly

@@ -20,10 +20,13 @@ use Rattle.outstanding.specs.declared.ask.Path.{Path}
 use Rattle.outstanding.specs.declared.ask.Path.TheVariants.{Udp, Tcp}
 use Rattle.step_values.specs.Values.{Delivered, delivery, close_udp, tick, Step}
 use Rattle.suffix_routes.specs.Serving.{serving_route_of}
+use Rattle.trust_rank.specs.Values.{Piece}
+use Rattle.cache_laws.proofs.CallerLemmas.{serves_exactly}
 use Rattle.step_history.specs.History.{ShownAsk, Matches, Accepts, moment_at}
+use Rattle.step_history.proofs.CallerLemmas.{accepted_fine}
 use Rattle.step_table.proofs.Played.{a, address, server, other_server, config}
 use Rattle.worked_claims.proofs.Texts.{with_flags, step_of, the_only_ask, none_listed}
-use Rattle.worked_claims.proofs.Accepted.{asked, ask, answer_with, reply_text, answered, says, matches, accepts}
+use Rattle.worked_claims.proofs.Accepted.{asked, ask, answer_with, reply_text, answered, piece, matches, accepts}
 
 -- ---- deliveries, and the ask that they match
 
@@ -166,7 +169,7 @@ too_late x q h =
 
 -- ---- not accepted
 
-the_reply_is_accepted : Accepts config answered (asked ∷ []) ask (address a) 0 (says 60)
+the_reply_is_accepted : Accepts config answered (asked ∷ []) (piece ∷ []) []
 the_reply_is_accepted = accepts 4 0
 
 abbrev heads : Option Header → ℕ
@@ -178,24 +181,25 @@ is_cut None = false
 is_cut (Some h) = h.tc
 
 -- the header of an accepted reply is that of the octets that came
-the_header : (octets : List ℕ) (x : ShownAsk) (q : Question) (route : ℕ) (m : Message)
-    → Accepts config (comes (Udp 1032) server octets) (asked ∷ []) x q route m → header_of octets ≡ Some m.header
-the_header octets x q route m h =
-    ap header_of (sym (the_octets (Udp 1032) server octets h.octets x q h.matches)) ∙ h.spells.header
+the_header : (octets : List ℕ) (pieces servers : List Piece)
+    (h : Accepts config (comes (Udp 1032) server octets) (asked ∷ []) pieces servers)
+    → header_of octets ≡ Some h.message.header
+the_header octets pieces servers h =
+    ap header_of (sym (the_octets (Udp 1032) server octets h.octets h.ask h.asked h.matches)) ∙ h.spells.header
 
-a_truncated_reply : (x : ShownAsk) (q : Question) (route : ℕ) (m : Message)
-    → Accepts config (comes (Udp 1032) server (answer_with 8 135 0 60)) (asked ∷ []) x q route m → ⊥
+a_truncated_reply : (pieces servers : List Piece)
+    → Accepts config (comes (Udp 1032) server (answer_with 8 135 0 60)) (asked ∷ []) pieces servers → ⊥
 unfolding header_of
-a_truncated_reply x q route m h = true≢false (ap is_cut (the_header _ x q route m h) ∙ h.untruncated)
+a_truncated_reply pieces servers h = true≢false (ap is_cut (the_header _ pieces servers h) ∙ h.untruncated)
 
-a_failure : (x : ShownAsk) (q : Question) (route : ℕ) (m : Message)
-    → Accepts config (comes (Udp 1032) server (answer_with 8 133 2 60)) (asked ∷ []) x q route m → ⊥
+a_failure : (pieces servers : List Piece)
+    → Accepts config (comes (Udp 1032) server (answer_with 8 133 2 60)) (asked ∷ []) pieces servers → ⊥
 unfolding header_of
-a_failure x q route m h =
-    let code : 2 ≡ m.header.rcode = ap heads (the_header _ x q route m h) in
+a_failure pieces servers h =
+    let code : 2 ≡ h.message.header.rcode = ap heads (the_header _ pieces servers h) in
     by code h.rcode
   where
-    by : 2 ≡ m.header.rcode → (m.header.rcode ≡ 0) ⊎ (m.header.rcode ≡ 3) → ⊥
+    by : 2 ≡ h.message.header.rcode → (h.message.header.rcode ≡ 0) ⊎ (h.message.header.rcode ≡ 3) → ⊥
     by code (inl none) = omega (arith, code, none)
     by code (inr denied) = omega (arith, code, denied)
 
@@ -218,19 +222,22 @@ unfolding message_at header_of counted question_at octets_end record_at data_at 
     name_within walk_in name_step
 referral_is_read = refl
 
-a_referral : (x : ShownAsk) (q : Question) (route : ℕ) (m : Message)
-    → Accepts config (comes (Udp 1032) server referral) (asked ∷ []) x q route m → ⊥
+a_referral : (pieces servers : List Piece)
+    → Accepts config (comes (Udp 1032) server referral) (asked ∷ []) pieces servers → ⊥
 unfolding first_question question_at octets_end name_within walk_in name_step route_of walk_from servers_from
-a_referral x q route m h =
-    let own : Some (address a) ≡ Some q =
-    ap (λ (y : ShownAsk). one_question y.octets) (sym (the_ask _ x _ q h.matches)) ∙ h.matches.ask_reads in
-    let asked_is : address a ≡ q = cc in
-    let octets_are : h.octets ≡ referral = the_octets (Udp 1032) server referral h.octets x q h.matches in
-    let message_is : refers ≡ m =
-    one_message_is_spelled h.octets refers m
+a_referral pieces servers h =
+    let own : Some (address a) ≡ Some h.asked =
+    ap (λ (y : ShownAsk). one_question y.octets) (sym (the_ask _ h.ask _ h.asked h.matches)) ∙ h.matches.ask_reads in
+    let asked_is : address a ≡ h.asked = cc in
+    let octets_are : h.octets ≡ referral =
+    the_octets (Udp 1032) server referral h.octets h.ask h.asked h.matches in
+    let message_is : refers ≡ h.message =
+    one_message_is_spelled h.octets refers h.message
     (message_read_is_spelled h.octets refers (ap message_of octets_are ∙ referral_is_read)) h.spells in
-    let places : Some 0 ≡ Some route = ap (λ (y : Question). serving_route_of config y.name) asked_is ∙ h.route_is in
-    let place : 0 ≡ route = cc in
+    let places : Some 0 ≡ Some h.route = ap (λ (y : Question). serving_route_of config y.name) asked_is
+    ∙ serves_exactly.each config h.asked.name h.route (tt, tt) h.route_is in
+    let place : 0 ≡ h.route = cc in
     let is : is_lame (walk_of config refers (address a) 0).end ≡ false =
-    (λ k. is_lame (walk_of config (message_is k) (asked_is k) (place k)).end) ∙ h.not_lame in
+    (λ k. is_lame (walk_of config (message_is k) (asked_is k) (place k)).end)
+    ∙ accepted_fine config _ _ pieces servers (tt, tt) h in
     true≢false is

@@ -24,6 +24,7 @@ use Rattle.step_values.specs.Values.{from_client, tick, send_reply, ask_udp, clo
 use Rattle.step_history.specs.History.{Look, ShownAsk}
 use Rattle.step_history.specs.Carried.{CarriedInEra}
 use Rattle.step_history.specs.Causes.{AllTriesFailed, ClosesAsk}
+use Rattle.cache_laws.proofs.CallerLemmas.{serves_exactly}
 use Rattle.step_history.specs.Stale.{JustifiedPastItsEnd, StaleAnswers}
 use Rattle.step_history.specs.Sound.{RightReply, RightStaleAnswer}
 use Rattle.step_table.proofs.Played.{a, address, server}
@@ -68,7 +69,7 @@ past_its_end = record {
   carried_now = carried_until_now;
   came_before = inl refl;
   not_replaced = inl refl;
-  on_route = refl;
+  on_route = serves_exactly.only (with_limits 1 600) a 0 refl;
   is_set = tt;
   has_lifetime = omega arith;
   within = omega arith;
@@ -82,15 +83,21 @@ unfolding first_question question_at octets_end name_within walk_in name_step
 closes = record { ask = ask; asked = address a; is_listed = refl; closed = refl; reads = refl; same = refl }
 
 tries : AllTriesFailed (seen 1 600) (question_text 7 1)
-unfolding first_question question_at octets_end name_within walk_in name_step
+unfolding first_question question_at octets_end name_within walk_in name_step closes
 tries = record {
   question = address a;
   reads = refl;
   aliases = [];
   last = address a;
   leads = record { few = omega arith; follows = refl };
-  failed = (refl, inl (closes, nothing_heard (with_limits 1 600) gives_up (again ∷ past) refl, tt));
-  closed = closes;
+  failed = (
+    record {
+      closes = closes;
+      quiet = nothing_heard (with_limits 1 600) gives_up (again ∷ past) refl;
+      why = inr (inr (refl, omega arith));
+    },
+    (refl, inl (inl (address a, refl, refl), inl tt)),
+  );
   none_left = tt;
 }
 
@@ -113,7 +120,7 @@ unfolding written ◌▹◌ each name_text data_text with_length shape_of
 answers = record {
   past = [];
   end = held;
-  chain = record { last = address a; follows = refl; few = omega arith; justified = past_its_end; slot = refl };
+  chain = record { last = address a; follows = refl; few = omega arith; justified = past_its_end; slot = record { name = refl; class = refl; kind = refl } };
   text = refl;
   fits = tt;
   message = said;
@@ -148,7 +155,8 @@ abbrev goes_on : Look
 goes_on = record (seen 1 600) { now = step_of 71499 [] tick [] ∷ again ∷ past }
 
 while_a_try_goes_on : (request octets : List ℕ) → RightStaleAnswer goes_on client request octets → ⊥
-while_a_try_goes_on request octets h = true≢false (sym h.tries.closed.closed)
+while_a_try_goes_on request octets h =
+    true≢false (sym h.tries.failed.0.closes.closed)
 
 -- the set came in the newest step itself
 abbrev just_carried : Look

@@ -12,6 +12,7 @@ use Rattle.step_values.specs.declared.action.Why.TheVariants.{BadOpcode, BadForm
 use Rattle.step_values.specs.Values.{from_client, tick, close_udp, Action, Step}
 use Rattle.suffix_routes.specs.Serving.{serving_route_of, is_local}
 use Rattle.step_history.specs.History.{Look, before_newest, tcp_asks, listed}
+use Rattle.cache_laws.proofs.CallerLemmas.{none_serves_exactly}
 use Rattle.step_history.specs.Causes.{Cause, HasNoRoute, newest_words, newest_actions}
 use Rattle.dns_message.specs.Questions.{is_unserved}
 use Rattle.step_history.specs.Draws.{drawn}
@@ -121,8 +122,7 @@ a_has_no_route = record {
   aliases = [];
   last = address a;
   leads = record { few = omega arith; follows = refl };
-  none = refl;
-  not_denied = refl;
+  none = none_serves_exactly.only for_b a refl refl;
   at_once = λ none. refl;
 }
 
@@ -141,14 +141,16 @@ a_has_a_route : Cause (at_once config (question_text 7 1)) client (question_text
 unfolding route_of
 a_has_a_route h =
     some_route (ap (λ (q : Question). serving_route_of config q.name)
-    (sym (own_name (at_once config (question_text 7 1)) (refl, tt) h)) ∙ h.none)
+    (sym (own_name (at_once config (question_text 7 1)) (refl, tt) h))
+    ∙ (none_serves_exactly.each config h.last.name h.none).0)
 
 -- a denied name does not fail as one without a route
 a_is_denied : Cause (at_once denies_a (question_text 7 1)) client (question_text 7 1) 0 NoRoute → ⊥
 unfolding route_of
 a_is_denied h =
     true≢false (ap (λ (q : Question). is_local denies_a q.name)
-    (sym (own_name (at_once denies_a (question_text 7 1)) (refl, tt) h)) ∙ h.not_denied)
+    (sym (own_name (at_once denies_a (question_text 7 1)) (refl, tt) h))
+    ∙ (none_serves_exactly.each denies_a h.last.name h.none).1)
 
 no_route_is_told_at_once : Cause (a_step_later for_b (question_text 7 1)) client (question_text 7 1) 0 NoRoute → ⊥
 no_route_is_told_at_once h =

@@ -1,8 +1,8 @@
 -- Denials by a server, whole: a.e has no address, or is not there; both are accepted, carried, and
 -- answer the client. Pieces that end a look-up, and pieces of another type, class or name that
 -- don't.
-use Rattle.std.proofs.Common.{◌≡◌, ℕ, List, [], ◌∷◌, Some, None, Ok, refl, sym, inl, inr, arith}
-use Rattle.std.proofs.lemmas.Bool.{true≢false}
+use Rattle.std.proofs.Common.{◌≡◌, ℕ, List, [], ◌∷◌, Some, None, Ok, refl, inl, inr, arith}
+use Rattle.std.proofs.lemmas.Bool.{false≢true}
 use Rattle.dns_message.specs.Names.{step as name_step, walk_in, name_within}
 use Rattle.dns_message.specs.Data.{octets_within, parts_at, data_at}
 use Rattle.dns_message.specs.Shapes.{shape_of}
@@ -20,7 +20,11 @@ use Rattle.record_cache.specs.Values.{Held}
 use Rattle.outstanding.specs.declared.ask.Path.TheVariants.{Udp}
 use Rattle.step_values.specs.declared.action.Why.TheVariants.{Answered}
 use Rattle.step_values.specs.Values.{delivery, send_reply, close_udp, Step}
-use Rattle.step_history.specs.History.{Look, Matches, Accepts, Carries}
+use Rattle.step_history.specs.History.{Look, Matches, Carries}
+use Rattle.dns_name.proofs.CallerLemmas.{is_under_decides}
+use Rattle.trust_rank.specs.declared.slot.Slot.{Slot}
+use Rattle.cache_laws.proofs.CallerLemmas.{serves_exactly, slot_test}
+use Rattle.step_history.proofs.CallerLemmas.{walk_accepted}
 use Rattle.step_history.specs.Carried.{CarriedInEra, Justified}
 use Rattle.step_history.specs.Answers.{EndsChain, Chain, Answers}
 use Rattle.step_history.specs.Sound.{RightReply}
@@ -99,31 +103,6 @@ matches code low = record {
   same_question_as_ask = refl;
 }
 
-none_is_accepted : Accepts config there_is_none (asked ∷ []) ask (address a) 0 (says (server_text 0) 60)
-unfolding route_of walk_from servers_from
-none_is_accepted = record {
-  octets = server_text 0;
-  matches = matches 0 128;
-  spells = message_read_is_spelled (server_text 0) (says (server_text 0) 60) none_is_read;
-  untruncated = refl;
-  rcode = inl refl;
-  route_is = refl;
-  not_lame = refl;
-}
-
--- with result code 3 too
-error_is_accepted : Accepts config is_not_there (asked ∷ []) ask (address a) 0 (says (server_text 3) 60)
-unfolding route_of walk_from servers_from
-error_is_accepted = record {
-  octets = server_text 3;
-  matches = matches 3 131;
-  spells = message_read_is_spelled (server_text 3) (says (server_text 3) 60) error_is_read;
-  untruncated = refl;
-  rcode = inr refl;
-  route_is = refl;
-  not_lame = refl;
-}
-
 -- ---- their pieces, for 30 seconds: the least of the SOA's TTL and MINIMUM (RFC 2308 5)
 
 abbrev pub no_address : Held
@@ -155,22 +134,22 @@ name_error = record {
 none_carries : Carries config there_is_none (asked ∷ []) (no_address.piece ∷ [])
 unfolding route_of walk_from servers_from
 none_carries = record {
-  ask = ask;
-  asked = address a;
-  route = 0;
-  message = says (server_text 0) 60;
-  accepts = none_is_accepted;
+  pieces = no_address.piece ∷ [];
+  servers = [];
+  accepts = walk_accepted config there_is_none (asked ∷ []) ask (address a) 0 (server_text 0) (says (server_text 0) 60)
+      (tt, tt) (matches 0 128) (message_read_is_spelled (server_text 0) (says (server_text 0) 60) none_is_read)
+      refl (inl refl) refl refl;
   are = refl;
 }
 
 error_carries : Carries config is_not_there (asked ∷ []) (name_error.piece ∷ [])
 unfolding route_of walk_from servers_from
 error_carries = record {
-  ask = ask;
-  asked = address a;
-  route = 0;
-  message = says (server_text 3) 60;
-  accepts = error_is_accepted;
+  pieces = name_error.piece ∷ [];
+  servers = [];
+  accepts = walk_accepted config is_not_there (asked ∷ []) ask (address a) 0 (server_text 3) (says (server_text 3) 60)
+      (tt, tt) (matches 3 131) (message_read_is_spelled (server_text 3) (says (server_text 3) 60) error_is_read)
+      refl (inr refl) refl refl;
   are = refl;
 }
 
@@ -192,7 +171,7 @@ none_justified = record {
   new = no_address ∷ [];
   carried_before = carried_before 4 0;
   carried_now = none_carried;
-  on_route = refl;
+  on_route = serves_exactly.only config a 0 refl;
   counts = inr (inl refl);
 }
 
@@ -203,7 +182,7 @@ error_justified = record {
   new = name_error ∷ [];
   carried_before = carried_before 4 0;
   carried_now = error_carried;
-  on_route = refl;
+  on_route = serves_exactly.only config a 0 refl;
   counts = inr (inl refl);
 }
 
@@ -212,7 +191,7 @@ none_answers = record {
   last = address a;
   leads = record { few = omega arith; follows = refl };
   justified = none_justified;
-  ends = refl;
+  ends = record { name = refl; class = refl; kind = refl };
 }
 
 error_answers : Chain (seen is_not_there) (address a) [] name_error
@@ -220,7 +199,7 @@ error_answers = record {
   last = address a;
   leads = record { few = omega arith; follows = refl };
   justified = error_justified;
-  ends = (refl, refl);
+  ends = (([], a, refl, refl), refl);
 }
 
 none_is_told : message_of (client_text 128) ≡ Ok (says (client_text 128) 30)
@@ -278,36 +257,40 @@ abbrev of_class : ℕ → Question
 of_class class = record (address a) { class = class }
 
 a_set_ends_it : EndsChain (address a) piece piece.body
-a_set_ends_it = refl
+a_set_ends_it = record { name = refl; class = refl; kind = refl }
+
+-- the slot that a question asks for
+abbrev slot_for : Question → Slot
+slot_for q = record { key = q.name; class = q.class; kind = Some q.kind }
 
 a_set_of_another_type : EndsChain (of_type 28) piece piece.body → ⊥
-a_set_of_another_type h = true≢false (sym h)
+a_set_of_another_type h = false≢true (slot_test piece.slot (slot_for (of_type 28)) h)
 
 a_set_of_another_class : EndsChain (of_class 3) piece piece.body → ⊥
-a_set_of_another_class h = true≢false (sym h)
+a_set_of_another_class h = false≢true (slot_test piece.slot (slot_for (of_class 3)) h)
 
 a_set_of_another_name : EndsChain (address b) piece piece.body → ⊥
-a_set_of_another_name h = true≢false (sym h)
+a_set_of_another_name h = false≢true (slot_test piece.slot (slot_for (address b)) h)
 
 no_data_of_another_type : EndsChain (of_type 28) no_address.piece no_address.piece.body → ⊥
-no_data_of_another_type h = true≢false (sym h)
+no_data_of_another_type h = false≢true (slot_test no_address.piece.slot (slot_for (of_type 28)) h)
 
 no_data_of_another_class : EndsChain (of_class 3) no_address.piece no_address.piece.body → ⊥
-no_data_of_another_class h = true≢false (sym h)
+no_data_of_another_class h = false≢true (slot_test no_address.piece.slot (slot_for (of_class 3)) h)
 
 no_data_of_another_name : EndsChain (address ((98 ∷ []) ∷ a)) no_address.piece no_address.piece.body → ⊥
-no_data_of_another_name h = true≢false (sym h)
+no_data_of_another_name h = false≢true (slot_test no_address.piece.slot (slot_for (address ((98 ∷ []) ∷ a))) h)
 
 -- a name error denies each type, at its name and under it
 an_error_denies_each_type : EndsChain (of_type 28) name_error.piece name_error.piece.body
     × EndsChain (address ((98 ∷ []) ∷ a)) name_error.piece name_error.piece.body
-an_error_denies_each_type = ((refl, refl), (refl, refl))
+an_error_denies_each_type = ((([], a, refl, refl), refl), (((98 ∷ []) ∷ [], a, refl, refl), refl))
 
 an_error_of_another_class : EndsChain (of_class 3) name_error.piece name_error.piece.body → ⊥
 an_error_of_another_class h = let class : 1 ≡ 3 = h.1 in omega (arith, class)
 
 an_error_of_a_sibling : EndsChain (address b) name_error.piece name_error.piece.body → ⊥
-an_error_of_a_sibling h = true≢false (sym h.0)
+an_error_of_a_sibling h = false≢true ((is_under_decides b a).1 h.0)
 
 an_error_of_a_name_below : EndsChain (address example) name_error.piece name_error.piece.body → ⊥
-an_error_of_a_name_below h = true≢false (sym h.0)
+an_error_of_a_name_below h = false≢true ((is_under_decides example a).1 h.0)

@@ -2,7 +2,7 @@
 -- aliases in all, and not nine; and a set that another one replaced is not sent.
 use Rattle.std.proofs.Common.{◌≡◌, ℕ, ◌+◌, ◌<◌, ◌≤◌, ◌++◌, zero, suc, List, [], ◌∷◌, Some, Ok, refl, sym, ap, ◌∙◌, subst}
 use Rattle.std.proofs.Common.{inl, inr, arith}
-use Rattle.std.proofs.lemmas.Bool.{true≢false}
+use Rattle.std.proofs.lemmas.Bool.{false≢true}
 use Rattle.dns_message.specs.Names.{step as name_step, walk_in, name_within}
 use Rattle.dns_message.specs.Data.{octets_within, parts_at, data_at, name_of_rdata}
 use Rattle.dns_message.specs.Shapes.{shape_of}
@@ -23,7 +23,9 @@ use Rattle.step_values.specs.declared.action.Why.TheVariants.{Answered, Stale}
 use Rattle.step_values.specs.Values.{from_client, delivery, tick, send_reply, ask_udp, close_udp, Step}
 use Rattle.step_history.specs.History.{Look, ShownAsk, listed, on_path, moment_at, Carries}
 use Rattle.step_history.specs.Carried.{CarriedInEra, NotReplaced, Justified}
-use Rattle.step_history.specs.Answers.{has_slot, FollowsAliases}
+use Rattle.step_history.specs.Answers.{IsOf, FollowsAliases}
+use Rattle.step_history.proofs.CallerLemmas.{walk_accepted, alias_to, target_is}
+use Rattle.cache_laws.proofs.CallerLemmas.{serves_exactly, replaces_exactly, keeps_place, slot_test}
 use Rattle.step_history.specs.Causes.{AllTriesFailed, ClosesAsk}
 use Rattle.step_history.specs.Stale.{JustifiedPastItsEnd, FollowsPastEnds, ChainPastEnds, StaleAnswers}
 use Rattle.step_history.specs.Sound.{RightReply}
@@ -99,32 +101,22 @@ carries : Carries c heard (asked ∷ []) (alias.piece ∷ set.piece ∷ [])
 unfolding first_question question_at octets_end name_within walk_in name_step route_of walk_from servers_from
     name_of_rdata
 carries = record {
-  ask = ask;
-  asked = address a;
-  route = 0;
-  message = says reply_text 200 60;
-  accepts = record {
-    octets = reply_text;
-    matches = record {
-      delivered = refl;
-      is_listed = refl;
-      is_live = omega arith;
-      long_enough = omega arith;
-      not_too_long = omega arith;
-      is_reply = refl;
-      opcode = refl;
-      identifier = refl;
-      ask_reads = refl;
-      question = address a;
-      reads = refl;
-      same_question_as_ask = refl;
-    };
-    spells = message_read_is_spelled reply_text (says reply_text 200 60) reply_is_read;
-    untruncated = refl;
-    rcode = inl refl;
-    route_is = refl;
-    not_lame = refl;
-  };
+  pieces = alias.piece ∷ set.piece ∷ [];
+  servers = [];
+  accepts = walk_accepted c heard (asked ∷ []) ask (address a) 0 reply_text (says reply_text 200 60) (tt, tt) (record {
+    delivered = refl;
+    is_listed = refl;
+    is_live = omega arith;
+    long_enough = omega arith;
+    not_too_long = omega arith;
+    is_reply = refl;
+    opcode = refl;
+    identifier = refl;
+    ask_reads = refl;
+    question = address a;
+    reads = refl;
+    same_question_as_ask = refl;
+  }) (message_read_is_spelled reply_text (says reply_text 200 60) reply_is_read) refl (inl refl) refl refl;
   are = refl;
 }
 
@@ -167,8 +159,8 @@ alias_past_its_end = record {
   carried_before = carried_until_asked;
   carried_now = carried_until_now;
   came_before = inr (inl refl);
-  not_replaced = inr (refl, inl refl);
-  on_route = refl;
+  not_replaced = inr (keeps_place set.piece alias.piece refl, inl refl);
+  on_route = serves_exactly.only c a 0 refl;
   is_set = tt;
   has_lifetime = omega arith;
   within = omega arith;
@@ -183,7 +175,7 @@ set_past_its_end = record {
   carried_now = carried_until_now;
   came_before = inl refl;
   not_replaced = inl refl;
-  on_route = refl;
+  on_route = serves_exactly.only c b 0 refl;
   is_set = tt;
   has_lifetime = omega arith;
   within = omega arith;
@@ -193,10 +185,10 @@ along_an_alias : ChainPastEnds seen [] (address a) (alias ∷ []) set
 unfolding name_of_rdata name_within walk_in name_step
 along_an_alias = record {
   last = address b;
-  follows = (aliases.no_alias_asked, alias_past_its_end, refl, b, refl, refl);
+  follows = (aliases.no_alias_asked, alias_past_its_end, record { name = refl; class = refl; kind = refl }, b, alias_to alias.piece b refl, refl);
   few = omega arith;
   justified = set_past_its_end;
-  slot = refl;
+  slot = record { name = refl; class = refl; kind = refl };
 }
 
 abbrev ask_again : ShownAsk
@@ -207,15 +199,21 @@ unfolding first_question question_at octets_end name_within walk_in name_step
 closes = record { ask = ask_again; asked = address a; is_listed = refl; closed = refl; reads = refl; same = refl }
 
 tries : AllTriesFailed seen (question_text 7 1)
-unfolding first_question question_at octets_end name_within walk_in name_step
+unfolding first_question question_at octets_end name_within walk_in name_step closes
 tries = record {
   question = address a;
   reads = refl;
   aliases = [];
   last = address a;
   leads = record { few = omega arith; follows = refl };
-  failed = (refl, inl (closes, nothing_heard c gives_up (again ∷ past) refl, tt));
-  closed = closes;
+  failed = (
+    record {
+      closes = closes;
+      quiet = nothing_heard c gives_up (again ∷ past) refl;
+      why = inr (inr (refl, omega arith));
+    },
+    (refl, inl (inl (address a, refl, refl), inl tt)),
+  );
   none_left = tt;
 }
 
@@ -245,20 +243,21 @@ an_answer_along_an_alias =
 
 -- an alias leads from its own name, and to its own target
 from_another_name : (l : Look) (last : Question) → FollowsPastEnds l (address b) (alias ∷ []) last → ⊥
-from_another_name l last h = true≢false (sym h.2)
+from_another_name l last h = false≢true (slot_test alias.piece.slot (record { key = b; class = 1; kind = Some 5 }) h.2)
 
 to_its_target_alone : (l : Look) (last : Question) → FollowsPastEnds l (address a) (alias ∷ []) last
     → last ≡ address b
 unfolding name_of_rdata name_within walk_in name_step
 to_its_target_alone l last h =
-    let leads : Some b ≡ Some h.3 = h.4 in
+    let leads : Some b ≡ Some h.3 = target_is alias.piece h.3 h.4 in
     let target : b ≡ h.3 = cc in
     h.5 ∙ ap address (sym target)
 
 -- a set answers for its own type
 of_another_type : (l : Look) → ChainPastEnds l [] (record (address b) { kind = 28 }) [] set → ⊥
 of_another_type l h =
-    true≢false (sym h.slot ∙ ap (λ (q : Question). has_slot set.piece q.name q.class (Some q.kind)) h.follows)
+    false≢true (slot_test set.piece.slot (record { key = b; class = 1; kind = Some 28 })
+    (subst (λ (q : Question). IsOf set.piece q.name q.class (Some q.kind)) h.follows h.slot))
 
 -- ---- after an alias that is held
 
@@ -292,13 +291,13 @@ alias_lives = record {
   new = [];
   carried_before = carried_sooner;
   carried_now = carried_sooner_now;
-  on_route = refl;
-  counts = inl (inr (refl, inl refl), omega arith);
+  on_route = serves_exactly.only c a 0 refl;
+  counts = inl (inr (keeps_place set.piece alias.piece refl, inl refl), omega arith);
 }
 
 follows_it : FollowsAliases seen_sooner (address a) (alias ∷ []) (address b)
 unfolding name_of_rdata name_within walk_in name_step
-follows_it = (aliases.no_alias_asked, alias_lives, refl, b, refl, refl)
+follows_it = (aliases.no_alias_asked, alias_lives, record { name = refl; class = refl; kind = refl }, b, alias_to alias.piece b refl, refl)
 
 set_has_ended : JustifiedPastItsEnd seen_sooner b set
 unfolding route_of
@@ -309,7 +308,7 @@ set_has_ended = record {
   carried_now = carried_sooner_now;
   came_before = inl refl;
   not_replaced = inl refl;
-  on_route = refl;
+  on_route = serves_exactly.only c b 0 refl;
   is_set = tt;
   has_lifetime = omega arith;
   within = omega arith;
@@ -323,15 +322,21 @@ unfolding first_question question_at octets_end name_within walk_in name_step
 closes_b = record { ask = ask_for_b; asked = address b; is_listed = refl; closed = refl; reads = refl; same = refl }
 
 tries_behind : AllTriesFailed seen_sooner (question_text 7 1)
-unfolding first_question question_at octets_end name_within walk_in name_step
+unfolding first_question question_at octets_end name_within walk_in name_step closes_b
 tries_behind = record {
   question = address a;
   reads = refl;
   aliases = alias ∷ [];
   last = address b;
   leads = record { few = omega arith; follows = follows_it };
-  failed = (refl, inl (closes_b, nothing_heard c gives_up_sooner (sooner ∷ past) refl, tt));
-  closed = closes_b;
+  failed = (
+    record {
+      closes = closes_b;
+      quiet = nothing_heard c gives_up_sooner (sooner ∷ past) refl;
+      why = inr (inr (refl, omega arith));
+    },
+    (refl, inl (inl (address b, refl, refl), inl tt)),
+  );
   none_left = tt;
 }
 
@@ -347,7 +352,7 @@ unfolding written ◌▹◌ each name_text data_text with_length fields_of first
 held_answers = record {
   past = [];
   end = set;
-  chain = record { last = address b; follows = refl; few = omega arith; justified = set_has_ended; slot = refl };
+  chain = record { last = address b; follows = refl; few = omega arith; justified = set_has_ended; slot = record { name = refl; class = refl; kind = refl } };
   text = refl;
   fits = tt;
   message = says held_text 129 30;
@@ -396,32 +401,22 @@ pub second_carries : (now asked_at : ℕ) (before : List Step)
     → Carries c (heard_again now) before (five_seconds ∷ [])
 unfolding first_question question_at octets_end name_within walk_in name_step route_of walk_from servers_from
 second_carries now asked_at before on live = record {
-  ask = record { path = Udp 1040; server = server; octets = question_text 16 1; moment = asked_at };
-  asked = address a;
-  route = 0;
-  message = says_again;
-  accepts = record {
-    octets = second_text;
-    matches = record {
-      delivered = refl;
-      is_listed = on;
-      is_live = live;
-      long_enough = omega arith;
-      not_too_long = omega arith;
-      is_reply = refl;
-      opcode = refl;
-      identifier = refl;
-      ask_reads = refl;
-      question = address a;
-      reads = refl;
-      same_question_as_ask = refl;
-    };
-    spells = message_read_is_spelled second_text says_again second_is_read;
-    untruncated = refl;
-    rcode = inl refl;
-    route_is = refl;
-    not_lame = refl;
-  };
+  pieces = five_seconds ∷ [];
+  servers = [];
+  accepts = walk_accepted c (heard_again now) before (record { path = Udp 1040; server = server; octets = question_text 16 1; moment = asked_at }) (address a) 0 second_text says_again (tt, tt) (record {
+    delivered = refl;
+    is_listed = on;
+    is_live = live;
+    long_enough = omega arith;
+    not_too_long = omega arith;
+    is_reply = refl;
+    opcode = refl;
+    identifier = refl;
+    ask_reads = refl;
+    question = address a;
+    reads = refl;
+    same_question_as_ask = refl;
+  }) (message_read_is_spelled second_text says_again second_is_read) refl (inl refl) refl refl;
   are = refl;
 }
 
@@ -470,8 +465,8 @@ loop_past_its_end = record {
   carried_before = looped_carried;
   carried_now = looped_until_now;
   came_before = inr (inl refl);
-  not_replaced = inr (refl, inl refl);
-  on_route = refl;
+  not_replaced = inr (keeps_place five_seconds aliases.alias refl, inl refl);
+  on_route = serves_exactly.only c a 0 refl;
   is_set = tt;
   has_lifetime = omega arith;
   within = omega arith;
@@ -486,7 +481,7 @@ address_past_its_end = record {
   carried_now = looped_until_now;
   came_before = inl refl;
   not_replaced = inl refl;
-  on_route = refl;
+  on_route = serves_exactly.only c a 0 refl;
   is_set = tt;
   has_lifetime = omega arith;
   within = omega arith;
@@ -495,7 +490,7 @@ address_past_its_end = record {
 one_more : (os : List Held) → FollowsPastEnds seen_looped (address a) os (address a)
     → FollowsPastEnds seen_looped (address a) (aliases.loop ∷ os) (address a)
 unfolding name_of_rdata name_within walk_in name_step
-one_more os rest = (aliases.no_alias_asked, loop_past_its_end, refl, a, refl, rest)
+one_more os rest = (aliases.no_alias_asked, loop_past_its_end, record { name = refl; class = refl; kind = refl }, a, alias_to aliases.alias a refl, rest)
 
 so_many : (n : ℕ) → FollowsPastEnds seen_looped (address a) (aliases.loops n) (address a)
 so_many zero = refl
@@ -507,7 +502,7 @@ eight_past_their_ends = record {
   follows = so_many 8;
   few = omega arith;
   justified = address_past_its_end;
-  slot = refl;
+  slot = record { name = refl; class = refl; kind = refl };
 }
 
 five_behind_three_that_are_held : ChainPastEnds seen_looped (aliases.loops 3) (address a) (aliases.loops 5) (newer 1040)
@@ -516,7 +511,7 @@ five_behind_three_that_are_held = record {
   follows = so_many 5;
   few = omega arith;
   justified = address_past_its_end;
-  slot = refl;
+  slot = record { name = refl; class = refl; kind = refl };
 }
 
 nine_past_their_ends : (l : Look) (q : Question) (o : Held) → ChainPastEnds l [] q (aliases.loops 9) o → ⊥
@@ -564,7 +559,7 @@ the_newer_set = record {
   carried_now = renewed_until_now;
   came_before = inl refl;
   not_replaced = inl refl;
-  on_route = refl;
+  on_route = serves_exactly.only c a 0 refl;
   is_set = tt;
   has_lifetime = omega arith;
   within = omega arith;
@@ -573,11 +568,11 @@ the_newer_set = record {
 -- of the older one all holds, but that it was replaced
 not_the_older_set : JustifiedPastItsEnd seen_renewed a held → ⊥
 not_the_older_set j = by (subst (NotReplaced held)
-    (one_era c (waits ∷ renewed) (j.new ++ j.old) two_sets j.carried_now renewed_until_now) j.not_replaced)
+    (one_era c (waits ∷ renewed) (j.new ++ j.old) two_sets (tt, tt) j.carried_now renewed_until_now) j.not_replaced)
   where
     by : NotReplaced held two_sets → ⊥
     by (inl same) = let moments : 62020 ≡ 1020 = ap (λ (o : Held). o.accepted) same in omega (arith, moments)
-    by (inr behind) = true≢false behind.0
+    by (inr behind) = behind.0 (replaces_exactly.only five_seconds held.piece refl)
 
 but_for_its_place : NotReplaced held two_sets → JustifiedPastItsEnd seen_renewed a held
 unfolding route_of
@@ -588,7 +583,7 @@ but_for_its_place not_replaced = record {
   carried_now = renewed_until_now;
   came_before = inr (inl refl);
   not_replaced = not_replaced;
-  on_route = refl;
+  on_route = serves_exactly.only c a 0 refl;
   is_set = tt;
   has_lifetime = omega arith;
   within = omega arith;

@@ -25,6 +25,7 @@ use Rattle.step_values.specs.declared.event.Client.{Client}
 use Rattle.step_values.specs.declared.action.Why.TheVariants.{Answered}
 use Rattle.step_values.specs.Values.{Request, reply_in_action, from_client, Action, ask_udp, send_reply, Step}
 use Rattle.step_history.specs.History.{InEra, Look, ShownAsk}
+use Rattle.cache_laws.proofs.CallerLemmas.{serves_exactly}
 use Rattle.step_history.specs.Carried.{CarriedInEra, Justified}
 use Rattle.step_history.specs.Answers.{Answers}
 use Rattle.step_history.specs.Asked.{AsksRight, AsksWell}
@@ -108,7 +109,7 @@ asks_right questions more = (
         question = address a;
         text = refl;
         reads = refl;
-        server = record { route = 0; group = _; place = 0; route_is = refl; there = refl; server = refl };
+        server = record { route = 0; group = _; place = 0; route_is = serves_exactly.only (with_questions questions) a 0 refl; there = refl; server = refl };
         drawn_so = refl;
       },
       refl,
@@ -172,7 +173,7 @@ still_justified = record {
   new = [];
   carried_before = carried_so_far;
   carried_now = carried_so_far;
-  on_route = refl;
+  on_route = serves_exactly.only config a 0 refl;
   counts = inl (inl refl, omega arith);
 }
 
@@ -199,7 +200,7 @@ answers = record {
     last = address a;
     leads = record { few = omega arith; follows = refl };
     justified = still_justified;
-    ends = refl;
+    ends = record { name = refl; class = refl; kind = refl };
   };
   text = refl;
   fits = tt;
@@ -532,7 +533,7 @@ asks_again_right = record {
   question = address a;
   text = refl;
   reads = refl;
-  server = record { route = 0; group = _; place = 0; route_is = refl; there = refl; server = refl };
+  server = record { route = 0; group = _; place = 0; route_is = serves_exactly.only config a 0 refl; there = refl; server = refl };
   drawn_so = refl;
 }
 

@@ -8,6 +8,7 @@ use Rattle.dns_message.specs.Writing.{◌▹◌, each, name_text, written}
 use Rattle.suffix_routes.specs.Routes.{route_of}
 use Rattle.step_values.specs.declared.action.Why.TheVariants.{Answered}
 use Rattle.step_values.specs.Values.{SentReply, Step}
+use Rattle.cache_laws.proofs.CallerLemmas.{serves_exactly}
 use Rattle.step_history.specs.Accounting.{TellsMore}
 use Rattle.step_history.specs.Asked.{AsksWell}
 use Rattle.step_history.specs.Sound.{Owns, Sound}
@@ -71,7 +72,7 @@ it_asks_well = (
           question = address a;
           text = refl;
           reads = refl;
-          server = record { route = 0; group = _; place = 0; route_is = refl; there = refl; server = refl };
+          server = record { route = 0; group = _; place = 0; route_is = serves_exactly.only config a 0 refl; there = refl; server = refl };
           drawn_so = refl;
         },
         refl,

@@ -1,5 +1,6 @@
 -- The parts of a record's data, one after another.
-use Rattle.std.proofs.Common.{◌≡◌, ℕ, ◌+◌, ◌<◌, ◌≤◌, List, [], ◌++◌, length, take, drop, get_or, set, Result, Ok, Err, refl, sym, ap, ◌∙◌, append_assoc, arith}
+use Rattle.std.proofs.Common.{◌≡◌, ℕ, ◌+◌, ◌<◌, ◌≤◌, List, [], ◌++◌, length, take, drop, get_or, set, Bool, true, false, cond, Result, Ok, Err, refl, sym, ap, ◌∙◌, append_assoc, arith}
+use Rattle.std.specs.Prelude.{nat_lt}
 use Rattle.std.proofs.lemmas.List.{drop_more, drop_all, append-nil, take_more_set}
 use Rattle.plain_values.proofs.CallerLemmas.{fault_of_part}
 use Rattle.dns_message.specs.declared.names.fault.Fault.{Fault}
@@ -8,7 +9,8 @@ use Rattle.dns_message.specs.declared.reading.shape.Part.{Part}
 use Rattle.dns_message.specs.Reading.{◌>>=◌, wants_memory, Fails, behind}
 use Rattle.dns_name.specs.Labels.{octets_of, labels_of}
 use Rattle.dns_message.specs.Runs.{Begins}
-use Rattle.dns_message.specs.Data.{written_out, prefixed, part_at, parts_at}
+use Rattle.dns_message.specs.Names.{inside, skipped}
+use Rattle.dns_message.specs.Data.{octets_within, written_out, prefixed, part_at, parts_at}
 
 -- ---- parts that are read
 
@@ -76,6 +78,15 @@ read_short front parts i bytes stop o total le other so_far =
     sym so_far ∙ ap (prefixed front) (parts_short parts i bytes stop o le other)
 
 -- ---- parts that are skipped
+
+-- octets that are kept end where octets that are skipped end
+pub octets_behind : (bytes : List ℕ) (stop o count : ℕ) → behind (octets_within bytes stop o count) ≡ skipped (inside stop) o count
+unfolding octets_within
+octets_behind bytes stop o count = by_test (nat_lt stop (o + count))
+  where
+    by_test : (beyond : Bool) → behind (cond beyond (Err Rdata) (Ok (take count (drop o bytes), o + count))) ≡ cond beyond (Err Rdata) (Ok (o + count))
+    by_test true = refl
+    by_test false = refl
 
 pub behind_prefixed : (front : List ℕ) (r : Result (List ℕ × ℕ) Fault) → behind (prefixed front r) ≡ behind r
 behind_prefixed front (Ok x) = refl

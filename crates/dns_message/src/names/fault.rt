@@ -6,22 +6,22 @@ ghost use Rattle.dns_message.specs.declared.names.fault.Fault.TheVariants.{Memor
 use std::alloc::{AllocError, AllocFailed};
 use thiserror::Error;
 
-/// The first fault that is met from the front.
+/// The first fault from the front.
 #[derive(Clone, Copy, Debug, PartialEq, Eq, Error)]
 pub enum Fault {
-    /// An octet that the message needs is not there.
+    /// A needed octet is missing.
     #[error("the octets end too soon")]
     Short,
-    /// The octet that a label or a pointer begins with has the high bits 01 or 10 (RFC 1035 4.1.4).
+    /// The first octet of a label or a pointer has the high bits 01 or 10 (RFC 1035 4.1.4).
     #[error("no label and no pointer begins so")]
     LabelForm,
-    /// A pointer does not lead to below the start of the run of labels that it ends.
+    /// A pointer does not lead to a place before its own run of labels.
     #[error("a pointer does not lead back")]
     Pointer,
     /// A name has more than 255 octets (RFC 1035 2.3.4).
     #[error("a name has more than 255 octets")]
     NameLong,
-    /// The data of a record is not of its type's shape, or doesn't fill RDLENGTH exactly.
+    /// The data of a record does not have the shape of its type, or does not fill RDLENGTH exactly.
     #[error("the data of a record is not of its shape")]
     Rdata,
     /// The message would pass the limit.

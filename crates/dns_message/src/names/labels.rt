@@ -1,4 +1,4 @@
-//! The labels of a name, put one after another.
+//! The labels of a name, put in order.
 
 ghost use Rattle.std.specs.Prelude.{◌≡◌, ◌≤◌, Err, length};
 ghost use Rattle.dns_message.specs.Shortcuts.{AreShortcuts};
@@ -10,10 +10,10 @@ use crate::names::fault::Fault;
 use crate::names::shortcuts::resolve;
 use crate::names::walk::{Bound, NameCursor, NameOctet, part, step_at};
 
-/// Puts the labels of the name at a place, whose run must end before a bound, at the front of
-/// `octets`, each after its length and without the zero octet at their end. Returns the number of
-/// octets that they take, at most 254, and the place after the name. The targets of pointers are
-/// remembered in `ends`, which may be empty. It does not allocate.
+/// Puts the labels of the name at a place, in a run to end before a bound, at the front of
+/// `octets`, each after its length, without the final zero. Returns the number of octets put, at
+/// most 254, and the place after the name. The targets of pointers are remembered in `ends`, which
+/// may be empty. Does not allocate.
 ///
 /// `Err` is the first fault of the name from its front.
 pub(crate) fn put_labels(

@@ -1,46 +1,33 @@
-//! The places that pointers alone lead to, remembered.
+//! The places to which pointers alone lead, remembered.
 //!
 //! `ends` has a number for each of the first places of a message: one more than the place that a
-//! run which begins here reaches by pointers alone, or 0 where that is not known. With it, many
-//! names that use one long chain of pointers don't walk it again; without, as an empty slice, each
-//! does.
+//! run from here reaches by pointers alone, or 0 if unknown. So a long chain of pointers, used by
+//! many names, is walked once; with an empty slice, by each name.
 
 ghost use Rattle.std.specs.Prelude.{◌≤◌, ◌<◌, IfSome, IfNone};
 ghost use Rattle.dns_message.specs.Shortcuts.{SameRun, IsShortcut, AreShortcuts, LeadsBack};
 
-/// The most octets of a message that is read without remembering where its pointers lead.
+/// The most octets of a message read without remembering its pointers' targets.
 pub(crate) const SMALL: usize = 1024;
 
-/// The number of places that a pointer can lead to: its offset has 14 bits.
+/// The number of possible targets of a pointer: an offset has 14 bits.
 pub(crate) const PLACES: usize = 16384;
 
-/// The target of the pointer at a place, if one is there that a run may begin with.
-#[tactic(auto, using(crate::proofs::names::ShortcutLaws::shortcut_behind))]
-fn pointer_at(bytes: &[u8], place: usize) -> Option<usize>
-    ensures leads { IfSome result (λ target. IsShortcut bytes.now place target) }
-    ensures none { IfNone result (LeadsBack bytes.now place → ⊥) }
+/// The place that a run from `start` reaches by pointers alone. All calls with one `ends` together
+/// take a few steps for each place of `ends`.
+pub fn resolve(bytes: &[u8], ends: &mut [u16], start: usize) -> usize
+    requires { AreShortcuts bytes.now ends.old }
+    ensures leads { SameRun bytes.now start result }
+    ensures back { result ≤ start }
+    ensures ends { LeadsBack bytes.now result → ⊥ }
+    ensures known { AreShortcuts bytes.now ends.new }
 {
-    if place >= bytes.len() || bytes.len() - place < 2 || bytes[place] < 192 {
-        return None;
-    }
-    let target = (bytes[place] as usize - 192) * 256 + bytes[place + 1] as usize;
-    if target < place { Some(target) } else { None }
+    let end = end_of(bytes, ends, start);
+    remember(bytes, ends, start, end);
+    end
 }
 
-/// A place before this one where a run reads as one that begins here: the remembered one, otherwise
-/// the pointer's target.
-fn next_place(bytes: &[u8], ends: &[u16], place: usize) -> Option<usize>
-    requires { AreShortcuts bytes.now ends.now }
-    ensures leads { IfSome result (λ next. IsShortcut bytes.now place next) }
-    ensures none { IfNone result (LeadsBack bytes.now place → ⊥) }
-{
-    if place < ends.len() && ends[place] > 0 {
-        return Some(ends[place] as usize - 1);
-    }
-    pointer_at(bytes, place)
-}
-
-/// The place that a run which begins at `start` reaches by pointers alone.
+/// The place that a run from `start` reaches by pointers alone.
 fn end_of(bytes: &[u8], ends: &[u16], start: usize) -> usize
     requires { AreShortcuts bytes.now ends.now }
     ensures leads { SameRun bytes.now start result }
@@ -54,7 +41,7 @@ fn end_of(bytes: &[u8], ends: &[u16], start: usize) -> usize
     place
 }
 
-/// Remembers the end for each place on the way to it.
+/// Remembers the end for each place on the way.
 fn remember(bytes: &[u8], ends: &mut [u16], start: usize, end: usize)
     requires known { AreShortcuts bytes.now ends.old }
     requires leads { SameRun bytes.now start end }
@@ -70,16 +57,28 @@ fn remember(bytes: &[u8], ends: &mut [u16], start: usize, end: usize)
     }
 }
 
-/// The place that a run which begins at `start` reaches by pointers alone. Over all calls with the
-/// same `ends` it takes a few steps for each place of `ends`.
-pub fn resolve(bytes: &[u8], ends: &mut [u16], start: usize) -> usize
-    requires { AreShortcuts bytes.now ends.old }
-    ensures leads { SameRun bytes.now start result }
-    ensures back { result ≤ start }
-    ensures ends { LeadsBack bytes.now result → ⊥ }
-    ensures known { AreShortcuts bytes.now ends.new }
+/// A place before this one from which a run is read alike: the remembered place, otherwise the
+/// pointer's target.
+fn next_place(bytes: &[u8], ends: &[u16], place: usize) -> Option<usize>
+    requires { AreShortcuts bytes.now ends.now }
+    ensures leads { IfSome result (λ next. IsShortcut bytes.now place next) }
+    ensures none { IfNone result (LeadsBack bytes.now place → ⊥) }
 {
-    let end = end_of(bytes, ends, start);
-    remember(bytes, ends, start, end);
-    end
+    if place < ends.len() && ends[place] > 0 {
+        return Some(ends[place] as usize - 1);
+    }
+    pointer_at(bytes, place)
+}
+
+/// The target of the pointer at a place, if there is a pointer with which a run may begin.
+#[tactic(auto, using(crate::proofs::names::ShortcutLaws::shortcut_behind))]
+fn pointer_at(bytes: &[u8], place: usize) -> Option<usize>
+    ensures leads { IfSome result (λ target. IsShortcut bytes.now place target) }
+    ensures none { IfNone result (LeadsBack bytes.now place → ⊥) }
+{
+    if place >= bytes.len() || bytes.len() - place < 2 || bytes[place] < 192 {
+        return None;
+    }
+    let target = (bytes[place] as usize - 192) * 256 + bytes[place + 1] as usize;
+    if target < place { Some(target) } else { None }
 }

@@ -1,8 +1,8 @@
-//! The sizes of the names that pointers lead to, in octets, remembered.
+//! The sizes of pointers' target names, in octets, remembered.
 //!
-//! `sizes` has a number for each of the first places of a message: the octets of the name that
-//! begins here, the zero octet at its end counted, or 0 where that is not known. With it a name
-//! that many pointers lead to is walked once; without, as an empty slice, each pointer walks it.
+//! `sizes` has a number for each of the first places of a message: the octets of the name from
+//! here, with the final zero, or 0 if unknown. So the target of many pointers is walked once; with
+//! an empty slice, by each pointer.
 
 ghost use Rattle.std.specs.Prelude.{◌≡◌, ◌≤◌, ◌<◌, Ok, IfSome, slice_index};
 ghost use Rattle.dns_message.specs.Sizes.{AreSizes, size_behind};
@@ -10,18 +10,32 @@ ghost use Rattle.dns_message.specs.Sizes.{AreSizes, size_behind};
 use crate::names::fault::Fault;
 use crate::names::walk::{Bound, NameCursor, NameOctet, step_at};
 
-/// The remembered size of the name at a place.
-fn known_size(sizes: &[u8], place: usize) -> Option<usize>
-    ensures { IfSome result (λ size. (0 < size) × (size ≡ slice_index sizes.now place)) }
+/// The octets of the name at a place, after labels of `used` octets. Over all calls with one
+/// `sizes` each place is remembered once, and a known place is not walked again.
+pub(crate) fn size_of_name(
+    bytes: &[u8],
+    sizes: &mut [u8],
+    start: usize,
+    used: usize,
+) -> Result<usize, Fault>
+    requires room { used ≤ 254 }
+    requires known { AreSizes bytes.now sizes.old }
+    ensures exact { result ≡ size_behind bytes.now start used }
+    ensures known { AreSizes bytes.now sizes.new }
 {
-    if place < sizes.len() && sizes[place] > 0 {
-        return Some(sizes[place] as usize);
+    if let Some(size) = known_size(sizes, start) {
+        if used + size > 255 {
+            return Err(Fault::NameLong);
+        }
+        return Ok(size);
     }
-    None
+    let size = measure(bytes, sizes, start, used)?;
+    remember(bytes, sizes, start, size);
+    Ok(size)
 }
 
-/// The octets of the name at a place, after labels of `used` octets. Where a pointer leads to a
-/// place that is known, the walk ends.
+/// The octets of the name at a place, after labels of `used` octets. The walk ends at a pointer to
+/// a known place.
 fn measure(bytes: &[u8], sizes: &[u8], start: usize, used: usize) -> Result<usize, Fault>
     requires room { used ≤ 254 }
     requires known { AreSizes bytes.now sizes.now }
@@ -51,8 +65,18 @@ fn measure(bytes: &[u8], sizes: &[u8], start: usize, used: usize) -> Result<usiz
     }
 }
 
-/// Remembers the octets of the name at a place, and of the names that begin on the way to its end,
-/// up to the first that is known.
+/// The remembered size of the name at a place.
+fn known_size(sizes: &[u8], place: usize) -> Option<usize>
+    ensures { IfSome result (λ size. (0 < size) × (size ≡ slice_index sizes.now place)) }
+{
+    if place < sizes.len() && sizes[place] > 0 {
+        return Some(sizes[place] as usize);
+    }
+    None
+}
+
+/// Remembers the octets of the name at a place, and of the names on the way to its end, up to the
+/// first known.
 fn remember(bytes: &[u8], sizes: &mut [u8], start: usize, size: usize)
     requires known { AreSizes bytes.now sizes.old }
     requires read { size_behind bytes.now start 0 ≡ Ok size }
@@ -74,28 +98,4 @@ fn remember(bytes: &[u8], sizes: &mut [u8], start: usize, size: usize)
             _ => return,
         }
     }
-}
-
-/// The octets of the name at a place, after labels of `used` octets. Over all calls with the same
-/// `sizes` each place is remembered once, and a place that is known is not walked again.
-pub(crate) fn size_of_name(
-    bytes: &[u8],
-    sizes: &mut [u8],
-    start: usize,
-    used: usize,
-) -> Result<usize, Fault>
-    requires room { used ≤ 254 }
-    requires known { AreSizes bytes.now sizes.old }
-    ensures exact { result ≡ size_behind bytes.now start used }
-    ensures known { AreSizes bytes.now sizes.new }
-{
-    if let Some(size) = known_size(sizes, start) {
-        if used + size > 255 {
-            return Err(Fault::NameLong);
-        }
-        return Ok(size);
-    }
-    let size = measure(bytes, sizes, start, used)?;
-    remember(bytes, sizes, start, size);
-    Ok(size)
 }

@@ -1,26 +1,26 @@
-//! One name in a message, label by label.
+//! A name in a message, label by label.
 
 ghost use Rattle.std.specs.Prelude.{◌≡◌, ◌≤◌, ◌+◌, length, take, drop, IfOk, Err, None};
 ghost use Rattle.dns_message.specs.declared.names.fault.Fault.TheVariants.{Memory};
 ghost use Rattle.dns_message.specs.Shortcuts.{AreShortcuts};
-ghost use Rattle.dns_message.specs.Names.{whole, inside, behind_labels, step, Stays, Resumes, resume, name_within};
+ghost use Rattle.dns_message.specs.Names.{whole, inside, skipped, behind_labels, step, Stays, Resumes, resume, name_within};
 
 use crate::names::fault::Fault;
 use crate::names::shortcuts::resolve;
 
 /// The bound before which a run of labels must end, in octets from the front of the message. A run
-/// is the labels of a name that follow one another, with the zero octet or the pointer that ends
-/// them (RFC 1035 4.1.4).
+/// is consecutive labels of a name, with the zero octet or the pointer at their end (RFC 1035
+/// 4.1.4).
 #[derive(Clone, Copy)]
 pub struct Bound {
     /// No octet of the run is here or later.
     pub stop: usize,
-    /// The fault where the run needs an octet at or after `stop`.
+    /// The fault of a run with an octet at or after `stop`.
     pub beyond: Fault,
 }
 
 impl Bound {
-    /// The end of the message; beyond it an octet is `Short`.
+    /// The end of the message; an octet beyond is `Short`.
     pub fn whole(bytes: &[u8]) -> Bound
         ensures { result ≡ whole bytes.now }
     {
@@ -30,7 +30,7 @@ impl Bound {
         }
     }
 
-    /// The end of a record's data; beyond it an octet is `Rdata`, also where the message goes on.
+    /// The end of a record's data; an octet beyond is `Rdata`, even within the message.
     pub fn data(stop: usize) -> Bound
         ensures { result ≡ inside stop }
     {
@@ -39,9 +39,19 @@ impl Bound {
             beyond: Fault::Rdata,
         }
     }
+
+    /// The place after `count` octets, none of which may be at the bound or beyond it.
+    pub(crate) fn skip(self, offset: usize, count: usize) -> Result<usize, Fault>
+        ensures { result ≡ skipped self offset count }
+    {
+        if offset > self.stop || self.stop - offset < count {
+            return Err(self.beyond);
+        }
+        Ok(offset + count)
+    }
 }
 
-/// The item at one place of a name.
+/// The item at a place of a name.
 #[derive(Clone, Copy)]
 pub(crate) enum NameOctet {
     /// The name ends.
@@ -55,11 +65,11 @@ pub(crate) enum NameOctet {
 /// The state of reading a name: a cursor, in octets from the front of the message.
 #[derive(Clone, Copy)]
 pub(crate) struct NameCursor {
-    /// The place that is read next.
+    /// The place to read next.
     pub offset: usize,
-    /// The place at which the present run of labels began.
+    /// The first place of the present run of labels.
     pub run: usize,
-    /// The octets that the labels so far take, their lengths counted.
+    /// The octets of the labels so far, with their lengths.
     pub used: usize,
     /// The bound before which the present run must end.
     pub bound: Bound,
@@ -82,7 +92,7 @@ impl NameCursor {
         }
     }
 
-    /// The beginning of the name that a pointer leads to, after labels of `used` octets.
+    /// The beginning of a pointer's target name, after labels of `used` octets.
     pub(crate) fn behind(bytes: &[u8], offset: usize, used: usize) -> NameCursor
         ensures { result ≡ behind_labels bytes.now offset used }
     {
@@ -156,12 +166,12 @@ pub(crate) fn step_at(bytes: &[u8], walk: NameCursor) -> Result<NameOctet, Fault
 }
 
 /// The next label of a name, pointers followed; their targets are remembered in `ends`, which may
-/// be empty. It does not allocate.
+/// be empty. Does not allocate.
 ///
-/// The fault is the first from the cursor on (RFC 1035 4.1.4): `Short` or `Rdata` where an octet is
-/// beyond the bound, `NameLong` where the name would have more than 255 octets, `LabelForm` where
-/// neither a label nor a pointer begins, `Pointer` where one does not lead to before the run that
-/// it ends.
+/// The fault is the first from the cursor on (RFC 1035 4.1.4): `Short` or `Rdata` for an octet
+/// beyond the bound, `NameLong` for a name of more than 255 octets, `LabelForm` for an octet that
+/// begins neither a label nor a pointer, `Pointer` for a pointer that does not lead to a place
+/// before its own run.
 pub(crate) fn next_label<'a>(
     bytes: &'a [u8],
     ends: &mut [u16],

@@ -15,11 +15,11 @@ use crate::names::walk::{Bound, NameCursor, NameOctet, NextLabel, next_label, st
 use dns_name::{Name, NameKey};
 use std::alloc::Allocator;
 
-/// The name at a place, and the place after it. The targets of pointers are remembered in `ends`,
+/// The name at a place, and the place after. The targets of pointers are remembered in `ends`,
 /// which may be empty.
 ///
 /// `Err` is the first fault of the name from its front: `Short`, `LabelForm`, `Pointer` or
-/// `NameLong`; where it has none, `Memory`, if an allocation was refused.
+/// `NameLong`; for a readable name `Memory`, if memory ran out.
 pub(crate) fn read_name<A: Allocator>(
     alloc: A,
     bytes: &[u8],
@@ -37,9 +37,9 @@ pub(crate) fn read_name<A: Allocator>(
     Ok((name, end))
 }
 
-/// The place after the name at a place, in a run that must end before a bound. The octets of the
-/// names that pointers lead to are remembered in `sizes`, which may be empty. `Err` is the first
-/// fault of the name from its front. It does not allocate.
+/// The place after the name at a place, in a run to end before a bound. The sizes of pointers'
+/// target names are remembered in `sizes`, which may be empty. `Err` is the first fault of the name
+/// from its front. Does not allocate.
 pub fn skip_name(
     bytes: &[u8],
     sizes: &mut [u8],
@@ -70,9 +70,8 @@ pub fn skip_name(
     }
 }
 
-/// The place after the name at a place, which can be read. It is found in the name's own octets: a
-/// name ends after its zero octet, or after its first pointer, wherever that leads. It does not
-/// allocate.
+/// The place after the readable name at a place, found in the name's own octets: after the zero
+/// octet, or after the first pointer.
 #[tactic(auto, using(crate::proofs::names::EndLaws::name_begins, crate::proofs::names::EndLaws::goes_on))]
 pub(crate) fn readable_name_end(bytes: &[u8], offset: usize) -> usize
     requires { IsOk (name_at bytes.now offset) }
@@ -91,16 +90,8 @@ pub(crate) fn readable_name_end(bytes: &[u8], offset: usize) -> usize
     }
 }
 
-/// Whether octets are equal, ASCII letter case aside. Most labels that are equal are spelled alike,
-/// so octets are compared first.
-fn is_same_label(a: &[u8], b: &[u8]) -> bool
-    ensures { IsTrue result ↔ (map to_ascii_lowercase a.now ≡ map to_ascii_lowercase b.now) }
-{
-    a == b || a.eq_ignore_ascii_case(b)
-}
-
-/// The place after the name at a place, where it is this one, letter case aside (RFC 1035 2.3.3);
-/// `None` where it is another, or cannot be read. It does not allocate.
+/// The place after the name at a place, if equal to `name`, letter case aside (RFC 1035 2.3.3);
+/// `None` for a different or unreadable name.
 pub(crate) fn skip_same_name<A: Allocator>(
     bytes: &[u8],
     offset: usize,
@@ -125,7 +116,15 @@ pub(crate) fn skip_same_name<A: Allocator>(
     }
 }
 
-/// The key of the name at a place. `Err` is the first fault of the name from its front. It does not
+/// Whether octets are equal, ASCII letter case aside. Most equal labels are spelled alike, so a
+/// comparison with case comes first.
+fn is_same_label(a: &[u8], b: &[u8]) -> bool
+    ensures { IsTrue result ↔ (map to_ascii_lowercase a.now ≡ map to_ascii_lowercase b.now) }
+{
+    a == b || a.eq_ignore_ascii_case(b)
+}
+
+/// The key of the name at a place. `Err` is the first fault of the name from its front. Does not
 /// allocate.
 pub(crate) fn key_at(bytes: &[u8], offset: usize) -> Result<NameKey, Fault>
     ensures { result ≡ keyed (name_at bytes.now offset) }

@@ -1,11 +1,11 @@
 //! The data of records, by the shape of its type.
 
-ghost use Rattle.std.specs.Prelude.{◌≡◌, ◌≤◌, IfOk, OnErr, None, length};
+ghost use Rattle.std.specs.Prelude.{◌≡◌, ◌≤◌, Err, IfOk, MatchResult, OnErr, None, length};
 ghost use Rattle.dns_message.specs.Reading.{Gives, behind};
 ghost use Rattle.dns_message.specs.Shortcuts.{AreShortcuts};
 ghost use Rattle.dns_message.specs.Sizes.{AreSizes};
 ghost use Rattle.dns_message.specs.Names.{name_within, inside};
-ghost use Rattle.dns_message.specs.Data.{octets_within, written_out, prefixed, part_at, parts_at, data_at};
+ghost use Rattle.dns_message.specs.Data.{octets_within, written_out, prefixed, laid_at, part_at, parts_at, data_at};
 ghost use Rattle.dns_message.specs.Data.{name_of_rdata};
 
 use crate::names::{Bound, Fault, part, put_labels, skip_name};
@@ -14,19 +14,85 @@ use dns_name::Name;
 use plain_values::ShortOctets;
 use std::alloc::{AllocError, Allocator};
 
-/// The place after `count` octets of the data.
-#[tactic(auto, unfolding(crate::specs::Data::octets_within))]
-fn skip_octets(bytes: &[u8], stop: usize, offset: usize, count: usize) -> Result<usize, Fault>
-    ensures { result ≡ behind (octets_within bytes.now stop offset count) }
+/// The data of `len` octets of a record of this type, with its names written out in full, and the
+/// place after.
+#[tactic(auto, unfolding(crate::specs::Data::data_at))]
+pub(crate) fn read_data<A: Allocator>(
+    alloc: A,
+    bytes: &[u8],
+    ends: &mut [u16],
+    kind: u16,
+    offset: usize,
+    len: usize,
+) -> Result<(ShortOctets<A>, usize), Fault>
+    requires inside { offset ≤ length bytes.now }
+    requires known { AreShortcuts bytes.now ends.old }
+    ensures exact { Gives (λ x. x) result (data_at kind bytes.now offset len) }
+    ensures known { AreShortcuts bytes.now ends.new }
 {
-    let _ = bytes;
-    if offset > stop || stop - offset < count {
-        return Err(Fault::Rdata);
+    if bytes.len() - offset < len {
+        return Err(Fault::Short);
     }
-    Ok(offset + count)
+    match shape_of(kind) {
+        None => Ok((
+            ShortOctets::from_slice(alloc, part(bytes, offset, len))?,
+            offset + len,
+        )),
+        Some(shape) => {
+            let (octets, end) = read_parts(alloc, bytes, ends, offset + len, shape.parts, offset)?;
+            Ok((ShortOctets::from_vec(octets), end))
+        }
+    }
 }
 
-/// Appends a name of the data, written out in full; returns the place after it.
+/// The parts from a place on, written out in full in order. They must end at `stop`.
+#[tactic(auto, using(crate::proofs::reading::DataLaws::read_more, crate::proofs::reading::DataLaws::read_done, crate::proofs::reading::DataLaws::read_short))]
+fn read_parts<A: Allocator>(
+    alloc: A,
+    bytes: &[u8],
+    ends: &mut [u16],
+    stop: usize,
+    parts: &[Part],
+    offset: usize,
+) -> Result<(Vec<u8, A>, usize), Fault>
+    requires inside { stop ≤ length bytes.now }
+    requires known { AreShortcuts bytes.now ends.old }
+    ensures exact { Gives (λ x. (x.0.items, x.1)) result (parts_at parts.now bytes.now stop offset) }
+    ensures known { AreShortcuts bytes.now ends.new }
+{
+    let mut octets = Vec::new(alloc);
+    let mut at = offset;
+    for part in parts {
+        at = read_part(&mut octets, bytes, ends, stop, *part, at)?;
+    }
+    if at != stop {
+        return Err(Fault::Rdata);
+    }
+    Ok((octets, at))
+}
+
+/// Appends a part of the data, written out in full; returns the place after.
+fn read_part<A: Allocator>(
+    octets: &mut Vec<u8, A>,
+    bytes: &[u8],
+    ends: &mut [u16],
+    stop: usize,
+    part: Part,
+    offset: usize,
+) -> Result<usize, Fault>
+    requires inside { stop ≤ length bytes.now }
+    requires known { AreShortcuts bytes.now ends.old }
+    ensures exact { Gives (λ e. (octets.new.items, e)) result
+        (prefixed octets.old.items (part_at part bytes.now stop offset)) }
+    ensures known { AreShortcuts bytes.now ends.new }
+{
+    match plain_count(bytes, stop, part, offset)? {
+        None => expand_name(octets, bytes, ends, stop, offset),
+        Some(count) => read_octets(octets, bytes, stop, offset, count),
+    }
+}
+
+/// Appends a name of the data, written out in full; returns the place after.
 #[tactic(auto, using(crate::proofs::reading::DataLaws::written_name, crate::proofs::reading::DataLaws::written_fault))]
 fn expand_name<A: Allocator>(
     octets: &mut Vec<u8, A>,
@@ -61,91 +127,32 @@ fn read_octets<A: Allocator>(
     ensures { Gives (λ e. (octets.new.items, e)) result (prefixed octets.old.items
         (octets_within bytes.now stop offset count)) }
 {
-    let end = skip_octets(bytes, stop, offset, count)?;
+    let end = Bound::data(stop).skip(offset, count)?;
     octets.extend_from_slice(part(bytes, offset, count))?;
     Ok(end)
 }
 
-/// Appends a part of the data, written out in full; returns the place after it.
-#[tactic(auto, unfolding(crate::specs::Data::text_within))]
-fn read_part<A: Allocator>(
-    octets: &mut Vec<u8, A>,
-    bytes: &[u8],
-    ends: &mut [u16],
-    stop: usize,
-    part: Part,
-    offset: usize,
-) -> Result<usize, Fault>
-    requires inside { stop ≤ length bytes.now }
-    requires known { AreShortcuts bytes.now ends.old }
-    ensures exact { Gives (λ e. (octets.new.items, e)) result
-        (prefixed octets.old.items (part_at part bytes.now stop offset)) }
-    ensures known { AreShortcuts bytes.now ends.new }
-{
-    match part {
-        Part::Name => expand_name(octets, bytes, ends, stop, offset),
-        Part::Number16 => read_octets(octets, bytes, stop, offset, 2),
-        Part::SoaNumbers => read_octets(octets, bytes, stop, offset, 20),
-        Part::Text => {
-            if offset >= stop {
-                return Err(Fault::Rdata);
-            }
-            read_octets(octets, bytes, stop, offset, bytes[offset] as usize + 1)
-        }
-    }
-}
-
-/// The place after a part of the data.
-#[tactic(auto, unfolding(crate::specs::Data::text_within))]
-fn skip_part(
+/// The place after the data of `len` octets of a record of this type.
+#[tactic(auto, unfolding(crate::specs::Data::data_at))]
+pub(crate) fn skip_data(
     bytes: &[u8],
     sizes: &mut [u8],
-    stop: usize,
-    part: Part,
+    kind: u16,
     offset: usize,
+    len: usize,
 ) -> Result<usize, Fault>
-    requires inside { stop ≤ length bytes.now }
+    requires inside { offset ≤ length bytes.now }
     requires known { AreSizes bytes.now sizes.old }
-    ensures exact { result ≡ behind (part_at part bytes.now stop offset) }
+    ensures exact { result ≡ behind (data_at kind bytes.now offset len) }
     ensures known { AreSizes bytes.now sizes.new }
 {
-    match part {
-        Part::Name => skip_name(bytes, sizes, Bound::data(stop), offset),
-        Part::Number16 => skip_octets(bytes, stop, offset, 2),
-        Part::SoaNumbers => skip_octets(bytes, stop, offset, 20),
-        Part::Text => {
-            if offset >= stop {
-                return Err(Fault::Rdata);
-            }
-            skip_octets(bytes, stop, offset, bytes[offset] as usize + 1)
-        }
+    if bytes.len() - offset < len {
+        return Err(Fault::Short);
     }
-}
-
-/// The parts from a place on, written out in full one after another. They must end at `stop`.
-#[tactic(auto, using(crate::proofs::reading::DataLaws::read_more, crate::proofs::reading::DataLaws::read_done, crate::proofs::reading::DataLaws::read_short))]
-fn read_parts<A: Allocator>(
-    alloc: A,
-    bytes: &[u8],
-    ends: &mut [u16],
-    stop: usize,
-    parts: &[Part],
-    offset: usize,
-) -> Result<(Vec<u8, A>, usize), Fault>
-    requires inside { stop ≤ length bytes.now }
-    requires known { AreShortcuts bytes.now ends.old }
-    ensures exact { Gives (λ x. (x.0.items, x.1)) result (parts_at parts.now bytes.now stop offset) }
-    ensures known { AreShortcuts bytes.now ends.new }
-{
-    let mut octets = Vec::new(alloc);
-    let mut at = offset;
-    for part in parts {
-        at = read_part(&mut octets, bytes, ends, stop, *part, at)?;
+    match shape_of(kind) {
+        None => Ok(offset + len),
+        Some(shape) => skip_parts(bytes, sizes, offset + len, shape.parts, offset),
     }
-    if at != stop {
-        return Err(Fault::Rdata);
-    }
-    Ok((octets, at))
 }
 
 /// The place after the parts from a place on. They must end at `stop`.
@@ -172,62 +179,48 @@ fn skip_parts(
     Ok(at)
 }
 
-/// The data of `len` octets of a record of this type, names in it written out in full, and the
-/// place after it.
-#[tactic(auto, unfolding(crate::specs::Data::data_at))]
-pub(crate) fn read_data<A: Allocator>(
-    alloc: A,
+/// The place after a part of the data.
+#[tactic(auto, using(crate::proofs::reading::DataLaws::octets_behind))]
+fn skip_part(
     bytes: &[u8],
-    ends: &mut [u16],
-    kind: u16,
+    sizes: &mut [u8],
+    stop: usize,
+    part: Part,
     offset: usize,
-    len: usize,
-) -> Result<(ShortOctets<A>, usize), Fault>
-    requires inside { offset ≤ length bytes.now }
-    requires known { AreShortcuts bytes.now ends.old }
-    ensures exact { Gives (λ x. x) result (data_at kind bytes.now offset len) }
-    ensures known { AreShortcuts bytes.now ends.new }
+) -> Result<usize, Fault>
+    requires inside { stop ≤ length bytes.now }
+    requires known { AreSizes bytes.now sizes.old }
+    ensures exact { result ≡ behind (part_at part bytes.now stop offset) }
+    ensures known { AreSizes bytes.now sizes.new }
 {
-    if bytes.len() - offset < len {
-        return Err(Fault::Short);
+    match plain_count(bytes, stop, part, offset)? {
+        None => skip_name(bytes, sizes, Bound::data(stop), offset),
+        Some(count) => Bound::data(stop).skip(offset, count),
     }
-    match shape_of(kind) {
-        None => Ok((
-            ShortOctets::from_slice(alloc, part(bytes, offset, len))?,
-            offset + len,
-        )),
-        Some(shape) => {
-            let (octets, end) = read_parts(alloc, bytes, ends, offset + len, shape.parts, offset)?;
-            Ok((ShortOctets::from_vec(octets), end))
+}
+
+/// The number of octets of a part of the data; `None` for a name.
+#[tactic(auto, unfolding(crate::specs::Data::text_within))]
+fn plain_count(bytes: &[u8], stop: usize, part: Part, offset: usize) -> Result<Option<usize>, Fault>
+    requires { stop ≤ length bytes.now }
+    ensures { MatchResult result (λ count. part_at part bytes.now stop offset ≡ laid_at count bytes.now stop offset)
+        (λ fault. (fault ≡ Fault.Rdata) × (part_at part bytes.now stop offset ≡ Err fault)) }
+{
+    match part {
+        Part::Name => Ok(None),
+        Part::Number16 => Ok(Some(2)),
+        Part::SoaNumbers => Ok(Some(20)),
+        Part::Text => {
+            if offset >= stop {
+                return Err(Fault::Rdata);
+            }
+            Ok(Some(bytes[offset] as usize + 1))
         }
     }
 }
 
-/// The place after the data of `len` octets of a record of this type.
-#[tactic(auto, unfolding(crate::specs::Data::data_at))]
-pub(crate) fn skip_data(
-    bytes: &[u8],
-    sizes: &mut [u8],
-    kind: u16,
-    offset: usize,
-    len: usize,
-) -> Result<usize, Fault>
-    requires inside { offset ≤ length bytes.now }
-    requires known { AreSizes bytes.now sizes.old }
-    ensures exact { result ≡ behind (data_at kind bytes.now offset len) }
-    ensures known { AreSizes bytes.now sizes.new }
-{
-    if bytes.len() - offset < len {
-        return Err(Fault::Short);
-    }
-    match shape_of(kind) {
-        None => Ok(offset + len),
-        Some(shape) => skip_parts(bytes, sizes, offset + len, shape.parts, offset),
-    }
-}
-
-/// The name that is all of these octets, with the zero octet at their end. In octets of its own no
-/// pointer leads back, so none is followed. `Err` where memory ran out; only a name allocates.
+/// The name in these octets, whole and with the final zero. Octets of their own have no place for a
+/// pointer's target, so none is followed. Only a name allocates.
 #[tactic(auto, using(crate::proofs::reading::ShapeLaws::only_name, crate::proofs::reading::ShapeLaws::no_name))]
 pub fn read_only_name<A: Allocator>(alloc: A, octets: &[u8]) -> Result<Option<Name<A>>, AllocError>
     ensures name { IfOk result (λ name. name ≡ name_of_rdata octets.now) }

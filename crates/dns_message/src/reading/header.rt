@@ -8,11 +8,11 @@ use crate::names::number16;
 /// The first 12 octets of a message (RFC 1035 4.1.1).
 #[derive(Clone, Copy, Debug, PartialEq, Eq)]
 pub struct Header {
-    /// The identifier that ties a reply to its question.
+    /// The identifier, which ties a reply to its question.
     pub id: u16,
     /// Set in replies.
     pub qr: bool,
-    /// 4 bits: the kind of query, 0 for a standard one.
+    /// 4 bits: the kind of query, 0 for a standard query.
     pub opcode: u8,
     /// The server is an authority for the name.
     pub aa: bool,
@@ -26,12 +26,12 @@ pub struct Header {
     pub z: u8,
     /// 4 bits: the response code, 0 for no error.
     pub rcode: u8,
-    /// The numbers of questions, answers, authority records and additional records that follow.
+    /// The numbers of questions, answers, authority records and additional records.
     pub counts: [u16; 4],
 }
 
 impl Header {
-    /// The header that the octets begin with: RFC 1035 4.1.1. `None` where there are less than 12.
+    /// The header at the front of the octets: RFC 1035 4.1.1. `None` for fewer than 12 octets.
     #[tactic(auto, unfolding(crate::specs::Header::header_of))]
     pub fn read(bytes: &[u8]) -> Option<Header>
         ensures exact { result ≡ header_of bytes.now }

@@ -1,5 +1,5 @@
-//! The values that are read are those that the octets spell: laws about the definitions that the
-//! contracts cite.
+//! The values read are the values spelled by the octets: laws about the definitions in the
+//! contracts.
 
 ghost use Rattle.std.specs.Prelude.{◌≡◌, ◌↔◌, ◌≤◌, [], List, ℕ, Ok, Some, ◌+◌, length};
 ghost use Rattle.dns_name.specs.Labels.{IsName, size_of};
@@ -12,7 +12,7 @@ ghost use Rattle.dns_message.specs.Numbers.{number16};
 ghost use Rattle.dns_message.specs.Spans.{SpansAt, spans_of, counted_sections};
 ghost use Rattle.dns_message.specs.declared.reading.spans.Span as span;
 
-/// A name, a record's data, a question and a record are read exactly where they are laid out.
+/// A name, a record's data, a question and a record are read exactly if the octets have them.
 pub fn what_stands_is_read()
     ensures name { (bytes : List ℕ) (o e : ℕ) (labels : List (List ℕ)) → name_at bytes o ≡ Ok (labels, e)
         ↔ (NameAt bytes o o labels e × (size_of labels ≤ 255)) }
@@ -24,8 +24,8 @@ pub fn what_stands_is_read()
         ↔ RecordAt bytes o entry e }
 {}
 
-/// A message and its first question are read exactly where the octets spell them, and no octets
-/// spell two messages. The data of a message's records is of their shapes.
+/// A message and its first question are read exactly if the octets spell them, and no octets spell
+/// two messages. The data of a message's records has their shapes.
 pub fn messages_are_spelled()
     ensures read { (bytes : List ℕ) (message : values.Message) → message_of bytes ≡ Ok message ↔ Spells bytes message }
     ensures first { (bytes : List ℕ) (question : values.Question) → first_question bytes ≡ Ok question
@@ -35,14 +35,14 @@ pub fn messages_are_spelled()
     ensures shaped { (bytes : List ℕ) (message : values.Message) → Spells bytes message → HasShapes message }
 {}
 
-/// The data that is one name is that name, written out in full.
+/// Data that is one name is the name, written out in full.
 pub fn names_are_written_out()
     ensures { (octets : List ℕ) (labels : List (List ℕ)) → name_of_rdata octets ≡ Some labels
         ↔ (IsName labels × (octets ≡ name_octets labels)) }
 {}
 
-/// The spans of a message are those of the records that can be read, in order, and no others. There
-/// are none where a counted question can't be read.
+/// The spans of a message are the spans of all readable records, in order. There are none after an
+/// unreadable question.
 pub fn spans_are_records()
     ensures spans { (bytes : List ℕ) (questions : List values.Question) (o : ℕ) (spans : List span.Span)
         → InRow (QuestionAt bytes) 12 questions o → length questions ≡ number16 bytes 4

@@ -1,4 +1,4 @@
-//! Messages that own what they hold.
+//! Messages with memory of their own.
 
 ghost use Rattle.std.specs.Prelude.{◌≡◌, ◌≤◌, length, IfOk, IsOk, OnErr, None};
 ghost use Rattle.dns_message.specs.Data.{name_of_rdata};
@@ -15,7 +15,7 @@ use std::marker::Model;
 #[derive(Drop)]
 pub struct Question<A: Allocator = Global> {
     pub name: Name<A>,
-    /// The type that is asked for.
+    /// The asked type.
     pub kind: u16,
     /// 1 is IN.
     pub class: u16,
@@ -30,7 +30,7 @@ impl<A: Allocator> Model for Question<A> {
 }
 
 impl<A: Allocator> Question<A> {
-    /// An equal question. `Err` where memory ran out.
+    /// An equal question.
     pub fn copy(&self, alloc: A) -> Result<Question<A>, AllocError>
         ensures { IfOk result (λ copy. copy ≡ self.now) }
     {
@@ -43,7 +43,7 @@ impl<A: Allocator> Question<A> {
     }
 
     /// Whether names, types and classes are equal, ASCII letter case aside (RFC 1035 2.3.3, RFC
-    /// 4343). It does not allocate.
+    /// 4343).
     pub fn is_same(&self, other: &Question<A>) -> bool
         ensures { result ≡ same_question self.now other.now }
     {
@@ -51,7 +51,7 @@ impl<A: Allocator> Question<A> {
     }
 }
 
-/// The data of a record, with the names in it written out in full, letter case as read.
+/// The data of a record, with its names written out in full, letter case as read.
 #[derive(Drop)]
 pub struct Rdata<A: Allocator = Global> {
     octets: ShortOctets<A>,
@@ -66,22 +66,21 @@ impl<A: Allocator> Model for Rdata<A> {
 }
 
 impl<A: Allocator> Rdata<A> {
-    /// Data of these octets, in which names have to be written out in full. It does not allocate.
+    /// Data of these octets, in which names have to be written out in full.
     pub fn new(octets: Vec<u8, A>) -> Rdata<A>
         ensures { result ≡ octets.items }
     {
         Rdata::holding(ShortOctets::from_vec(octets))
     }
 
-    /// Data that keeps these octets as they are; it does not allocate.
+    /// Data of these octets, unchanged.
     pub(crate) fn holding(octets: ShortOctets<A>) -> Rdata<A>
         ensures { result ≡ octets }
     {
         Rdata { octets }
     }
 
-    /// Data of a copy of these octets. Up to 30 do not allocate; for more, `Err` where memory ran
-    /// out.
+    /// Data of a copy of these octets. Up to 30 do not allocate.
     pub fn from_octets(alloc: A, octets: &[u8]) -> Result<Rdata<A>, AllocError>
         ensures octets { IfOk result (λ copy. copy ≡ octets.now) }
         ensures few { length octets.now ≤ 30 → IsOk result }
@@ -97,8 +96,8 @@ impl<A: Allocator> Rdata<A> {
         self.octets.as_slice()
     }
 
-    /// The name that the data is, written out in full; `None` where it is none, which does not
-    /// allocate. `Err` where memory ran out.
+    /// The name in the data, written out in full; `None` for data that is no name, without an
+    /// allocation.
     pub fn name(&self, alloc: A) -> Result<Option<Name<A>>, AllocError>
         ensures name { IfOk result (λ name. name ≡ name_of_rdata self.now) }
         ensures some { OnErr result (name_of_rdata self.now ≡ None → ⊥) }
@@ -106,7 +105,7 @@ impl<A: Allocator> Rdata<A> {
         read_only_name(alloc, self.octets())
     }
 
-    /// Equal data. Up to 30 octets do not allocate; for more, `Err` where memory ran out.
+    /// Equal data. Up to 30 octets do not allocate.
     pub fn copy(&self, alloc: A) -> Result<Rdata<A>, AllocError>
         ensures data { IfOk result (λ copy. copy ≡ self.now) }
         ensures few { length self.now ≤ 30 → IsOk result }
@@ -118,7 +117,7 @@ impl<A: Allocator> Rdata<A> {
 /// A resource record (RFC 1035 4.1.3).
 #[derive(Drop)]
 pub struct Record<A: Allocator = Global> {
-    /// The name that the record belongs to.
+    /// The name of the record.
     pub owner: Name<A>,
     /// The type of the data.
     pub kind: u16,
@@ -138,7 +137,7 @@ impl<A: Allocator> Model for Record<A> {
 }
 
 impl<A: Allocator + Copy> Record<A> {
-    /// An equal record. `Err` where memory ran out.
+    /// An equal record.
     pub fn copy(&self, alloc: A) -> Result<Record<A>, AllocError>
         ensures { IfOk result (λ copy. copy ≡ self.now) }
     {

@@ -17,13 +17,10 @@ use std::alloc::Allocator;
 pub(crate) fn skip_octets(bytes: &[u8], offset: usize, count: usize) -> Result<usize, Fault>
     ensures { result ≡ octets_end bytes.now offset count }
 {
-    if offset > bytes.len() || bytes.len() - offset < count {
-        return Err(Fault::Short);
-    }
-    Ok(offset + count)
+    Bound::whole(bytes).skip(offset, count)
 }
 
-/// The question at a place, and the place after it.
+/// The question at a place, and the place after.
 #[tactic(auto, unfolding(crate::specs::Records::question_at, crate::specs::Records::octets_end))]
 pub(crate) fn read_question<A: Allocator>(
     alloc: A,
@@ -53,7 +50,7 @@ pub(crate) fn skip_question(bytes: &[u8], sizes: &mut [u8], offset: usize) -> Re
     skip_octets(bytes, after, 4)
 }
 
-/// The record at a place, and the place after it.
+/// The record at a place, and the place after.
 #[tactic(auto, unfolding(crate::specs::Records::record_at, crate::specs::Records::octets_end))]
 pub(crate) fn read_record<A: Allocator + Copy>(
     alloc: A,
@@ -99,7 +96,7 @@ pub(crate) fn skip_record(bytes: &[u8], sizes: &mut [u8], offset: usize) -> Resu
     skip_data(bytes, sizes, kind, fixed, len)
 }
 
-/// The place after the record at a place, which can be read. No pointer is followed.
+/// The place after the readable record at a place. No pointer is followed.
 #[tactic(auto, using(crate::proofs::reading::EndLaws::owner_readable, crate::proofs::reading::EndLaws::record_ends))]
 pub(crate) fn readable_record_end(bytes: &[u8], offset: usize) -> usize
     requires { IsOk (record_at bytes.now offset) }

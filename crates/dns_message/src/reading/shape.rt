@@ -1,4 +1,4 @@
-//! The types of records that have names in their data, and the layout of that data.
+//! The types of records with names in their data, and the layout of the data.
 
 ghost use Rattle.std.specs.Prelude.{◌≡◌};
 ghost use Rattle.dns_message.specs.Shapes.{shape_of};
@@ -16,7 +16,7 @@ pub(crate) enum Part {
     /// The numbers of an SOA after its names: SERIAL, REFRESH, RETRY, EXPIRE, MINIMUM, of four
     /// octets each (RFC 1035 3.3.13).
     SoaNumbers,
-    /// A character-string: a length octet and that many octets (RFC 1035 3.3).
+    /// A character-string: a length octet and as many octets (RFC 1035 3.3).
     Text,
 }
 
@@ -25,7 +25,7 @@ pub(crate) enum Part {
 pub(crate) struct Shape {
     /// The parts from left to right; they fill the data.
     pub parts: &'static [Part],
-    /// The names in it may be written with pointers (RFC 1035 3.3, RFC 3597 4).
+    /// The names in the data may be written with pointers (RFC 1035 3.3, RFC 3597 4).
     pub compressed: bool,
 }
 
@@ -37,7 +37,7 @@ impl Model for Shape {
     ghost view = { λ s. record { parts = s.parts.now; compressed = s.compressed } };
 }
 
-/// The shape of a type's data. `None`: the data is octets of which nothing is known (RFC 3597).
+/// The shape of a type's data. `None`: opaque octets (RFC 3597).
 #[tactic(auto, unfolding(crate::specs::Shapes::shape_of))]
 pub(crate) fn shape_of(kind: u16) -> Option<Shape>
     ensures { result ≡ shape_of kind }

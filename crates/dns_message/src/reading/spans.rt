@@ -21,15 +21,15 @@ const ADDITIONAL: u8 = 2;
 /// The place of a record in a message, in octets from its front.
 #[derive(Clone, Copy, Debug, PartialEq, Eq)]
 pub struct Span {
-    /// The first octet of its owner's name.
+    /// The first octet of the owner's name.
     pub start: usize,
-    /// The first octet after its data.
+    /// The first octet after the data.
     pub end: usize,
     /// 0 for answers, 1 for authority, 2 for additional.
     pub section: u8,
 }
 
-/// The number of records that are left in each section.
+/// The number of records left in each section.
 #[derive(Clone, Copy)]
 pub(crate) struct Left {
     pub answers: u16,
@@ -37,68 +37,14 @@ pub(crate) struct Left {
     pub additional: u16,
 }
 
-/// The section of the next record, and what is left after it.
-fn next_section(left: Left) -> Option<(u8, Left)>
-    ensures { MatchOption result (sections_of left ≡ []) (λ x. sections_of left ≡ x.0 ∷ sections_of x.1) }
-{
-    if left.answers > 0 {
-        return Some((
-            ANSWERS,
-            Left {
-                answers: left.answers - 1,
-                ..left
-            },
-        ));
-    }
-    if left.authority > 0 {
-        return Some((
-            AUTHORITY,
-            Left {
-                authority: left.authority - 1,
-                ..left
-            },
-        ));
-    }
-    if left.additional > 0 {
-        return Some((
-            ADDITIONAL,
-            Left {
-                additional: left.additional - 1,
-                ..left
-            },
-        ));
-    }
-    None
-}
-
-/// The number of counted records that can be read, from a place on up to the first that can't be.
-#[tactic(auto, using(crate::proofs::reading::SpanLaws::one_counted_here, crate::proofs::reading::SpanLaws::none_counted_here, crate::proofs::reading::SpanLaws::none_counted, crate::proofs::reading::SpanLaws::sections_counted))]
-fn readable_records(bytes: &[u8], sizes: &mut [u8], offset: usize, left: Left) -> usize
-    requires { AreSizes bytes.now sizes.old }
-    ensures { result ≡ length (spans_at bytes.now (sections_of left) offset) }
-{
-    let (mut at, mut left) = (offset, left);
-    let mut count = 0;
-    while let Some((_, after)) = next_section(left) {
-        let Ok(end) = skip_record(bytes, sizes, at) else {
-            return count;
-        };
-        count += 1;
-        at = end;
-        left = after;
-    }
-    count
-}
-
-/// The spans of the records that can be read, in order. It does not allocate. A step takes time in
-/// proportion to the octets of the owner's own name: the number of readable records was counted
-/// before, so no pointer is followed.
+/// The spans of the readable records, in order. A step takes time in proportion to the octets of
+/// the owner's own name: readable records were counted before, so no pointer is followed.
 #[derive(Drop)]
 pub struct Records<'a> {
     bytes: &'a [u8],
     offset: usize,
     left: Left,
-    /// The number of those left that can be read.
+    /// The number of readable records left.
     readable: usize,
 }
 
@@ -141,8 +87,32 @@ impl<'a> Iterator for Records<'a> {
     }
 }
 
-/// The spans of the records of a message, with the octets of the names that pointers lead to
-/// remembered in `sizes`.
+/// The spans of the records of a message.
+#[tactic(auto, using(crate::proofs::names::SizeLaws::none_kept))]
+pub(crate) fn records_in<'a>(bytes: &'a [u8]) -> Records<'a>
+    requires { 12 ≤ length bytes.now }
+    ensures { result ≡ spans_of bytes.now }
+{
+    if bytes.len() > SMALL {
+        return records_in_large(bytes);
+    }
+    records_with(bytes, &mut [])
+}
+
+/// `records_with` of a message that may have many pointers to one name. Out of line, as few
+/// messages need its 16 KiB.
+#[tactic(auto, using(crate::proofs::names::SizeLaws::none_known))]
+#[inline(never)]
+fn records_in_large<'a>(bytes: &'a [u8]) -> Records<'a>
+    requires { 12 ≤ length bytes.now }
+    ensures { result ≡ spans_of bytes.now }
+{
+    let mut sizes = [0u8; PLACES];
+    records_with(bytes, &mut sizes)
+}
+
+/// The spans of the records of a message, with the sizes of pointers' target names remembered in
+/// `sizes`.
 #[tactic(auto, unfolding(crate::specs::Spans::spans_of, crate::specs::Spans::spans_at))]
 fn records_with<'a>(bytes: &'a [u8], sizes: &mut [u8]) -> Records<'a>
     requires header { 12 ≤ length bytes.now }
@@ -177,26 +147,55 @@ fn records_with<'a>(bytes: &'a [u8], sizes: &mut [u8]) -> Records<'a>
     }
 }
 
-/// `records_with` of a message that may have many pointers to one name. Out of line, as its 16 KiB
-/// are for few messages.
-#[tactic(auto, using(crate::proofs::names::SizeLaws::none_known))]
-#[inline(never)]
-fn records_in_large<'a>(bytes: &'a [u8]) -> Records<'a>
-    requires { 12 ≤ length bytes.now }
-    ensures { result ≡ spans_of bytes.now }
+/// The number of readable counted records from a place on, up to the first unreadable record.
+#[tactic(auto, using(crate::proofs::reading::SpanLaws::one_counted_here, crate::proofs::reading::SpanLaws::none_counted_here, crate::proofs::reading::SpanLaws::none_counted, crate::proofs::reading::SpanLaws::sections_counted))]
+fn readable_records(bytes: &[u8], sizes: &mut [u8], offset: usize, left: Left) -> usize
+    requires { AreSizes bytes.now sizes.old }
+    ensures { result ≡ length (spans_at bytes.now (sections_of left) offset) }
 {
-    let mut sizes = [0u8; PLACES];
-    records_with(bytes, &mut sizes)
+    let (mut at, mut left) = (offset, left);
+    let mut count = 0;
+    while let Some((_, after)) = next_section(left) {
+        let Ok(end) = skip_record(bytes, sizes, at) else {
+            return count;
+        };
+        count += 1;
+        at = end;
+        left = after;
+    }
+    count
 }
 
-/// The spans of the records of a message.
-#[tactic(auto, using(crate::proofs::names::SizeLaws::none_kept))]
-pub(crate) fn records_in<'a>(bytes: &'a [u8]) -> Records<'a>
-    requires { 12 ≤ length bytes.now }
-    ensures { result ≡ spans_of bytes.now }
+/// The section of the next record, and the records left after.
+fn next_section(left: Left) -> Option<(u8, Left)>
+    ensures { MatchOption result (sections_of left ≡ []) (λ x. sections_of left ≡ x.0 ∷ sections_of x.1) }
 {
-    if bytes.len() > SMALL {
-        return records_in_large(bytes);
+    if left.answers > 0 {
+        return Some((
+            ANSWERS,
+            Left {
+                answers: left.answers - 1,
+                ..left
+            },
+        ));
     }
-    records_with(bytes, &mut [])
+    if left.authority > 0 {
+        return Some((
+            AUTHORITY,
+            Left {
+                authority: left.authority - 1,
+                ..left
+            },
+        ));
+    }
+    if left.additional > 0 {
+        return Some((
+            ADDITIONAL,
+            Left {
+                additional: left.additional - 1,
+                ..left
+            },
+        ));
+    }
+    None
 }

@@ -1,4 +1,4 @@
-//! A message that is read in place. Nothing here allocates but what makes a value.
+//! A message, read in place. Only the calls that make values allocate.
 
 ghost use Rattle.std.specs.Prelude.{◌≡◌, ◌↔◌, IsTrue, IsOk, Ok, Err, Some, MatchResult, MatchOption, IfOk};
 ghost use Rattle.dns_message.specs.Reading.{Gives, behind};
@@ -25,7 +25,134 @@ use dns_name::NameKey;
 use std::alloc::Allocator;
 use std::marker::Model;
 
-/// The place after the first question, where header and first question can be read.
+/// A message whose header and first question can be read.
+#[derive(Drop)]
+pub struct MessageRef<'a> {
+    bytes: &'a [u8],
+    /// The place after the first question.
+    question_end: usize,
+}
+
+impl<'a> Model for MessageRef<'a> {
+    ghost use Rattle.std.specs.Prelude.{List, ℕ};
+    ghost use Rattle.dns_message.specs.Messages.{IsViewedTo};
+
+    ghost Value = { List ℕ };
+
+    ghost view = { λ m. m.bytes.now };
+
+    ghost invariant = { λ m. IsViewedTo m.bytes.now m.question_end };
+}
+
+impl<'a> MessageRef<'a> {
+    /// Views octets as a message, at most 65,535. `Err` is the first fault from the front: `Short`
+    /// under 12 octets, `NoQuestion` if QDCOUNT is 0, otherwise the fault of the first question.
+    /// Does not allocate.
+    pub fn view(bytes: &'a [u8]) -> Result<MessageRef<'a>, Fault>
+        ensures same { IfOk result (λ message. message ≡ bytes.now) }
+        ensures exact { MatchResult result (λ _. IsOk (first_question bytes.now)) (λ fault. first_question bytes.now
+            ≡ Err fault) }
+    {
+        let question_end = first_question_end(bytes)?;
+        Ok(MessageRef {
+            bytes,
+            question_end,
+        })
+    }
+
+    /// The header.
+    #[tactic(auto, unfolding(crate::specs::Header::header_of), using(crate::proofs::reading::MessageLaws::viewed_long))]
+    pub fn header(&self) -> Header
+        ensures exact { header_of self.now ≡ Some result }
+        ensures fits { FitsBits result }
+    {
+        let Some(header) = Header::read(self.bytes) else {
+            unreachable!()
+        };
+        header
+    }
+
+    /// The type of the first question.
+    pub fn kind(&self) -> u16
+        ensures { IfOk (first_question self.now) (λ question. result ≡ question.kind) }
+    {
+        number16(self.bytes, self.question_end - 4)
+    }
+
+    /// The class of the first question.
+    pub fn class(&self) -> u16
+        ensures { IfOk (first_question self.now) (λ question. result ≡ question.class) }
+    {
+        number16(self.bytes, self.question_end - 2)
+    }
+
+    /// The key of the first question's name.
+    pub fn key(&self) -> NameKey
+        ensures { IfOk (first_question self.now) (λ question. result ≡ lowered question.name) }
+    {
+        match key_at(self.bytes, 12) {
+            Ok(key) => key,
+            Err(_) => unreachable!(),
+        }
+    }
+
+    /// Whether the first question has this name, letter case aside, this type and this class.
+    pub fn question_is<A: Allocator>(&self, question: &Question<A>) -> bool
+        ensures { IsTrue result ↔ QuestionIs (first_question self.now) question.now }
+    {
+        first_question_is(self.bytes, question)
+    }
+
+    /// The first question. `Err` is always `Memory`.
+    #[tactic(auto, unfolding(crate::specs::Messages::first_question))]
+    pub fn question<A: Allocator>(&self, alloc: A) -> Result<Question<A>, Fault>
+        ensures { MatchResult result (λ question. first_question self.now ≡ Ok question) (λ fault. fault ≡ Memory) }
+    {
+        let (question, _) = read_question(alloc, self.bytes, &mut [], 12)?;
+        Ok(question)
+    }
+
+    /// The first question, in place, if its name has no pointer (RFC 1035 4.1.4); `None` exactly if
+    /// a part of the name is a pointer.
+    pub fn question_ref(&self) -> Option<QuestionRef<'a>>
+        ensures { MatchOption result (IfOk (first_question self.now)
+            (λ question. IsUncompressed self.now 12 question.name → ⊥))
+            (λ question. (first_question self.now ≡ Ok question) × IsUncompressed self.now 12 question.name) }
+    {
+        let name_end = self.question_end - 4;
+        QuestionRef::at(self.bytes, 12, name_end, self.kind(), self.class())
+    }
+
+    /// Whether header, counted questions and counted records are readable.
+    #[tactic(auto, using(crate::proofs::reading::WholeLaws::whole_where_read, crate::proofs::reading::WholeLaws::read_where_whole))]
+    pub fn is_whole(&self) -> bool
+        ensures { IsTrue result ↔ IsWhole self.now }
+    {
+        skip_message(self.bytes, self.question_end).is_ok()
+    }
+
+    /// The spans of the readable records, in order. All together take about the time of `is_whole`,
+    /// even if many pointers lead to one name.
+    #[tactic(auto, using(crate::proofs::reading::MessageLaws::viewed_long))]
+    pub fn records(&self) -> Records<'a>
+        ensures { result ≡ spans_of self.now }
+    {
+        records_in(self.bytes)
+    }
+
+    /// The message spelled by the octets, all counted questions and records. `Err` is `Memory`, or
+    /// the first fault from the front.
+    #[tactic(auto, using(crate::proofs::reading::ShapeLaws::read_shaped))]
+    pub fn read_whole<A: Allocator + Copy>(&self, alloc: A) -> Result<Message<A>, Fault>
+        ensures exact { Gives (λ message. message) result (message_of self.now) }
+        ensures shaped { IfOk result (λ message. HasShapes message) }
+        ensures fits { IfOk result (λ message. FitsBits message.header) }
+    {
+        read_message(alloc, self.bytes)
+    }
+}
+
+/// The place after the first question, if header and first question are readable.
 #[tactic(auto, unfolding(crate::specs::Messages::first_question), using(crate::proofs::reading::MessageLaws::question_read, crate::proofs::reading::MessageLaws::question_fault))]
 fn first_question_end(bytes: &[u8]) -> Result<usize, Fault>
     ensures first { MatchResult result (λ _. IsOk (first_question bytes.now)) (λ fault. first_question bytes.now
@@ -42,7 +169,7 @@ fn first_question_end(bytes: &[u8]) -> Result<usize, Fault>
     Ok(end)
 }
 
-/// Whether the first question is this one, letter case aside.
+/// Whether the first question is equal to `question`, letter case aside.
 #[tactic(auto, unfolding(crate::specs::Messages::first_question, crate::specs::Records::question_at, crate::specs::Records::octets_end))]
 fn first_question_is<A: Allocator>(bytes: &[u8], question: &Question<A>) -> bool
     requires { IsViewed bytes.now }
@@ -57,18 +184,16 @@ fn first_question_is<A: Allocator>(bytes: &[u8], question: &Question<A>) -> bool
     number16(bytes, after) == question.kind && number16(bytes, end - 2) == question.class
 }
 
-/// The place after the last counted record, with the octets of the names that pointers lead to
-/// remembered in `sizes`. The first question was read before: reading begins after it.
-#[tactic(auto, using(crate::proofs::reading::MessageLaws::message_behind, crate::proofs::reading::MessageLaws::others_behind, crate::proofs::reading::MessageLaws::viewed_long, crate::proofs::reading::MessageLaws::viewed_counts))]
-fn skip_sections(bytes: &[u8], sizes: &mut [u8], question_end: usize) -> Result<usize, Fault>
-    requires viewed { IsViewedTo bytes.now question_end }
-    requires known { AreSizes bytes.now sizes.old }
+/// The place after the last counted record.
+#[tactic(auto, using(crate::proofs::names::SizeLaws::none_kept))]
+fn skip_message(bytes: &[u8], question_end: usize) -> Result<usize, Fault>
+    requires { IsViewedTo bytes.now question_end }
     ensures { result ≡ behind (message_at bytes.now) }
 {
-    let at = skip_questions(bytes, sizes, question_end, number16(bytes, 4) - 1)?;
-    let at = skip_records(bytes, sizes, at, number16(bytes, 6))?;
-    let at = skip_records(bytes, sizes, at, number16(bytes, 8))?;
-    skip_records(bytes, sizes, at, number16(bytes, 10))
+    if bytes.len() > SMALL {
+        return skip_large_message(bytes, question_end);
+    }
+    skip_sections(bytes, &mut [], question_end)
 }
 
 /// `skip_sections` of a message that may have many pointers to one name. Out of line: inlined, its
@@ -83,19 +208,43 @@ fn skip_large_message(bytes: &[u8], question_end: usize) -> Result<usize, Fault>
     skip_sections(bytes, &mut sizes, question_end)
 }
 
-/// The place after the last counted record.
-#[tactic(auto, using(crate::proofs::names::SizeLaws::none_kept))]
-fn skip_message(bytes: &[u8], question_end: usize) -> Result<usize, Fault>
-    requires { IsViewedTo bytes.now question_end }
+/// The place after the last counted record, with the sizes of pointers' target names remembered in
+/// `sizes`. The first question was read before: reading begins after it.
+#[tactic(auto, using(crate::proofs::reading::MessageLaws::message_behind, crate::proofs::reading::MessageLaws::others_behind, crate::proofs::reading::MessageLaws::viewed_long, crate::proofs::reading::MessageLaws::viewed_counts))]
+fn skip_sections(bytes: &[u8], sizes: &mut [u8], question_end: usize) -> Result<usize, Fault>
+    requires viewed { IsViewedTo bytes.now question_end }
+    requires known { AreSizes bytes.now sizes.old }
     ensures { result ≡ behind (message_at bytes.now) }
 {
-    if bytes.len() > SMALL {
-        return skip_large_message(bytes, question_end);
-    }
-    skip_sections(bytes, &mut [], question_end)
+    let at = skip_questions(bytes, sizes, question_end, number16(bytes, 4) - 1)?;
+    let at = skip_records(bytes, sizes, at, number16(bytes, 6))?;
+    let at = skip_records(bytes, sizes, at, number16(bytes, 8))?;
+    skip_records(bytes, sizes, at, number16(bytes, 10))
 }
 
-/// The message that the octets spell; the targets of pointers are remembered in `ends`.
+/// The message spelled by the octets.
+#[tactic(auto, using(crate::proofs::names::ShortcutLaws::none_kept))]
+fn read_message<A: Allocator + Copy>(alloc: A, bytes: &[u8]) -> Result<Message<A>, Fault>
+    ensures { Gives (λ m. m) result (message_of bytes.now) }
+{
+    if bytes.len() > SMALL {
+        return read_large_message(alloc, bytes);
+    }
+    read_sections(alloc, bytes, &mut [])
+}
+
+/// `read_sections` of a message that may have long chains of pointers. Out of line: inlined, its
+/// 32 KiB would be on the stack of every reply.
+#[tactic(auto, using(crate::proofs::names::ShortcutLaws::none_known))]
+#[inline(never)]
+fn read_large_message<A: Allocator + Copy>(alloc: A, bytes: &[u8]) -> Result<Message<A>, Fault>
+    ensures { Gives (λ m. m) result (message_of bytes.now) }
+{
+    let mut ends = [0u16; PLACES];
+    read_sections(alloc, bytes, &mut ends)
+}
+
+/// The message spelled by the octets; the targets of pointers are remembered in `ends`.
 #[tactic(auto, unfolding(crate::specs::Messages::message_at))]
 fn read_sections<A: Allocator + Copy>(
     alloc: A,
@@ -119,154 +268,4 @@ fn read_sections<A: Allocator + Copy>(
         authority,
         additional,
     })
-}
-
-/// `read_sections` of a message that may have long chains of pointers. Out of line: inlined, its
-/// 32 KiB would be on the stack of every reply.
-#[tactic(auto, using(crate::proofs::names::ShortcutLaws::none_known))]
-#[inline(never)]
-fn read_large_message<A: Allocator + Copy>(alloc: A, bytes: &[u8]) -> Result<Message<A>, Fault>
-    ensures { Gives (λ m. m) result (message_of bytes.now) }
-{
-    let mut ends = [0u16; PLACES];
-    read_sections(alloc, bytes, &mut ends)
-}
-
-/// The message that the octets spell.
-#[tactic(auto, using(crate::proofs::names::ShortcutLaws::none_kept))]
-fn read_message<A: Allocator + Copy>(alloc: A, bytes: &[u8]) -> Result<Message<A>, Fault>
-    ensures { Gives (λ m. m) result (message_of bytes.now) }
-{
-    if bytes.len() > SMALL {
-        return read_large_message(alloc, bytes);
-    }
-    read_sections(alloc, bytes, &mut [])
-}
-
-/// A message whose header and first question can be read.
-#[derive(Drop)]
-pub struct MessageRef<'a> {
-    bytes: &'a [u8],
-    /// The place after the first question.
-    question_end: usize,
-}
-
-impl<'a> Model for MessageRef<'a> {
-    ghost use Rattle.std.specs.Prelude.{List, ℕ};
-    ghost use Rattle.dns_message.specs.Messages.{IsViewedTo};
-
-    ghost Value = { List ℕ };
-
-    ghost view = { λ m. m.bytes.now };
-
-    ghost invariant = { λ m. IsViewedTo m.bytes.now m.question_end };
-}
-
-impl<'a> MessageRef<'a> {
-    /// Views octets as a message, at most 65,535 of them. `Err` is the first fault from the front:
-    /// `Short` under 12 octets, `NoQuestion` where QDCOUNT is 0, otherwise the fault of the first
-    /// question. It does not allocate.
-    pub fn view(bytes: &'a [u8]) -> Result<MessageRef<'a>, Fault>
-        ensures same { IfOk result (λ message. message ≡ bytes.now) }
-        ensures exact { MatchResult result (λ _. IsOk (first_question bytes.now)) (λ fault. first_question bytes.now
-            ≡ Err fault) }
-    {
-        let question_end = first_question_end(bytes)?;
-        Ok(MessageRef {
-            bytes,
-            question_end,
-        })
-    }
-
-    /// The header. It does not allocate.
-    #[tactic(auto, unfolding(crate::specs::Header::header_of), using(crate::proofs::reading::MessageLaws::viewed_long))]
-    pub fn header(&self) -> Header
-        ensures exact { header_of self.now ≡ Some result }
-        ensures fits { FitsBits result }
-    {
-        let Some(header) = Header::read(self.bytes) else {
-            unreachable!()
-        };
-        header
-    }
-
-    /// The type of the first question. It does not allocate.
-    pub fn kind(&self) -> u16
-        ensures { IfOk (first_question self.now) (λ question. result ≡ question.kind) }
-    {
-        number16(self.bytes, self.question_end - 4)
-    }
-
-    /// The class of the first question. It does not allocate.
-    pub fn class(&self) -> u16
-        ensures { IfOk (first_question self.now) (λ question. result ≡ question.class) }
-    {
-        number16(self.bytes, self.question_end - 2)
-    }
-
-    /// The key of the first question's name. It does not allocate.
-    pub fn key(&self) -> NameKey
-        ensures { IfOk (first_question self.now) (λ question. result ≡ lowered question.name) }
-    {
-        match key_at(self.bytes, 12) {
-            Ok(key) => key,
-            Err(_) => unreachable!(),
-        }
-    }
-
-    /// Whether the first question has this name, letter case aside, this type and this class. It
-    /// does not allocate.
-    pub fn question_is<A: Allocator>(&self, question: &Question<A>) -> bool
-        ensures { IsTrue result ↔ QuestionIs (first_question self.now) question.now }
-    {
-        first_question_is(self.bytes, question)
-    }
-
-    /// The first question. `Err` is always `Memory`.
-    #[tactic(auto, unfolding(crate::specs::Messages::first_question))]
-    pub fn question<A: Allocator>(&self, alloc: A) -> Result<Question<A>, Fault>
-        ensures { MatchResult result (λ question. first_question self.now ≡ Ok question) (λ fault. fault ≡ Memory) }
-    {
-        let (question, _) = read_question(alloc, self.bytes, &mut [], 12)?;
-        Ok(question)
-    }
-
-    /// The first question, in place, if its name has no pointer (RFC 1035 4.1.4); `None` exactly
-    /// where a part of the name is a pointer. It does not allocate.
-    pub fn question_ref(&self) -> Option<QuestionRef<'a>>
-        ensures { MatchOption result (IfOk (first_question self.now)
-            (λ question. IsUncompressed self.now 12 question.name → ⊥))
-            (λ question. (first_question self.now ≡ Ok question) × IsUncompressed self.now 12 question.name) }
-    {
-        let name_end = self.question_end - 4;
-        QuestionRef::at(self.bytes, 12, name_end, self.kind(), self.class())
-    }
-
-    /// Whether header, counted questions and counted records can be read. It does not allocate.
-    #[tactic(auto, using(crate::proofs::reading::WholeLaws::whole_where_read, crate::proofs::reading::WholeLaws::read_where_whole))]
-    pub fn is_whole(&self) -> bool
-        ensures { IsTrue result ↔ IsWhole self.now }
-    {
-        skip_message(self.bytes, self.question_end).is_ok()
-    }
-
-    /// The spans of the records that can be read, in order. It does not allocate, and with all of
-    /// them takes about the time of `is_whole`, also where many pointers lead to one name.
-    #[tactic(auto, using(crate::proofs::reading::MessageLaws::viewed_long))]
-    pub fn records(&self) -> Records<'a>
-        ensures { result ≡ spans_of self.now }
-    {
-        records_in(self.bytes)
-    }
-
-    /// The message that the octets spell, all counted questions and records. `Err` is `Memory`, or
-    /// the first fault from the front.
-    #[tactic(auto, using(crate::proofs::reading::ShapeLaws::read_shaped))]
-    pub fn read_whole<A: Allocator + Copy>(&self, alloc: A) -> Result<Message<A>, Fault>
-        ensures exact { Gives (λ message. message) result (message_of self.now) }
-        ensures shaped { IfOk result (λ message. HasShapes message) }
-        ensures fits { IfOk result (λ message. FitsBits message.header) }
-    {
-        read_message(alloc, self.bytes)
-    }
 }

@@ -1,4 +1,4 @@
-//! Messages that are put together from borrowed things.
+//! Messages, put together from borrowed parts.
 
 ghost use Rattle.std.specs.Prelude.{◌≡◌, length};
 ghost use Rattle.dns_message.specs.Borrowed.{data_of};
@@ -13,12 +13,12 @@ use std::marker::Model;
 pub enum DataRef<'a, A: Allocator = Global> {
     /// Of each record, in order.
     Rows(&'a [Rdata<A>]),
-    /// Of the only one.
+    /// Of the only record.
     Row(&'a Rdata<A>),
 }
 
 impl<'a, A: Allocator> DataRef<'a, A> {
-    /// The number of records that have it.
+    /// The number of records.
     pub(crate) fn count(&self) -> usize
         ensures { result ≡ length (data_of self.now) }
     {
@@ -29,8 +29,8 @@ impl<'a, A: Allocator> DataRef<'a, A> {
     }
 }
 
-/// Records of one owner, type, class and TTL, whose data is borrowed and of the shape of its type,
-/// so that it is written unchecked. Contracts see the list of these records.
+/// Records of one owner, type, class and TTL. Their data is borrowed and has the shape of the type,
+/// so it is written unchecked. Contracts see the list of these records.
 #[derive(Drop)]
 pub struct RowsRef<'a, A: Allocator = Global> {
     pub owner: &'a Name<A>,
@@ -55,11 +55,10 @@ impl<'a, A: Allocator> Model for RowsRef<'a, A> {
     ghost invariant = { λ r. AllByRecursion (IsShaped r.kind) (data_of r.data) };
 }
 
-/// A message that is put together from borrowed things, without an additional section. Contracts
-/// see the message.
+/// A message of borrowed parts, without an additional section. Contracts see the message.
 #[derive(Drop)]
 pub struct MessageParts<'a, A: Allocator = Global> {
-    /// Its counts are not looked at.
+    /// The header; its counts are not looked at.
     pub header: Header,
     pub question: Option<QuestionRef<'a>>,
     pub answers: &'a [RowsRef<'a, A>],

@@ -1,4 +1,4 @@
-//! The data of records, written with pointers where its type allows them.
+//! The data of records, written with pointers if its type allows them.
 
 ghost use Rattle.std.specs.Prelude.{◌≡◌, ◌≤◌, ◌<◌, ◌+◌, ◌++◌, ◌∷◌, [], length, OnOk, take, drop, IsTrue, is_some};
 ghost use Rattle.std.specs.Prelude.{MatchOption, None, Ok, Err};
@@ -23,89 +23,27 @@ const NAME_MOST: usize = 255;
 /// The most octets of a label (RFC 1035 2.3.4).
 const LABEL_MOST: usize = 63;
 
-/// The place after the name in front of octets, in which no pointer can be. It ends after its zero
-/// octet.
-#[tactic(auto, unfolding(crate::specs::Fields::first_field))]
-fn name_end(octets: &[u8]) -> Option<usize>
-    ensures { MatchOption result (first_field Part.Name octets.now ≡ None) (λ end. Ok end
-        ≡ behind (name_within octets.now (inside (length octets.now)) 0)) }
+/// Writes the data of a record of this type after its length, up to the limit.
+#[tactic(auto, unfolding(crate::specs::Writing::data_text))]
+pub(crate) fn put_with_length<'a, A: Allocator + Copy>(
+    writer: &mut Writer<'a, A>,
+    kind: u16,
+    rdata: &'a [u8],
+    limit: usize,
+) -> Result<(), Fault>
+    requires holds { HoldsText writer.old }
+    requires limit { limit ≤ 65535 }
+    ensures { Puts limit result writer.old writer.new (with_length (data_text kind rdata.now)) (Unit {0}) }
 {
-    let most = octets.len().min(NAME_MOST);
-    let mut at = 0;
-    while at < most {
-        let len = octets[at] as usize;
-        if len == 0 {
-            return Some(at + 1);
+    match shape_of(kind) {
+        Some(shape) if shape.compressed && are_parts(shape.parts, rdata) => {
+            put_parts_with_length(writer, shape.parts, rdata, limit)
         }
-        if len > LABEL_MOST {
-            return None;
-        }
-        at += len + 1;
-    }
-    None
-}
-
-/// The name in front of octets, whose end this is, its zero octet left out; and what follows it.
-fn split_name(octets: &[u8], end: usize) -> (&[u8], &[u8])
-    requires { Ok end ≡ behind (name_within octets.now (inside (length octets.now)) 0) }
-    ensures { IsFirst Part.Name octets.now result.0.now result.1.now }
-{
-    let (name, behind) = octets.split_at(end);
-    (&name[..end - 1], behind)
-}
-
-/// The part in front of the octets, and what follows it; the zero octet of a name is left out.
-#[tactic(auto, unfolding(crate::specs::Fields::first_field))]
-fn split_part(part: Part, octets: &[u8]) -> Option<(&[u8], &[u8])>
-    ensures { MatchOption result (first_field part octets.now ≡ None) (λ x. IsFirst part octets.now x.0.now x.1.now) }
-{
-    match part {
-        Part::Name => Some(split_name(octets, name_end(octets)?)),
-        Part::Number16 => split_octets(octets, 2),
-        Part::SoaNumbers => split_octets(octets, 20),
-        Part::Text => match octets {
-            [] => None,
-            [len, ..] => split_octets(octets, *len as usize + 1),
-        },
+        _ => put_plain_with_length(writer, rdata, limit),
     }
 }
 
-/// The first `count` octets, and what follows them.
-fn split_octets(octets: &[u8], count: usize) -> Option<(&[u8], &[u8])>
-    ensures { MatchOption result (length octets.now < count) (λ x. (x.0.now ≡ take count octets.now)
-        × (x.1.now ≡ drop count octets.now) × (count ≤ length octets.now)) }
-{
-    if octets.len() < count {
-        return None;
-    }
-    Some(octets.split_at(count))
-}
-
-/// The number of octets of these parts, where it is the same in all data.
-#[tactic(auto, unfolding(crate::specs::Fields::size_of_parts))]
-fn size_of_parts(parts: &[Part]) -> Option<usize>
-    ensures { result ≡ size_of_parts parts.now }
-{
-    match parts {
-        [] => Some(0),
-        [Part::SoaNumbers] => Some(20),
-        _ => None,
-    }
-}
-
-/// `split_part` of octets that are this part and these others. The last name ends where they begin,
-/// so it is not walked along.
-fn split_before<'a>(part: Part, others: &[Part], octets: &'a [u8]) -> Option<(&'a [u8], &'a [u8])>
-    requires { IsTrue (is_some (fields_of (part ∷ others.now) octets.now)) }
-    ensures { MatchOption result (first_field part octets.now ≡ None) (λ x. IsFirst part octets.now x.0.now x.1.now) }
-{
-    match (part, size_of_parts(others)) {
-        (Part::Name, Some(size)) => Some(split_name(octets, octets.len() - size)),
-        _ => split_part(part, octets),
-    }
-}
-
-/// Whether the octets are these parts, one after another.
+/// Whether the octets are these parts, in order.
 fn are_parts(parts: &[Part], octets: &[u8]) -> bool
     ensures { result ≡ is_some (fields_of parts.now octets.now) }
 {
@@ -119,65 +57,25 @@ fn are_parts(parts: &[Part], octets: &[u8]) -> bool
     rest.is_empty()
 }
 
-/// Writes a part.
-fn put_part<'a, A: Allocator + Copy>(
+/// Writes data with the shape of its type, unchecked, after its length, up to the limit.
+#[tactic(auto, unfolding(crate::specs::Writing::data_text))]
+pub(crate) fn put_shaped_with_length<'a, A: Allocator + Copy>(
     writer: &mut Writer<'a, A>,
-    part: Part,
-    first: &'a [u8],
-) -> Result<(), AllocError>
-    requires { part ≡ Part.Name → IsLaidOut first.now }
-    ensures { OnOk result (Writes writer.old writer.new (field_text (field_in part first.now))) }
+    kind: u16,
+    rdata: &'a [u8],
+    limit: usize,
+) -> Result<(), Fault>
+    requires shaped { IsShaped kind rdata.now }
+    requires holds { HoldsText writer.old }
+    requires limit { limit ≤ 65535 }
+    ensures { Puts limit result writer.old writer.new (with_length (data_text kind rdata.now)) (Unit {0}) }
 {
-    match part {
-        Part::Name => writer.put_later_name(first),
-        _ => writer.put(first),
-    }
-}
-
-/// Whether a name is among the parts.
-fn has_name(parts: &[Part]) -> bool
-    ensures { result ≡ has_name parts.now }
-{
-    for part in parts {
-        if let Part::Name = part {
-            return true;
+    match shape_of(kind) {
+        Some(shape) if shape.compressed => {
+            put_parts_with_length(writer, shape.parts, rdata, limit)
         }
+        _ => put_plain_with_length(writer, rdata, limit),
     }
-    false
-}
-
-/// Writes octets that are these parts: those after the last name at once.
-fn put_parts<'a, A: Allocator + Copy>(
-    writer: &mut Writer<'a, A>,
-    parts: &[Part],
-    octets: &'a [u8],
-) -> Result<(), AllocError>
-    requires { IsTrue (is_some (fields_of parts.now octets.now)) }
-    ensures { OnOk result (Writes writer.old writer.new (by_fields (fields_of parts.now octets.now) octets.now)) }
-{
-    let mut left = parts;
-    let mut rest = octets;
-    while has_name(left) {
-        let Some((part, others)) = left.split_first() else {
-            unreachable!()
-        };
-        let Some((first, behind)) = split_before(*part, others, rest) else {
-            unreachable!()
-        };
-        put_part(writer, *part, first)?;
-        left = others;
-        rest = behind;
-    }
-    writer.put(rest)?;
-    Ok(())
-}
-
-/// Puts a number in place of two octets.
-fn set_u16(octets: &mut [u8], offset: usize, number: u16)
-    requires { offset + 2 ≤ length octets.old }
-    ensures { octets.new ≡ take offset octets.old ++ octets16 number ++ drop (offset + 2) octets.old }
-{
-    BigEndian::write_u16(&mut octets[offset..offset + 2], number);
 }
 
 /// Writes octets that are these parts after their length.
@@ -203,8 +101,149 @@ fn put_parts_with_length<'a, A: Allocator + Copy>(
     Ok(())
 }
 
-/// Writes octets with no name in them after their length, nothing where the limit does not let
-/// them.
+/// Writes octets that are these parts: all octets after the last name at once.
+fn put_parts<'a, A: Allocator + Copy>(
+    writer: &mut Writer<'a, A>,
+    parts: &[Part],
+    octets: &'a [u8],
+) -> Result<(), AllocError>
+    requires { IsTrue (is_some (fields_of parts.now octets.now)) }
+    ensures { OnOk result (Writes writer.old writer.new (by_fields (fields_of parts.now octets.now) octets.now)) }
+{
+    let mut left = parts;
+    let mut rest = octets;
+    while has_name(left) {
+        let Some((part, others)) = left.split_first() else {
+            unreachable!()
+        };
+        let Some((first, behind)) = split_before(*part, others, rest) else {
+            unreachable!()
+        };
+        put_part(writer, *part, first)?;
+        left = others;
+        rest = behind;
+    }
+    writer.put(rest)?;
+    Ok(())
+}
+
+/// Whether a name is among the parts.
+fn has_name(parts: &[Part]) -> bool
+    ensures { result ≡ has_name parts.now }
+{
+    for part in parts {
+        if let Part::Name = part {
+            return true;
+        }
+    }
+    false
+}
+
+/// `split_part` of octets that are this part followed by `others`. The last name ends before the
+/// others' octets, so no walk along its labels is needed.
+fn split_before<'a>(part: Part, others: &[Part], octets: &'a [u8]) -> Option<(&'a [u8], &'a [u8])>
+    requires { IsTrue (is_some (fields_of (part ∷ others.now) octets.now)) }
+    ensures { MatchOption result (first_field part octets.now ≡ None) (λ x. IsFirst part octets.now x.0.now x.1.now) }
+{
+    match (part, size_of_parts(others)) {
+        (Part::Name, Some(size)) => Some(split_name(octets, octets.len() - size)),
+        _ => split_part(part, octets),
+    }
+}
+
+/// The number of octets of these parts, if equal in all data.
+#[tactic(auto, unfolding(crate::specs::Fields::size_of_parts))]
+fn size_of_parts(parts: &[Part]) -> Option<usize>
+    ensures { result ≡ size_of_parts parts.now }
+{
+    match parts {
+        [] => Some(0),
+        [Part::SoaNumbers] => Some(20),
+        _ => None,
+    }
+}
+
+/// The part in front of the octets, and the octets after; a name without the final zero.
+#[tactic(auto, unfolding(crate::specs::Fields::first_field))]
+fn split_part(part: Part, octets: &[u8]) -> Option<(&[u8], &[u8])>
+    ensures { MatchOption result (first_field part octets.now ≡ None) (λ x. IsFirst part octets.now x.0.now x.1.now) }
+{
+    match part {
+        Part::Name => Some(split_name(octets, name_end(octets)?)),
+        Part::Number16 => split_octets(octets, 2),
+        Part::SoaNumbers => split_octets(octets, 20),
+        Part::Text => match octets {
+            [] => None,
+            [len, ..] => split_octets(octets, *len as usize + 1),
+        },
+    }
+}
+
+/// The name in front of octets, up to this end, without the final zero; and the octets after.
+fn split_name(octets: &[u8], end: usize) -> (&[u8], &[u8])
+    requires { Ok end ≡ behind (name_within octets.now (inside (length octets.now)) 0) }
+    ensures { IsFirst Part.Name octets.now result.0.now result.1.now }
+{
+    let (name, behind) = octets.split_at(end);
+    (&name[..end - 1], behind)
+}
+
+/// The place after the name in front of octets without pointers: after its zero octet.
+#[tactic(auto, unfolding(crate::specs::Fields::first_field))]
+fn name_end(octets: &[u8]) -> Option<usize>
+    ensures { MatchOption result (first_field Part.Name octets.now ≡ None) (λ end. Ok end
+        ≡ behind (name_within octets.now (inside (length octets.now)) 0)) }
+{
+    let most = octets.len().min(NAME_MOST);
+    let mut at = 0;
+    while at < most {
+        let len = octets[at] as usize;
+        if len == 0 {
+            return Some(at + 1);
+        }
+        if len > LABEL_MOST {
+            return None;
+        }
+        at += len + 1;
+    }
+    None
+}
+
+/// The first `count` octets, and the rest.
+fn split_octets(octets: &[u8], count: usize) -> Option<(&[u8], &[u8])>
+    ensures { MatchOption result (length octets.now < count) (λ x. (x.0.now ≡ take count octets.now)
+        × (x.1.now ≡ drop count octets.now) × (count ≤ length octets.now)) }
+{
+    if octets.len() < count {
+        return None;
+    }
+    Some(octets.split_at(count))
+}
+
+/// Writes a part.
+fn put_part<'a, A: Allocator + Copy>(
+    writer: &mut Writer<'a, A>,
+    part: Part,
+    first: &'a [u8],
+) -> Result<(), AllocError>
+    requires { part ≡ Part.Name → IsLaidOut first.now }
+    ensures { OnOk result (Writes writer.old writer.new (field_text (field_in part first.now))) }
+{
+    match part {
+        Part::Name => writer.put_later_name(first),
+        _ => writer.put(first),
+    }
+}
+
+/// Puts a number in place of two octets.
+fn set_u16(octets: &mut [u8], offset: usize, number: u16)
+    requires { offset + 2 ≤ length octets.old }
+    ensures { octets.new ≡ take offset octets.old ++ octets16 number ++ drop (offset + 2) octets.old }
+{
+    BigEndian::write_u16(&mut octets[offset..offset + 2], number);
+}
+
+/// Writes octets without names after their length; nothing if the limit forbids.
 fn put_plain_with_length<'a, A: Allocator + Copy>(
     writer: &mut Writer<'a, A>,
     octets: &[u8],
@@ -221,46 +260,4 @@ fn put_plain_with_length<'a, A: Allocator + Copy>(
     writer.put_u16(octets.len() as u16)?;
     writer.put(octets)?;
     Ok(())
-}
-
-/// Writes the data of a record of this type after its length, as far as the limit lets it.
-#[tactic(auto, unfolding(crate::specs::Writing::data_text))]
-pub(crate) fn put_with_length<'a, A: Allocator + Copy>(
-    writer: &mut Writer<'a, A>,
-    kind: u16,
-    rdata: &'a [u8],
-    limit: usize,
-) -> Result<(), Fault>
-    requires holds { HoldsText writer.old }
-    requires limit { limit ≤ 65535 }
-    ensures { Puts limit result writer.old writer.new (with_length (data_text kind rdata.now)) (Unit {0}) }
-{
-    match shape_of(kind) {
-        Some(shape) if shape.compressed && are_parts(shape.parts, rdata) => {
-            put_parts_with_length(writer, shape.parts, rdata, limit)
-        }
-        _ => put_plain_with_length(writer, rdata, limit),
-    }
-}
-
-/// Writes data of the shape of its type after its length, as far as the limit lets it. It is not
-/// checked before.
-#[tactic(auto, unfolding(crate::specs::Writing::data_text))]
-pub(crate) fn put_shaped_with_length<'a, A: Allocator + Copy>(
-    writer: &mut Writer<'a, A>,
-    kind: u16,
-    rdata: &'a [u8],
-    limit: usize,
-) -> Result<(), Fault>
-    requires shaped { IsShaped kind rdata.now }
-    requires holds { HoldsText writer.old }
-    requires limit { limit ≤ 65535 }
-    ensures { Puts limit result writer.old writer.new (with_length (data_text kind rdata.now)) (Unit {0}) }
-{
-    match shape_of(kind) {
-        Some(shape) if shape.compressed => {
-            put_parts_with_length(writer, shape.parts, rdata, limit)
-        }
-        _ => put_plain_with_length(writer, rdata, limit),
-    }
 }

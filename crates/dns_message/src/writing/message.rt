@@ -1,13 +1,12 @@
 //! Writing messages as octets: RFC 1035 4.1.
 
-ghost use Rattle.std.specs.Prelude.{◌≡◌, ◌↔◌, ◌≤◌, ◌<◌, ◌++◌, length, Ok, OnOk, IfOk, IfErr, IsTrue, MatchOption};
+ghost use Rattle.std.specs.Prelude.{◌≡◌, ◌↔◌, ◌≤◌, ◌<◌, length, Ok, OnOk, IfOk, IfErr, IsTrue, MatchOption};
 ghost use Rattle.std.specs.Prelude.{MatchResult};
-ghost use Rattle.std.specs.List.{flat_map};
 ghost use Rattle.dns_message.specs.Reading.{Gives, Fails};
 ghost use Rattle.dns_message.specs.declared.names.fault.Fault.TheVariants.{Memory};
 ghost use Rattle.dns_message.specs.Header.{FitsBits};
 ghost use Rattle.dns_message.specs.Messages.{Spells, HasShapes};
-ghost use Rattle.dns_message.specs.Writing.{octets16, bit, flags_of, counted_header, list_counts, CanBeCounted};
+ghost use Rattle.dns_message.specs.Writing.{counted_header, list_counts, CanBeCounted};
 ghost use Rattle.dns_message.specs.Writing.{message_text, written_within};
 ghost use Rattle.dns_message.specs.Borrowed.{records_in};
 ghost use Rattle.dns_message.specs.Written.{IsMessage, IsCounted};
@@ -18,35 +17,43 @@ use crate::reading::{Header, Message};
 use crate::writing::borrowed::{MessageParts, RowsRef};
 use crate::writing::records::{put_only_question, put_questions, put_records, put_sets};
 use crate::writing::writer::Writer;
-use byteorder::{BigEndian, ByteOrder};
 use plain_values::Octets;
 use std::alloc::{AllocError, Allocator};
 use std::mem;
 
-/// The greatest count that a header holds (RFC 1035 4.1.1).
+/// The greatest count of a header (RFC 1035 4.1.1).
 const LAST_COUNT: usize = 65535;
 
-/// The weight, where the bit is set.
-fn bit(set: bool, weight: u16) -> u16
-    ensures is { result ≡ bit set weight }
-    ensures most { result ≤ weight }
+/// The octets of a message, with the counts of its lists in the header; the counts in
+/// `header.counts` are not looked at.
+///
+/// In the names of questions and owners, and in the data of types whose names may be pointers, the
+/// longest end of a name that began earlier in these octets is a pointer to its first place (RFC
+/// 1035 4.1.4). `TooLarge` if the octets are more than `limit`, and at once for a list longer than
+/// a header counts; `Memory` if memory ran out. The octets spell the message again, if its header
+/// counts the lists and its data has its shapes.
+pub fn write<A: Allocator + Copy>(
+    alloc: A,
+    message: &Message<A>,
+    limit: usize,
+) -> Result<Octets<A>, Fault>
+    requires limit { limit ≤ 65535 }
+    requires bits { FitsBits message.now.header }
+    ensures given { Gives (λ octets. octets) result (written_within limit message.now) }
+    ensures counted { IfErr result (λ fault. fault ≡ Memory → CanBeCounted message.now) }
+    ensures spelled { IfOk result (λ octets. IsCounted message.now → HasShapes message.now
+        → Spells octets message.now) }
 {
-    if set { weight } else { 0 }
-}
-
-/// The flags, the opcode and the response code as one number (RFC 1035 4.1.1).
-fn flags_of(header: &Header) -> u16
-    requires { FitsBits header.now }
-    ensures { result ≡ flags_of header.now }
-{
-    bit(header.qr, 0x8000)
-        + header.opcode as u16 * 0x800
-        + bit(header.aa, 0x400)
-        + bit(header.tc, 0x200)
-        + bit(header.rd, 0x100)
-        + bit(header.ra, 0x80)
-        + header.z as u16 * 0x10
-        + header.rcode as u16
+    if !can_be_counted(message) {
+        return Err(Fault::TooLarge);
+    }
+    let mut writer = Writer::new(alloc, Vec::new(alloc));
+    put_message(&mut writer, message, limit)?;
+    let Writer {
+        octets,
+        pointers: _,
+    } = writer;
+    Ok(Octets::from_vec(octets))
 }
 
 /// Whether a header has room for the counts of the lists.
@@ -62,58 +69,7 @@ fn can_be_counted<A: Allocator>(message: &Message<A>) -> bool
     message.questions.as_slice().len().max(records) <= LAST_COUNT
 }
 
-/// The number of records of the sets; `None` where a header cannot count them.
-fn count_of<A: Allocator>(sets: &[RowsRef<A>]) -> Option<u16>
-    ensures { MatchOption result (65535 < length (records_in sets.now)) (λ count. count
-        ≡ length (records_in sets.now)) }
-{
-    let mut count = 0;
-    for set in sets {
-        let more = set.data.count();
-        if more > LAST_COUNT - count {
-            return None;
-        }
-        count += more;
-    }
-    Some(count as u16)
-}
-
-/// The counts of the lists; `None` where a header has no room for them.
-fn counts_of<A: Allocator>(message: &MessageParts<A>) -> Option<[u16; 4]>
-    ensures { MatchOption result (CanBeCounted message.now → ⊥) (λ counts. CanBeCounted message.now
-        × (counts ≡ list_counts message.now)) }
-{
-    let questions = message.question.is_some() as u16;
-    let answers = count_of(message.answers)?;
-    let authority = count_of(message.authority)?;
-    Some([questions, answers, authority, 0])
-}
-
-/// The octets of a header: identifier, flags, and counts (RFC 1035 4.1.1).
-fn header_octets(id: u16, flags: u16, counts: [u16; 4]) -> [u8; 12]
-    ensures { result ≡ octets16 id ++ octets16 flags ++ flat_map octets16 counts }
-{
-    let mut octets = [0; 12];
-    BigEndian::write_u16(&mut octets, id);
-    BigEndian::write_u16(&mut octets[2..], flags);
-    BigEndian::write_u16_into(&counts, &mut octets[4..]);
-    octets
-}
-
-/// Writes the header with these counts: questions, answers, authority, additional.
-fn put_header<'a, A: Allocator + Copy>(
-    writer: &mut Writer<'a, A>,
-    header: &Header,
-    counts: [u16; 4],
-) -> Result<(), AllocError>
-    requires { FitsBits header.now }
-    ensures { OnOk result (Writes writer.old writer.new (counted_header header.now counts) × (header.now.id < 65536)) }
-{
-    writer.put(&header_octets(header.id, flags_of(header), counts))?;
-    Ok(())
-}
-
-/// Writes a message, as far as the limit lets it.
+/// Writes a message, up to the limit.
 fn put_message<'a, A: Allocator + Copy>(
     writer: &mut Writer<'a, A>,
     message: &'a Message<A>,
@@ -144,64 +100,10 @@ fn put_message<'a, A: Allocator + Copy>(
     Ok(())
 }
 
-/// Writes a message of borrowed parts with these counts of its lists, as far as the limit lets it.
-fn put_parts<'a, A: Allocator + Copy>(
-    writer: &mut Writer<'a, A>,
-    message: &'a MessageParts<'a, A>,
-    counts: [u16; 4],
-    limit: usize,
-) -> Result<(), Fault>
-    requires holds { HoldsText writer.old }
-    requires limit { limit ≤ 65535 }
-    requires bits { FitsBits message.now.header }
-    requires counts { counts ≡ list_counts message.now }
-    ensures { Puts limit result writer.old writer.new (message_text message.now) (IsMessage message.now) }
-{
-    put_header(writer, &message.header, counts)?;
-    writer.check(limit)?;
-    put_only_question(writer, &message.question, limit)?;
-    put_sets(writer, message.answers, limit)?;
-    put_sets(writer, message.authority, limit)?;
-    Ok(())
-}
-
-/// The octets of a message, with the counts of its lists in the header; those in `header.counts`
-/// are not looked at.
+/// The octets of `write` for the message with these parts, in place of the vector's content.
 ///
-/// In the names of questions and owners, and in the data of the types whose names may be pointers,
-/// the longest end of a name that began earlier in these octets is a pointer to where it began
-/// first (RFC 1035 4.1.4). `TooLarge` where these are more octets than `limit`, and at once where a
-/// list has more things than a header counts; `Memory` where an allocation was refused. The octets
-/// spell the message again, where its header counts the lists and its data is of its shapes.
-pub fn write<A: Allocator + Copy>(
-    alloc: A,
-    message: &Message<A>,
-    limit: usize,
-) -> Result<Octets<A>, Fault>
-    requires limit { limit ≤ 65535 }
-    requires bits { FitsBits message.now.header }
-    ensures given { Gives (λ octets. octets) result (written_within limit message.now) }
-    ensures counted { IfErr result (λ fault. fault ≡ Memory → CanBeCounted message.now) }
-    ensures spelled { IfOk result (λ octets. IsCounted message.now → HasShapes message.now
-        → Spells octets message.now) }
-{
-    if !can_be_counted(message) {
-        return Err(Fault::TooLarge);
-    }
-    let mut writer = Writer::new(alloc, Vec::new(alloc));
-    put_message(&mut writer, message, limit)?;
-    let Writer {
-        octets,
-        pointers: _,
-    } = writer;
-    Ok(Octets::from_vec(octets))
-}
-
-/// The octets that `write` gives of the message with these parts, put into a vector in place of
-/// what it has.
-///
-/// A vector with room for them is not made larger; apart from it, only more than 16 names in the
-/// octets allocate. `TooLarge` and `Memory` as in `write`; then the vector has some octets or none.
+/// A vector with room for them is not enlarged; otherwise, only more than 16 names in the octets
+/// allocate. `TooLarge` and `Memory` as in `write`; then the vector has some octets or none.
 pub fn write_parts<A: Allocator + Copy>(
     alloc: A,
     octets: &mut Vec<u8, A>,
@@ -229,4 +131,65 @@ pub fn write_parts<A: Allocator + Copy>(
     } = writer;
     *octets = text;
     done
+}
+
+/// The counts of the lists; `None` if too large for a header.
+fn counts_of<A: Allocator>(message: &MessageParts<A>) -> Option<[u16; 4]>
+    ensures { MatchOption result (CanBeCounted message.now → ⊥) (λ counts. CanBeCounted message.now
+        × (counts ≡ list_counts message.now)) }
+{
+    let questions = message.question.is_some() as u16;
+    let answers = count_of(message.answers)?;
+    let authority = count_of(message.authority)?;
+    Some([questions, answers, authority, 0])
+}
+
+/// The number of records of the sets; `None` if too large for a header.
+fn count_of<A: Allocator>(sets: &[RowsRef<A>]) -> Option<u16>
+    ensures { MatchOption result (65535 < length (records_in sets.now)) (λ count. count
+        ≡ length (records_in sets.now)) }
+{
+    let mut count = 0;
+    for set in sets {
+        let more = set.data.count();
+        if more > LAST_COUNT - count {
+            return None;
+        }
+        count += more;
+    }
+    Some(count as u16)
+}
+
+/// Writes a message of borrowed parts with these counts of its lists, up to the limit.
+fn put_parts<'a, A: Allocator + Copy>(
+    writer: &mut Writer<'a, A>,
+    message: &'a MessageParts<'a, A>,
+    counts: [u16; 4],
+    limit: usize,
+) -> Result<(), Fault>
+    requires holds { HoldsText writer.old }
+    requires limit { limit ≤ 65535 }
+    requires bits { FitsBits message.now.header }
+    requires counts { counts ≡ list_counts message.now }
+    ensures { Puts limit result writer.old writer.new (message_text message.now) (IsMessage message.now) }
+{
+    put_header(writer, &message.header, counts)?;
+    writer.check(limit)?;
+    put_only_question(writer, &message.question, limit)?;
+    put_sets(writer, message.answers, limit)?;
+    put_sets(writer, message.authority, limit)?;
+    Ok(())
+}
+
+/// Writes the header with these counts: questions, answers, authority, additional.
+fn put_header<'a, A: Allocator + Copy>(
+    writer: &mut Writer<'a, A>,
+    header: &Header,
+    counts: [u16; 4],
+) -> Result<(), AllocError>
+    requires { FitsBits header.now }
+    ensures { OnOk result (Writes writer.old writer.new (counted_header header.now counts) × (header.now.id < 65536)) }
+{
+    writer.put(&header.octets(counts))?;
+    Ok(())
 }

@@ -1,4 +1,4 @@
-//! The names that begin in octets, and where each began first.
+//! The names that begin in octets, each with its first place.
 
 ghost use Rattle.std.specs.Prelude.{◌≡◌, ℕ, List, None, OnOk, IsTrue};
 ghost use Rattle.std.specs.Ordering.{nat_cmp};
@@ -10,11 +10,10 @@ use arrayvec::ArrayVec;
 use std::alloc::{AllocError, Allocator};
 use std::collections::BTreeMap;
 
-/// The number of names that are found one by one, without allocating; further ones are found by a
-/// map.
+/// The number of names found one by one, without allocating; further names are found by a map.
 const FEW: usize = 16;
 
-/// The last offset that the 14 bits of a pointer reach (RFC 1035 4.1.4).
+/// The last offset within a pointer's 14 bits (RFC 1035 4.1.4).
 const LAST_PLACE: usize = 16383;
 
 /// The two high bits of a pointer.
@@ -27,20 +26,8 @@ pub(crate) struct Pointers<'a, A: Allocator> {
     many: BTreeMap<&'a [u8], u16, A>,
 }
 
-/// The pointer next to a name.
-fn pointer_among(few: &[(&[u8], u16)], name: &[u8]) -> Option<u16>
-    ensures { result ≡ pointer_among few.now name.now }
-{
-    for (known, pointer) in few {
-        if *known == name {
-            return Some(*pointer);
-        }
-    }
-    None
-}
-
 impl<'a, A: Allocator + Copy> Pointers<'a, A> {
-    /// None; it does not allocate.
+    /// No names.
     pub fn new(alloc: A) -> Pointers<'a, A>
         ensures { (name : List ℕ) → pointer_known result name ≡ None }
     {
@@ -48,15 +35,6 @@ impl<'a, A: Allocator + Copy> Pointers<'a, A> {
             few: ArrayVec::new(),
             many: BTreeMap::new(alloc),
         }
-    }
-
-    /// The pointer to a name that the map has.
-    #[cold]
-    #[inline(never)]
-    fn find_in_map(&self, name: &[u8]) -> Option<u16>
-        ensures { result ≡ get_by (λ k. slice_cmp nat_cmp name.now k.now) self.now.many }
-    {
-        self.many.get(name).copied()
     }
 
     /// The pointer to a name, letter case included. The map is mostly empty.
@@ -73,6 +51,15 @@ impl<'a, A: Allocator + Copy> Pointers<'a, A> {
         self.find_in_map(name)
     }
 
+    /// The pointer to a name in the map.
+    #[cold]
+    #[inline(never)]
+    fn find_in_map(&self, name: &[u8]) -> Option<u16>
+        ensures { result ≡ get_by (λ k. slice_cmp nat_cmp name.now k.now) self.now.many }
+    {
+        self.many.get(name).copied()
+    }
+
     /// Whether no name is known.
     pub fn is_empty(&self) -> bool
         ensures { IsTrue result → (name : List ℕ) → pointer_known self.now name ≡ None }
@@ -80,19 +67,8 @@ impl<'a, A: Allocator + Copy> Pointers<'a, A> {
         self.few.is_empty() && self.many.is_empty()
     }
 
-    /// Remembers in the map the pointer to a name that is not known.
-    #[cold]
-    #[inline(never)]
-    fn insert_in_map(&mut self, name: &'a [u8], pointer: u16) -> Result<(), AllocError>
-        requires { pointer_known self.old name.now ≡ None }
-        ensures { OnOk result (IsPointed self.old self.new name.now pointer) }
-    {
-        self.many.insert(name, pointer)?;
-        Ok(())
-    }
-
-    /// Remembers that a name that is not known begins at this offset, as far as a pointer reaches.
-    /// It allocates once there are more than a few.
+    /// Remembers that a new name begins at this offset, within a pointer's reach. Allocates once
+    /// there are more than a few names.
     pub fn insert(&mut self, name: &'a [u8], offset: usize) -> Result<(), AllocError>
         requires { pointer_known self.old name.now ≡ None }
         ensures { OnOk result (IsPutIn self.old self.new name.now offset) }
@@ -108,4 +84,27 @@ impl<'a, A: Allocator + Copy> Pointers<'a, A> {
         self.few.push((name, pointer));
         Ok(())
     }
+
+    /// Remembers the pointer to a new name in the map.
+    #[cold]
+    #[inline(never)]
+    fn insert_in_map(&mut self, name: &'a [u8], pointer: u16) -> Result<(), AllocError>
+        requires { pointer_known self.old name.now ≡ None }
+        ensures { OnOk result (IsPointed self.old self.new name.now pointer) }
+    {
+        self.many.insert(name, pointer)?;
+        Ok(())
+    }
+}
+
+/// The pointer next to a name.
+fn pointer_among(few: &[(&[u8], u16)], name: &[u8]) -> Option<u16>
+    ensures { result ≡ pointer_among few.now name.now }
+{
+    for (known, pointer) in few {
+        if *known == name {
+            return Some(*pointer);
+        }
+    }
+    None
 }

@@ -1,4 +1,4 @@
-//! Octets that are written from the front, with pointers to the names in them.
+//! Octets, written from the front, with pointers to the names in them.
 
 ghost use Rattle.std.specs.Prelude.{◌≡◌, ◌≤◌, ◌<◌, ◌-◌, ◌∷◌, [], ℕ, List, length, OnOk, None, MatchResult};
 ghost use Rattle.std.specs.Option.{IfSome};
@@ -11,7 +11,7 @@ use crate::writing::pointers::Pointers;
 use dns_name::split_label;
 use std::alloc::{AllocError, Allocator};
 
-/// The text that was written so far.
+/// The text so far.
 #[derive(Drop)]
 pub(crate) struct Writer<'a, A: Allocator> {
     pub octets: Vec<u8, A>,
@@ -20,7 +20,7 @@ pub(crate) struct Writer<'a, A: Allocator> {
 }
 
 impl<'a, A: Allocator + Copy> Writer<'a, A> {
-    /// Nothing, in a vector of no octets; it does not allocate.
+    /// Nothing, in an empty vector.
     pub fn new(alloc: A, octets: Vec<u8, A>) -> Writer<'a, A>
         requires { octets.items ≡ [] }
         ensures { IsEmpty result }
@@ -39,14 +39,6 @@ impl<'a, A: Allocator + Copy> Writer<'a, A> {
         Ok(())
     }
 
-    /// Writes an octet.
-    fn put_u8(&mut self, octet: u8) -> Result<(), AllocError>
-        ensures { OnOk result (Writes self.old self.new (as_is (octet ∷ []))) }
-    {
-        self.octets.push(octet)?;
-        Ok(())
-    }
-
     /// Writes a number. Pushing two octets is faster than copying them.
     pub fn put_u16(&mut self, number: u16) -> Result<(), AllocError>
         ensures { OnOk result (Writes self.old self.new (as_is (octets16 number))) }
@@ -57,27 +49,8 @@ impl<'a, A: Allocator + Copy> Writer<'a, A> {
         Ok(())
     }
 
-    /// Writes the first name: none of its ends is looked up, since no two ends of one name are
-    /// equal.
-    fn put_first_name(&mut self, name: &'a [u8]) -> Result<(), AllocError>
-        requires laid { IsLaidOut name.now }
-        requires none { (other : List ℕ) → pointer_in self.old other ≡ None }
-        ensures { OnOk result (Writes self.old self.new (name_text (labels_of name.now))) }
-    {
-        let start = self.octets.len();
-        let mut rest = name;
-        while let Some((_label, after)) = split_label(rest) {
-            let front = name.len() - rest.len();
-            self.pointers.insert(rest, start + front)?;
-            rest = after;
-        }
-        self.octets.extend_from_slice(name)?;
-        self.put_u8(0)?;
-        Ok(())
-    }
-
-    /// Writes a name, its longest end that is known as a pointer. The octets in front of that are
-    /// written at once.
+    /// Writes a name, its longest known end as a pointer. The octets before this end are written at
+    /// once.
     #[inline(always)]
     pub fn put_later_name(&mut self, name: &'a [u8]) -> Result<(), AllocError>
         requires { IsLaidOut name.now }
@@ -100,7 +73,7 @@ impl<'a, A: Allocator + Copy> Writer<'a, A> {
         Ok(())
     }
 
-    /// Writes the name with these octets, its longest end that is known as a pointer.
+    /// Writes the name with these octets, its longest known end as a pointer.
     pub fn put_name(&mut self, name: &'a [u8]) -> Result<(), AllocError>
         requires { IsLaidOut name.now }
         ensures { OnOk result (Writes self.old self.new (name_text (labels_of name.now))) }
@@ -111,7 +84,33 @@ impl<'a, A: Allocator + Copy> Writer<'a, A> {
         self.put_later_name(name)
     }
 
-    /// The pointer to this name, if any. It is looked up unless it was found before.
+    /// Writes the first name: no end is looked up, since no two ends of a name are equal.
+    fn put_first_name(&mut self, name: &'a [u8]) -> Result<(), AllocError>
+        requires laid { IsLaidOut name.now }
+        requires none { (other : List ℕ) → pointer_in self.old other ≡ None }
+        ensures { OnOk result (Writes self.old self.new (name_text (labels_of name.now))) }
+    {
+        let start = self.octets.len();
+        let mut rest = name;
+        while let Some((_label, after)) = split_label(rest) {
+            let front = name.len() - rest.len();
+            self.pointers.insert(rest, start + front)?;
+            rest = after;
+        }
+        self.octets.extend_from_slice(name)?;
+        self.put_u8(0)?;
+        Ok(())
+    }
+
+    /// Writes an octet.
+    fn put_u8(&mut self, octet: u8) -> Result<(), AllocError>
+        ensures { OnOk result (Writes self.old self.new (as_is (octet ∷ []))) }
+    {
+        self.octets.push(octet)?;
+        Ok(())
+    }
+
+    /// The pointer to this name, if any; looked up unless found before.
     pub fn known(&self, name: &[u8], before: Option<u16>) -> Option<u16>
         requires { IfSome before (λ pointer. IsKnown self.now name.now pointer) }
         ensures { IfSome result (λ pointer. IsKnown self.now name.now pointer) }
@@ -122,14 +121,14 @@ impl<'a, A: Allocator + Copy> Writer<'a, A> {
         self.pointers.find(name)
     }
 
-    /// The number of octets that the limit leaves.
+    /// The number of octets left by the limit.
     pub fn room(&self, limit: usize) -> usize
         ensures { result ≡ limit - length self.now.octets.items }
     {
         limit.saturating_sub(self.octets.len())
     }
 
-    /// `TooLarge` where more octets were written than the limit.
+    /// `TooLarge` if more octets were written than the limit.
     pub fn check(&self, limit: usize) -> Result<(), Fault>
         ensures { MatchResult result (λ _. length self.now.octets.items ≤ limit) (λ fault. (fault ≡ Fault.TooLarge)
             × (limit < length self.now.octets.items)) }

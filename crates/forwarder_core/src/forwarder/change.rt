@@ -34,7 +34,7 @@ impl<H: BuildHasher + Drop, A: Allocator + Copy> Forwarder<H, A> {
         self.kept.moment = moment;
     }
 
-    /// Does what was decided. An `Err` changes nothing.
+    /// Carries a decision out. An `Err` changes nothing.
     pub(crate) fn carry_out(
         &mut self,
         moment: u64,
@@ -72,8 +72,8 @@ impl<H: BuildHasher + Drop, A: Allocator + Copy> Forwarder<H, A> {
         })
     }
 
-    /// Puts a change in place. An `Err` changes nothing. A step that changes no list does without
-    /// the room on the stack that what is listed takes, which is cleared before it is used.
+    /// Puts a change in place. An `Err` changes nothing. A step that changes no list skips the
+    /// stack frame of list entries, which would be cleared.
     fn apply(&mut self, moment: u64, change: Change<A>) -> Result<(), AllocError>
         requires { CanApply self.old moment change }
         ensures { Applies self.old moment change result self.new }
@@ -87,7 +87,7 @@ impl<H: BuildHasher + Drop, A: Allocator + Copy> Forwarder<H, A> {
         }
     }
 
-    /// The same, for any change, out of line.
+    /// Puts any change in place, out of line.
     #[inline(never)]
     fn change_lists(&mut self, moment: u64, change: Change<A>) -> Result<(), AllocError>
         requires { CanApply self.old moment change }
@@ -122,7 +122,7 @@ impl<H: BuildHasher + Drop, A: Allocator + Copy> Forwarder<H, A> {
         }
     }
 
-    /// The question waits for an ask that is listed already. An `Err` changes nothing.
+    /// The question waits for a listed ask. An `Err` changes nothing.
     fn put_waiting(&mut self, moment: u64, waiting: KeyedWaiting<A>) -> Result<(), AllocError>
         requires later { self.old.state.moment ≤ moment }
         requires in_time { moment ≤ 2 ^ 62 }
@@ -169,7 +169,7 @@ impl<H: BuildHasher + Drop, A: Allocator + Copy> Forwarder<H, A> {
         Ok(())
     }
 
-    /// The ask on the path is closed, and those that waited for it wait no more.
+    /// The ask on the path is closed, and the questions waiting for it wait no more.
     fn close(&mut self, moment: u64, path: Path, preferred: Option<Preferred>)
         requires later { self.old.state.moment ≤ moment }
         requires in_time { moment ≤ 2 ^ 62 }
@@ -189,8 +189,8 @@ impl<H: BuildHasher + Drop, A: Allocator + Copy> Forwarder<H, A> {
         self.kept.moment = moment;
     }
 
-    /// The ask on a path is closed, and the first ask for what those want that are sent on is
-    /// listed, where there is one.
+    /// The ask on a path is closed, and the first ask for the redirected questions is listed, if
+    /// any.
     fn send_all_on(&mut self, moment: u64, sending: Sending<A>)
         requires later { self.old.state.moment ≤ moment }
         requires in_time { moment ≤ 2 ^ 62 }
@@ -227,7 +227,7 @@ impl<H: BuildHasher + Drop, A: Allocator + Copy> Forwarder<H, A> {
         self.kept.moment = moment;
     }
 
-    /// The ask on the path is closed, and another one for its question is listed.
+    /// The ask on the path is closed, and the next for its question is listed.
     fn replace(&mut self, moment: u64, path: Path, ask: Ask<A>)
         requires later { self.old.state.moment ≤ moment }
         requires in_time { moment ≤ 2 ^ 62 }
@@ -265,8 +265,8 @@ impl<H: BuildHasher + Drop, A: Allocator + Copy> Forwarder<H, A> {
         self.kept.moment = moment;
     }
 
-    /// Promotes the entries that a look-up used, then offers what an accepted reply carries.
-    /// Returns how many of its pieces found no memory.
+    /// Promotes the entries used by a look-up, then offers the pieces of an accepted reply. Returns
+    /// the number of pieces that found no memory.
     fn keep(&mut self, used: &Slots<'_, A>, carried: Vec<Held<A>, A>) -> u32
         requires few { length (pieces_of carried.items) < 2 ^ 32 }
         requires routed { AllByRecursion (IsRouted self.old.config) (pieces_of carried.items) }
@@ -282,7 +282,7 @@ impl<H: BuildHasher + Drop, A: Allocator + Copy> Forwarder<H, A> {
         offer_all(&mut self.kept.cache, carried, self.kept.moment)
     }
 
-    /// More is due at the moment that it is now.
+    /// Whether more is due at the present moment.
     fn is_due(&self) -> bool
         ensures { result ≡ is_due_at self.now.config self.now.state.moment self.now.state }
     {
@@ -290,7 +290,7 @@ impl<H: BuildHasher + Drop, A: Allocator + Copy> Forwarder<H, A> {
     }
 }
 
-/// One more ask by TCP, where the path is a connection.
+/// One more ask by TCP, if the path is a connection.
 fn count_tcp(count: u64, path: Path) -> u64
     requires { count + tcp_count_of path < 2 ^ 64 }
     ensures { result ≡ count + tcp_count_of path }

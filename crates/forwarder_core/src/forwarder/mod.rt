@@ -61,7 +61,7 @@ impl<H: BuildHasher, A: Allocator> Model for Forwarder<H, A> {
 }
 
 impl<H: BuildHasher + Drop, A: Allocator + Copy> Forwarder<H, A> {
-    /// A forwarder that remembers nothing. `Err` where memory ran out.
+    /// A forwarder with empty lists and an empty cache.
     pub fn new(alloc: A, config: Config<A>, hasher: H) -> Result<Forwarder<H, A>, AllocError>
         ensures new { IfOk result (λ forwarder. forwarder ≡ record { config = config; state = start config }) }
         ensures explained { IfOk result (λ forwarder. Explains forwarder.config [] [] forwarder.state) }
@@ -85,8 +85,7 @@ impl<H: BuildHasher + Drop, A: Allocator + Copy> Forwarder<H, A> {
         })
     }
 
-    /// Forgets all but the configuration: the state is that of a new forwarder. It does not
-    /// allocate.
+    /// Forgets all but the configuration: the state becomes a new forwarder's.
     pub fn restart(&mut self)
         ensures { self.new ≡ record { config = self.old.config; state = start self.old.config } }
     {
@@ -100,10 +99,9 @@ impl<H: BuildHasher + Drop, A: Allocator + Copy> Forwarder<H, A> {
         self.kept.tcp_asks = 0;
     }
 
-    /// One step: what is to be done about the event, at this moment in milliseconds and with these
-    /// random words. A moment below an earlier one counts as that one. `Err` where memory ran out,
-    /// and then nothing has changed. A piece of a reply that finds no memory in the cache refuses
-    /// no step: `unkept` counts it.
+    /// A step: the actions for the event, at this moment in milliseconds and with these random
+    /// words. A moment below an earlier moment counts as the earlier. A piece of a reply that finds
+    /// no memory in the cache refuses no step: `unkept` counts it.
     pub fn step(
         &mut self,
         now: u64,
@@ -121,20 +119,20 @@ impl<H: BuildHasher + Drop, A: Allocator + Copy> Forwarder<H, A> {
         // that valid data answers is answered by its own step, if the cache has room.
         ensures whole { IfOk result (λ outcome. StaysFullyExplained self.old.config self.old.state
             (record { now = now; words = words; event = event_of event.now }) outcome self.new.state) }
-        // After whatever steps led a new forwarder to the state before, this one serves truly: with
+        // After any steps from a new forwarder to the state before, this step serves truly: with
         // one list of owners each claim holds of the whole run.
         ensures truly { IfOk result (λ outcome. ServesOnTruly self.old.config self.old.state (record {
           handed = record { now = now; words = words; event = event_of event.now };
           outcome = outcome;
         } ∷ [])) }
         ensures config { self.new.config ≡ self.old.config }
-        // A message that is dropped, a delivery that matches nothing, the failure of a path without
-        // an ask, a tick with nothing due and a restart never run out of memory.
+        // A dropped message, an unmatched delivery, the failure of a path without an ask, a tick
+        // with nothing due and a restart never run out of memory.
         ensures no_memory { TakesNoMemory self.old.config (effective now self.old.state) self.old.state
             (event_of event.now) → IsOk result }
         ensures err { OnErr result (self.new ≡ self.old) }
-        // The work that is left is bounded, and falls with each step that serves something. So a
-        // loop of ticks while more is due ends.
+        // The work left is bounded, and falls with each step that serves something. So a loop of
+        // ticks while more is due ends.
         ensures bounded { left_to_do self.old.config self.old.state
             ≤ self.old.config.limits.questions
             + self.old.config.limits.inquiries * self.old.config.limits.tries }
@@ -146,10 +144,9 @@ impl<H: BuildHasher + Drop, A: Allocator + Copy> Forwarder<H, A> {
         self.take(now, words, event)
     }
 
-    /// The least moment, in milliseconds, at which a tick serves something: the deadline of a
-    /// waiting question, or the moment from which an ask is past its time. `None` exactly where
-    /// nothing waits and no ask is listed. It takes no memory, and looks at the oldest of each list
-    /// alone.
+    /// The least moment, in milliseconds, at which something is due: the deadline of a waiting
+    /// question, or the end of an ask's time. `None` exactly if no question waits and no ask is
+    /// listed. Reads the oldest of each list alone.
     pub fn next_due(&self) -> Option<u64>
         ensures { result ≡ next_due self.now.config self.now.state }
     {
@@ -159,7 +156,7 @@ impl<H: BuildHasher + Drop, A: Allocator + Copy> Forwarder<H, A> {
         }
     }
 
-    /// One step over a borrowed event.
+    /// A step over a borrowed event.
     fn take(
         &mut self,
         now: u64,
@@ -178,8 +175,8 @@ impl<H: BuildHasher + Drop, A: Allocator + Copy> Forwarder<H, A> {
         self.act_on(now, words, event)
     }
 
-    /// Decides what an event calls for, and puts it in place. Out of line: a tick that finds
-    /// nothing due needs neither it nor its room on the stack.
+    /// Decides an event, and puts the decision in place. Out of line: a tick with nothing due needs
+    /// neither the code nor its stack frame.
     #[inline(never)]
     fn act_on(
         &mut self,
@@ -208,7 +205,7 @@ impl<H: BuildHasher + Drop, A: Allocator + Copy> Forwarder<H, A> {
         self.carry_out(moment, actions, &used, change, carried)
     }
 
-    /// The forwarder as a step finds it, borrowed, with the moment and the words of the step.
+    /// The forwarder at the start of a step, borrowed, with the moment and the words of the step.
     fn turn(&self, now: u64, words: [u32; 8]) -> TurnRef<'_, H, A>
         ensures { result ≡ turn self.now.config (effective now self.now.state) words self.now.state }
     {
@@ -221,8 +218,8 @@ impl<H: BuildHasher + Drop, A: Allocator + Copy> Forwarder<H, A> {
         }
     }
 
-    /// The greatest moment passed in so far, at most 2^62 ms. `in_order` repeats what holds of each
-    /// forwarder: both lists are in the order of time and within their limits.
+    /// The greatest moment so far, at most 2^62 ms. The clause `in_order` repeats the facts about
+    /// each forwarder: both lists are in the order of time and within their limits.
     fn effective(&self, now: u64) -> u64
         ensures value { result ≡ effective now self.now.state }
         ensures later { self.now.state.moment ≤ result }
@@ -232,7 +229,7 @@ impl<H: BuildHasher + Drop, A: Allocator + Copy> Forwarder<H, A> {
         now.min(LATEST).max(self.kept.moment)
     }
 
-    /// The outcome of a step that does nothing, where nothing is due.
+    /// The outcome of a step without actions, if nothing is due.
     fn nothing_done(&self) -> Outcome<A>
         ensures { result ≡ record { actions = []; unkept = 0; more = false } }
     {
@@ -244,8 +241,7 @@ impl<H: BuildHasher + Drop, A: Allocator + Copy> Forwarder<H, A> {
     }
 }
 
-/// For each route the place of the server that is asked first: at the beginning the first of its
-/// group.
+/// For each route the place of the first server to ask: at the beginning the first of the group.
 fn first_places<A: Allocator>(alloc: A, routes: &[Route<A>]) -> Result<Vec<usize, A>, AllocError>
     ensures { IfOk result (λ places. places.items ≡ map (λ r. 0) routes.now) }
 {

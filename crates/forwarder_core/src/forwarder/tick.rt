@@ -12,7 +12,7 @@ use step_actions::{Due, first_due};
 use step_values::Event;
 
 impl<H: BuildHasher + Drop, A: Allocator + Copy> Forwarder<H, A> {
-    /// The question or the ask that is due first. `None` exactly where nothing waits and no ask is
+    /// The question or the ask that is due first. `None` exactly if nothing waits and no ask is
     /// listed.
     pub(crate) fn first_due(&self) -> Option<Due<'_, A>>
         ensures { MatchOption result ((self.now.state.waiting ≡ []) × (self.now.state.asks ≡ []))

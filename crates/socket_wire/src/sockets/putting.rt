@@ -21,8 +21,8 @@ use stream_connections::{ServerStream, unsent_query};
 use suffix_routes::Peer;
 
 impl<R: Net, A: Allocator + Copy> Sockets<'_, R, A> {
-    /// Does an action. `Err` where the system refuses, or memory ran out. With an ask the random
-    /// words are spent that its identifier and port came from, whatever becomes of it.
+    /// Does an action. `Err` if the system refuses, or memory ran out. An ask spends the random
+    /// words of its identifier and port, whatever its result.
     pub fn put(&mut self, action: &Action<A>, now: u64) -> io::Result<()>
         ensures { PutsAction action.now now (is_ok result) (with_spent action.now self.old)
             self.new }
@@ -66,8 +66,8 @@ impl<R: Net, A: Allocator + Copy> Sockets<'_, R, A> {
         }
     }
 
-    /// Sends a query from this port. Where no descriptor is left for it, the oldest connection of a
-    /// client that has waited for nothing for a while is closed.
+    /// Sends a query from this port. If no descriptor is left, the oldest connection of a client
+    /// that has waited for nothing for a while is closed.
     fn ask_udp(&mut self, port: u16, server: Peer, query: &[u8], now: u64) -> io::Result<()>
         ensures lists { ListsPort port (is_ok result) self.old.asks.entries self.new.asks.entries }
         ensures room { MayMakeRoom now self.old.connections self.new.connections }
@@ -85,8 +85,8 @@ impl<R: Net, A: Allocator + Copy> Sockets<'_, R, A> {
         self.list_ask(port, socket, answer)
     }
 
-    /// Lists the socket of an ask, by its answer to the query that was sent: one that refused it is
-    /// dropped. `Err` where it refused, and where memory ran out.
+    /// Lists the socket of an ask, by its answer to the sent query: a socket that refused is
+    /// dropped. `Err` if the socket refused, or memory ran out.
     fn list_ask(
         &mut self,
         port: u16,
@@ -115,8 +115,8 @@ impl<R: Net, A: Allocator + Copy> Sockets<'_, R, A> {
         Ok(())
     }
 
-    /// Begins a connection with a query. Where no descriptor is left for it, the oldest connection
-    /// of a client that has waited for nothing for a while is closed.
+    /// Begins a connection with a query. If no descriptor is left, the oldest connection of a
+    /// client that has waited for nothing for a while is closed.
     fn begin_with_room(
         &mut self,
         conn: u64,
@@ -136,8 +136,8 @@ impl<R: Net, A: Allocator + Copy> Sockets<'_, R, A> {
         begun
     }
 
-    /// Begins to connect, with the query after its length. `Err` where the system refuses, or
-    /// memory ran out.
+    /// Begins to connect, with the query after its length. `Err` if the system refuses, or memory
+    /// ran out.
     fn begin(&self, conn: u64, server: Peer, query: &[u8]) -> io::Result<ServerStream<A>>
         ensures { IfOk result (λ stream. IsBegunWith server query.now stream) }
     {
@@ -147,8 +147,8 @@ impl<R: Net, A: Allocator + Copy> Sockets<'_, R, A> {
         Ok(ServerStream::new(kept_if(stream, watched)?, server, unsent))
     }
 
-    /// Replies on a client's connection. `Err` where the reply is lost. A connection that is over
-    /// is closed.
+    /// Replies on a client's connection. `Err` if the reply is lost. A connection that is over is
+    /// closed.
     fn reply(&mut self, conn: u64, reply: &[u8], now: u64) -> io::Result<()>
         ensures answers { AnswersOn conn reply.now now (is_ok result)
             self.old.connections self.new.connections }

@@ -33,7 +33,7 @@ pub(super) enum Tried<A: Allocator> {
 }
 
 impl<R: Net, A: Allocator + Copy> Sockets<'_, R, A> {
-    /// Tries a socket. `Err` where memory for what arrived ran out.
+    /// Tries a socket. `Err` if memory for the arrival ran out.
     pub(super) fn attempt(&mut self, origin: Origin, now: u64) -> Result<Tried<A>, AllocError>
         ensures { Attempts origin now result self.old self.new }
     {
@@ -54,8 +54,7 @@ impl<R: Net, A: Allocator + Copy> Sockets<'_, R, A> {
         self.hear_datagram(answer)
     }
 
-    /// A client's datagram, by the answer of its socket: nothing where it refuses, whatever the
-    /// reason.
+    /// A client's datagram, by the answer of its socket: nothing if refused, whatever the reason.
     fn hear_datagram(
         &mut self,
         answer: io::Result<(usize, SocketAddr)>,
@@ -75,8 +74,8 @@ impl<R: Net, A: Allocator + Copy> Sockets<'_, R, A> {
         Ok(Tried::Arrived(Arrival::ClientDatagram { from, bytes }))
     }
 
-    /// A client's connection. Where no descriptor is left for it, the oldest of a client that has
-    /// waited for nothing for a while is closed, so that the next turn has one.
+    /// A client's connection. If no descriptor is left, the oldest client that has waited for
+    /// nothing for a while is closed, so that the next turn has a descriptor.
     fn take_connection(&mut self, now: u64) -> Tried<A>
         ensures { TakesConnection now result self.old self.new }
     {
@@ -104,9 +103,9 @@ impl<R: Net, A: Allocator + Copy> Sockets<'_, R, A> {
         }
     }
 
-    /// Where a call answered that no descriptor is left, closes the oldest connection of a client
-    /// that has waited for nothing for a while. True where one was closed, and the call is worth
-    /// another try.
+    /// If a call found no descriptor left, closes the oldest connection of a client that has waited
+    /// for nothing for a while. True if a connection was closed, and the call is worth a second
+    /// try.
     pub(super) fn frees_for<T>(&mut self, answer: &io::Result<T>, now: u64) -> bool
         ensures by { FreesBy answer.now now result self.old self.new }
         ensures may { MayCloseResting now result self.old self.new }
@@ -117,8 +116,8 @@ impl<R: Net, A: Allocator + Copy> Sockets<'_, R, A> {
         }
     }
 
-    /// Where this refusal says that no descriptor is left, closes the oldest connection of a client
-    /// that has waited for nothing for a while. True where one was closed.
+    /// If this refusal says that no descriptor is left, closes the oldest connection of a client
+    /// that has waited for nothing for a while. True if a connection was closed.
     fn frees_descriptor(&mut self, refusal: Refusal, now: u64) -> bool
         ensures by { FreesFor refusal now result self.old self.new }
         ensures may { MayCloseResting now result self.old self.new }
@@ -129,9 +128,9 @@ impl<R: Net, A: Allocator + Copy> Sockets<'_, R, A> {
         }
     }
 
-    /// Lists a client's connection under the next number. Where there are as many as may be, the
-    /// oldest that waits for nothing goes, otherwise this one. `Err` where this one goes because
-    /// the system refuses or memory ran out.
+    /// Lists a client's connection under the next number. Of the most connections, the oldest that
+    /// waits for nothing goes, otherwise the new one. `Err` if the new one goes because the system
+    /// refuses or memory ran out.
     fn admit(&mut self, stream: TcpStream, now: u64) -> io::Result<()>
         ensures { TakesIn now self.old self.new }
     {
@@ -150,8 +149,8 @@ impl<R: Net, A: Allocator + Copy> Sockets<'_, R, A> {
         Ok(())
     }
 
-    /// A piece of a client's stream. Only once that was read, a client that has been silent for too
-    /// long is closed: after a stall of the service, what came in time may be yet to be read.
+    /// A piece of a client's stream. A client silent for too long is closed only after this read:
+    /// after a stall of the service, messages sent in time may be unread.
     fn take_client(&mut self, conn: u64, now: u64) -> Result<Tried<A>, AllocError>
         ensures { TakesClient conn now result self.old self.new }
     {
@@ -183,7 +182,7 @@ impl<R: Net, A: Allocator + Copy> Sockets<'_, R, A> {
         }
     }
 
-    /// A datagram at the port of an ask. A socket that fails is dropped, and its end is reported.
+    /// A datagram at the port of an ask. A failing socket is dropped, and its end reported.
     fn take_ask(&mut self, port: u16) -> Result<Tried<A>, AllocError>
         ensures { TakesAsk port result self.old self.new }
     {
@@ -194,7 +193,7 @@ impl<R: Net, A: Allocator + Copy> Sockets<'_, R, A> {
         self.hear_ask(port, answer)
     }
 
-    /// A datagram at the port of an ask, by the answer of its socket. One that fails is dropped,
+    /// A datagram at the port of an ask, by the answer of its socket. A failing socket is dropped,
     /// and its end reported.
     fn hear_ask(
         &mut self,
@@ -218,8 +217,8 @@ impl<R: Net, A: Allocator + Copy> Sockets<'_, R, A> {
         }
     }
 
-    /// The result for the socket of an ask that refused to be read: nothing where it would block.
-    /// For any other reason it is dropped, and its end reported.
+    /// The result for the socket of an ask that refused a read: nothing if the read would block.
+    /// For any other reason the socket is dropped, and its end reported.
     fn lose_ask(&mut self, port: u16, refusal: Refusal) -> Tried<A>
         ensures loses { LosesAsk port refusal result self.old.asks.entries self.new.asks.entries }
         ensures takes { TakesAsk port (Ok result) self.old self.new }

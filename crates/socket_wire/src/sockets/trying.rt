@@ -12,7 +12,7 @@ use std::net::Net;
 const AT_ONCE: u8 = 20;
 
 /// The listener for connections is tried once in this number of rounds. The system makes a socket
-/// before it finds that no client is there, which takes as long as the rest of a round.
+/// before it looks for a client, which takes as long as the rest of a round.
 const ROUNDS: u8 = 8;
 
 impl<R: Net, A: Allocator + Copy> Sockets<'_, R, A> {
