@@ -28,25 +28,6 @@ pub(crate) fn set_of<'a, A: Allocator>(told: &ToldRef<'a, A>) -> Option<RowsRef<
     }
 }
 
-/// The records of a piece of this type with this data.
-fn rows_of<'a, A: Allocator>(
-    piece: &'a Piece<A>,
-    kind: u16,
-    rows: DataRef<'a, A>,
-    ttl: u32,
-) -> RowsRef<'a, A>
-    requires { AllByRecursion (IsShaped kind) (data_of rows) }
-    ensures { result ≡ map (record_of ttl piece.now kind) (data_of rows.entry) }
-{
-    RowsRef {
-        owner: &piece.owner,
-        kind,
-        class: piece.class,
-        ttl,
-        data: rows,
-    }
-}
-
 /// The records of a chain, set after set.
 pub(crate) fn sets_of<'a, A: Allocator + Copy>(
     alloc: A,
@@ -95,6 +76,36 @@ pub(crate) fn soa_of<'a, A: Allocator>(told: &ToldRef<'a, A>) -> Option<RowsRef<
     }
 }
 
+/// The response code of an answer with this piece at its end.
+pub(crate) fn rcode_of<A: Allocator>(piece: &Piece<A>) -> u8
+    ensures code { result ≡ rcode_of piece.now.body }
+    ensures small { result < 16 }
+{
+    match &piece.body {
+        Body::Denied(_) => NXDOMAIN,
+        _ => 0,
+    }
+}
+
+/// The records of a piece of this type with this data.
+fn rows_of<'a, A: Allocator>(
+    piece: &'a Piece<A>,
+    kind: u16,
+    rows: DataRef<'a, A>,
+    ttl: u32,
+) -> RowsRef<'a, A>
+    requires { AllByRecursion (IsShaped kind) (data_of rows) }
+    ensures { result ≡ map (record_of ttl piece.now kind) (data_of rows.entry) }
+{
+    RowsRef {
+        owner: &piece.owner,
+        kind,
+        class: piece.class,
+        ttl,
+        data: rows,
+    }
+}
+
 /// The SOA as a set of its own, if any.
 fn aged<A: Allocator>(soa: &Option<Box<Record<A>, A>>, ttl: u32) -> Option<RowsRef<'_, A>>
     requires { IfSome (unboxed soa.now) (λ r. IsShaped r.kind r.rdata) }
@@ -117,16 +128,5 @@ fn aged_soa<A: Allocator>(soa: &Record<A>, ttl: u32) -> RowsRef<'_, A>
         class: soa.class,
         ttl,
         data: DataRef::Row(&soa.rdata),
-    }
-}
-
-/// The response code of an answer with this piece at its end.
-pub(crate) fn rcode_of<A: Allocator>(piece: &Piece<A>) -> u8
-    ensures code { result ≡ rcode_of piece.now.body }
-    ensures small { result < 16 }
-{
-    match &piece.body {
-        Body::Denied(_) => NXDOMAIN,
-        _ => 0,
     }
 }

@@ -32,18 +32,6 @@ impl Model for NameBuilder {
     ghost invariant = { λ b. IsLaidOut b.octets.items };
 }
 
-/// Appends a label's length and the label to the octets.
-fn put_label(octets: &mut ArrayVec<u8, MOST>, label: &[u8])
-    requires short { length label.now ≤ 63 }
-    requires room { array_vec_len octets.old + length label.now + 1 ≤ 254 }
-    ensures { octets.new.items ≡ octets.old.items ++ label_octets label.now }
-{
-    octets.push(label.len() as u8);
-    let Ok(()) = octets.try_extend_from_slice(label) else {
-        unreachable!()
-    };
-}
-
 impl NameBuilder {
     /// No label.
     pub(crate) fn new() -> NameBuilder
@@ -75,4 +63,16 @@ impl NameBuilder {
     {
         Name::from_octets(alloc, self.octets.as_slice())
     }
+}
+
+/// Appends a label's length and the label to the octets.
+fn put_label(octets: &mut ArrayVec<u8, MOST>, label: &[u8])
+    requires short { length label.now ≤ 63 }
+    requires room { array_vec_len octets.old + length label.now + 1 ≤ 254 }
+    ensures { octets.new.items ≡ octets.old.items ++ label_octets label.now }
+{
+    octets.push(label.len() as u8);
+    let Ok(()) = octets.try_extend_from_slice(label) else {
+        unreachable!()
+    };
 }

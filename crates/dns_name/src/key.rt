@@ -77,15 +77,6 @@ impl Hash for NameKey {
     }
 }
 
-/// `len`, rounded up to a multiple of eight; a key has at most 255 octets.
-fn end_of_words(len: u8) -> usize
-    ensures end { result ≡ end_of_words len }
-    ensures within { result ≤ 255 }
-{
-    let words = (usize::from(len) + 7) / 8;
-    (words * 8).min(255)
-}
-
 /// The zeros after the name in its key.
 const ZEROS: [u8; 255] = [0; 255];
 
@@ -145,41 +136,6 @@ impl NameKey {
     }
 }
 
-/// Puts octets in lower case in place of the first octets.
-fn put_lower(all: &mut [u8; 255], octets: &[u8])
-    requires { length octets.now ≤ 255 }
-    ensures { all.new ≡ map to_ascii_lowercase octets.now ++ drop (length octets.now) all.old }
-{
-    for (i, octet) in octets.iter().enumerate() {
-        all[i] = octet.to_ascii_lowercase();
-    }
-}
-
-fn lower_with_zeros(octets: &[u8]) -> [u8; 255]
-    requires { length octets.now ≤ 255 }
-    ensures { result ≡ padded (map to_ascii_lowercase octets.now) }
-{
-    let mut all = [0u8; 255];
-    put_lower(&mut all, octets);
-    all
-}
-
-/// The number of octets compared one by one, up to the first difference.
-const FEW: usize = 32;
-
-/// Whether octets, at most 255, are equal in lower case. More than a few are turned to lower case
-/// before any are compared: with no branch at each octet, many are taken at once.
-#[tactic(auto, using(crate::proofs::KeyOf::padded_same))]
-fn is_same_in_lower_case(a: &[u8], b: &[u8]) -> bool
-    requires { length a.now ≤ 255 }
-    ensures { IsTrue result ↔ (map to_ascii_lowercase a.now ≡ map to_ascii_lowercase b.now) }
-{
-    if a.len() <= FEW {
-        return a.eq_ignore_ascii_case(b);
-    }
-    a.len() == b.len() && lower_with_zeros(a) == lower_with_zeros(b)
-}
-
 /// Whether octets, at most 255, are equal, ASCII letter case aside (RFC 1035 2.3.3). Most equal
 /// names are spelled alike, so a comparison with case comes first.
 pub(crate) fn is_same_text(a: &[u8], b: &[u8]) -> bool
@@ -198,5 +154,49 @@ pub(crate) fn key_of(name: &[u8]) -> NameKey
     NameKey {
         octets: lower_with_zeros(name),
         len: name.len() as u8 + 1,
+    }
+}
+
+/// `len`, rounded up to a multiple of eight; a key has at most 255 octets.
+fn end_of_words(len: u8) -> usize
+    ensures end { result ≡ end_of_words len }
+    ensures within { result ≤ 255 }
+{
+    let words = (usize::from(len) + 7) / 8;
+    (words * 8).min(255)
+}
+
+/// The number of octets compared one by one, up to the first difference.
+const FEW: usize = 32;
+
+/// Whether octets, at most 255, are equal in lower case. More than a few are turned to lower case
+/// before any are compared: with no branch at each octet, many are taken at once.
+#[tactic(auto, using(crate::proofs::KeyOf::padded_same))]
+fn is_same_in_lower_case(a: &[u8], b: &[u8]) -> bool
+    requires { length a.now ≤ 255 }
+    ensures { IsTrue result ↔ (map to_ascii_lowercase a.now ≡ map to_ascii_lowercase b.now) }
+{
+    if a.len() <= FEW {
+        return a.eq_ignore_ascii_case(b);
+    }
+    a.len() == b.len() && lower_with_zeros(a) == lower_with_zeros(b)
+}
+
+fn lower_with_zeros(octets: &[u8]) -> [u8; 255]
+    requires { length octets.now ≤ 255 }
+    ensures { result ≡ padded (map to_ascii_lowercase octets.now) }
+{
+    let mut all = [0u8; 255];
+    put_lower(&mut all, octets);
+    all
+}
+
+/// Puts octets in lower case in place of the first octets.
+fn put_lower(all: &mut [u8; 255], octets: &[u8])
+    requires { length octets.now ≤ 255 }
+    ensures { all.new ≡ map to_ascii_lowercase octets.now ++ drop (length octets.now) all.old }
+{
+    for (i, octet) in octets.iter().enumerate() {
+        all[i] = octet.to_ascii_lowercase();
     }
 }

@@ -83,22 +83,6 @@ impl<A: Allocator> Name<A> {
     }
 }
 
-/// The first fault of a label, from the left.
-fn check_labels<A: Allocator>(labels: &[Vec<u8, A>]) -> Result<(), NameFault>
-    ensures { MatchResult result (λ _. first_fault label_fault (map (λ v. v.items) labels.now) ≡ None)
-        (λ e. first_fault label_fault (map (λ v. v.items) labels.now) ≡ Some e) }
-{
-    for label in labels {
-        if label.is_empty() {
-            return Err(NameFault::EmptyLabel);
-        }
-        if label.len() > 63 {
-            return Err(NameFault::LabelLong);
-        }
-    }
-    Ok(())
-}
-
 impl<A: Allocator> Name<A> {
     /// The name of these labels, from left to right.
     ///
@@ -168,4 +152,20 @@ impl<A: Allocator> Name<A> {
     {
         Name::from_octets(alloc, self.octets())
     }
+}
+
+/// The first fault of a label, from the left.
+fn check_labels<A: Allocator>(labels: &[Vec<u8, A>]) -> Result<(), NameFault>
+    ensures { MatchResult result (λ _. first_fault label_fault (map (λ v. v.items) labels.now) ≡ None)
+        (λ e. first_fault label_fault (map (λ v. v.items) labels.now) ≡ Some e) }
+{
+    for label in labels {
+        if label.is_empty() {
+            return Err(NameFault::EmptyLabel);
+        }
+        if label.len() > 63 {
+            return Err(NameFault::LabelLong);
+        }
+    }
+    Ok(())
 }

@@ -33,19 +33,6 @@ pub(crate) fn words(draws: &mut Draws, turn: Turn) -> [u32; 8] {
     words
 }
 
-/// The next moment: mostly a few milliseconds later, sometimes earlier, seldom so much later that
-/// cached data has expired.
-fn moment(draws: &mut Draws, before: u64) -> u64 {
-    let later = match draws.below(256) {
-        0 => draws.pick(&[31_000u32, 301_000, 604_801_000, 691_200_000]),
-        1..=7 => draws.below(4000),
-        8..=15 => return before.saturating_sub(u64::from(draws.below(100_000))),
-        16..=127 => 0,
-        _ => draws.below(30),
-    };
-    before.saturating_add(u64::from(later))
-}
-
 /// A tick at a moment at which everything before is due. All last ticks have this moment, so a
 /// query sent meanwhile is not due.
 pub(crate) fn last_tick(words: [u32; 8], ledger: &Ledger) -> Handed {
@@ -85,34 +72,17 @@ pub(crate) fn draw(
     Ok(Handed { now, words, event })
 }
 
-/// A message of a client. All identifiers of a turn differ.
-fn message(alloc: Global, draws: &mut Draws, number: u32) -> Result<Event, AllocError> {
-    let client = client(draws);
-    let octets = question(alloc, draws, (number % 65_536) as u16)?;
-    Ok(Event::Client {
-        client,
-        bytes: PlainList::from_vec(octets),
-    })
-}
-
-/// An open query.
-fn any_query<'l>(draws: &mut Draws, ledger: &'l Ledger) -> Option<&'l Query> {
-    let place = draws.place(ledger.open.len())?;
-    ledger.open.get(place)
-}
-
-/// The path of an open query, or any path.
-fn any_path(draws: &mut Draws, turn: Turn, ledger: &Ledger) -> Path {
-    if let Some(query) = any_query(draws, ledger)
-        && !draws.one_in(8)
-    {
-        return query.path;
-    }
-    if draws.one_in(4) {
-        return Path::Tcp(u64::from(draws.below(300)));
-    }
-    let port = draws.below(turn.ports.max(1)) % 64_512;
-    Path::Udp((1024 + port) as u16)
+/// The next moment: mostly a few milliseconds later, sometimes earlier, seldom so much later that
+/// cached data has expired.
+fn moment(draws: &mut Draws, before: u64) -> u64 {
+    let later = match draws.below(256) {
+        0 => draws.pick(&[31_000u32, 301_000, 604_801_000, 691_200_000]),
+        1..=7 => draws.below(4000),
+        8..=15 => return before.saturating_sub(u64::from(draws.below(100_000))),
+        16..=127 => 0,
+        _ => draws.below(30),
+    };
+    before.saturating_add(u64::from(later))
 }
 
 /// A message on a path to a server: mostly a reply to an open query, sometimes on another path, of
@@ -140,6 +110,36 @@ fn delivery(
     Ok(Event::Delivery {
         path,
         from,
+        bytes: PlainList::from_vec(octets),
+    })
+}
+
+/// The path of an open query, or any path.
+fn any_path(draws: &mut Draws, turn: Turn, ledger: &Ledger) -> Path {
+    if let Some(query) = any_query(draws, ledger)
+        && !draws.one_in(8)
+    {
+        return query.path;
+    }
+    if draws.one_in(4) {
+        return Path::Tcp(u64::from(draws.below(300)));
+    }
+    let port = draws.below(turn.ports.max(1)) % 64_512;
+    Path::Udp((1024 + port) as u16)
+}
+
+/// An open query.
+fn any_query<'l>(draws: &mut Draws, ledger: &'l Ledger) -> Option<&'l Query> {
+    let place = draws.place(ledger.open.len())?;
+    ledger.open.get(place)
+}
+
+/// A message of a client. All identifiers of a turn differ.
+fn message(alloc: Global, draws: &mut Draws, number: u32) -> Result<Event, AllocError> {
+    let client = client(draws);
+    let octets = question(alloc, draws, (number % 65_536) as u16)?;
+    Ok(Event::Client {
+        client,
         bytes: PlainList::from_vec(octets),
     })
 }

@@ -20,6 +20,24 @@ pub(crate) fn client(draws: &mut Draws) -> Client {
     })
 }
 
+/// A message of a client with this identifier, which no change on the way touches.
+pub(crate) fn question(alloc: Global, draws: &mut Draws, id: u16) -> Result<Vec<u8>, AllocError> {
+    let mut octets = Vec::new(alloc);
+    put16(&mut octets, id)?;
+    put16(&mut octets, flags(draws))?;
+    for count in counts(draws) {
+        put16(&mut octets, count)?;
+    }
+    let number = draws.below(NAMES);
+    put_name(draws, &mut octets, number)?;
+    put16(&mut octets, draws.pick(&KINDS))?;
+    put16(&mut octets, draws.pick(&[1, 1, 1, 1, 1, 1, 1, 3]))?;
+    if draws.one_in(12) {
+        change(draws, &mut octets, 2)?;
+    }
+    Ok(octets)
+}
+
 /// The flags of a question. Mostly RD alone is set; sometimes any bits are, QR too.
 fn flags(draws: &mut Draws) -> u16 {
     match draws.below(32) {
@@ -39,22 +57,4 @@ fn counts(draws: &mut Draws) -> [u16; 4] {
         2 | 3 => [1, 0, 0, 1],
         _ => [1, 0, 0, 0],
     }
-}
-
-/// A message of a client with this identifier, which no change on the way touches.
-pub(crate) fn question(alloc: Global, draws: &mut Draws, id: u16) -> Result<Vec<u8>, AllocError> {
-    let mut octets = Vec::new(alloc);
-    put16(&mut octets, id)?;
-    put16(&mut octets, flags(draws))?;
-    for count in counts(draws) {
-        put16(&mut octets, count)?;
-    }
-    let number = draws.below(NAMES);
-    put_name(draws, &mut octets, number)?;
-    put16(&mut octets, draws.pick(&KINDS))?;
-    put16(&mut octets, draws.pick(&[1, 1, 1, 1, 1, 1, 1, 3]))?;
-    if draws.one_in(12) {
-        change(draws, &mut octets, 2)?;
-    }
-    Ok(octets)
 }

@@ -35,6 +35,26 @@ const AUTHORITY: usize = 8;
 
 const ADDITIONAL: usize = 10;
 
+/// A reply to a query: aliases, then a set, a denial with or without an SOA record, or nothing.
+pub(crate) fn reply(alloc: Global, draws: &mut Draws, query: &[u8]) -> Result<Vec<u8>, AllocError> {
+    let mut draft = begin(alloc, draws, query)?;
+    let first = draws.below(NAMES);
+    for number in 0..draws.pick(&ALIASES) {
+        let target = first.saturating_add(number) % NAMES;
+        put_alias(alloc, draws, &mut draft, target)?;
+    }
+    match draws.below(8) {
+        0 => {}
+        1 | 2 => put_denial(alloc, draws, &mut draft)?,
+        _ => put_set(alloc, draws, &mut draft)?,
+    }
+    if draws.one_in(4) {
+        put_others(alloc, draws, &mut draft)?;
+    }
+    let Draft { octets, .. } = draft;
+    Ok(octets)
+}
+
 /// A reply, half written.
 #[derive(Drop)]
 struct Draft {
@@ -72,26 +92,6 @@ fn flags(draws: &mut Draws) -> u16 {
     mostly & !cleared | draws.pick(&[0x0080, 0x0080, 0])
 }
 
-/// Puts a record of this type last, and counts the record.
-fn put_record(
-    draws: &mut Draws,
-    draft: &mut Draft,
-    section: usize,
-    kind: u16,
-    data: &[u8],
-) -> Result<(), AllocError> {
-    put16(&mut draft.octets, 0xc000 | draft.owner % 0x4000)?;
-    put16(&mut draft.octets, kind)?;
-    put16(&mut draft.octets, draft.class)?;
-    let ttl = draws.pick(&TTLS);
-    draft.octets.extend_from_slice(&ttl.to_be_bytes())?;
-    put16(&mut draft.octets, u16::try_from(data.len()).unwrap_or(0))?;
-    draft.octets.extend_from_slice(data)?;
-    let count = number16(&draft.octets, section);
-    set16(&mut draft.octets, section, count.saturating_add(1));
-    Ok(())
-}
-
 /// Puts an alias of the present name last; its target is the present name then.
 fn put_alias(
     alloc: Global,
@@ -104,6 +104,34 @@ fn put_alias(
     put_record(draws, draft, ANSWERS, CNAME, &data)?;
     draft.owner = u16::try_from(place).unwrap_or(12);
     Ok(())
+}
+
+/// Puts the SOA record of a denial last.
+fn put_denial(alloc: Global, draws: &mut Draws, draft: &mut Draft) -> Result<(), AllocError> {
+    let data = soa(alloc, draws)?;
+    put_record(draws, draft, AUTHORITY, SOA, &data)
+}
+
+/// Puts a set of the present name last.
+fn put_set(alloc: Global, draws: &mut Draws, draft: &mut Draft) -> Result<(), AllocError> {
+    let kind = draft.kind;
+    for number in 0..rows(draws, kind) {
+        let data = data(alloc, draws, kind, number)?;
+        put_record(draws, draft, ANSWERS, kind, &data)?;
+    }
+    Ok(())
+}
+
+/// How many records the set of this type has: seldom many.
+fn rows(draws: &mut Draws, kind: u16) -> u32 {
+    if kind == CNAME || kind == SOA {
+        return 1;
+    }
+    if draws.one_in(if kind == SRV { 8 } else { 80 }) {
+        draws.pick(&MANY)
+    } else {
+        draws.pick(&ROWS)
+    }
 }
 
 /// The data of a record of this type, another for each number. Names in the data of MX and SRV are
@@ -137,34 +165,6 @@ fn soa(alloc: Global, draws: &mut Draws) -> Result<Vec<u8>, AllocError> {
     Ok(octets)
 }
 
-/// How many records the set of this type has: seldom many.
-fn rows(draws: &mut Draws, kind: u16) -> u32 {
-    if kind == CNAME || kind == SOA {
-        return 1;
-    }
-    if draws.one_in(if kind == SRV { 8 } else { 80 }) {
-        draws.pick(&MANY)
-    } else {
-        draws.pick(&ROWS)
-    }
-}
-
-/// Puts a set of the present name last.
-fn put_set(alloc: Global, draws: &mut Draws, draft: &mut Draft) -> Result<(), AllocError> {
-    let kind = draft.kind;
-    for number in 0..rows(draws, kind) {
-        let data = data(alloc, draws, kind, number)?;
-        put_record(draws, draft, ANSWERS, kind, &data)?;
-    }
-    Ok(())
-}
-
-/// Puts the SOA record of a denial last.
-fn put_denial(alloc: Global, draws: &mut Draws, draft: &mut Draft) -> Result<(), AllocError> {
-    let data = soa(alloc, draws)?;
-    put_record(draws, draft, AUTHORITY, SOA, &data)
-}
-
 /// Puts name servers and an unasked address last.
 fn put_others(alloc: Global, draws: &mut Draws, draft: &mut Draft) -> Result<(), AllocError> {
     let number = draws.below(NAMES);
@@ -174,22 +174,22 @@ fn put_others(alloc: Global, draws: &mut Draws, draft: &mut Draft) -> Result<(),
     put_record(draws, draft, ADDITIONAL, 1, &[10, 9, 9, 9])
 }
 
-/// A reply to a query: aliases, then a set, a denial with or without an SOA record, or nothing.
-pub(crate) fn reply(alloc: Global, draws: &mut Draws, query: &[u8]) -> Result<Vec<u8>, AllocError> {
-    let mut draft = begin(alloc, draws, query)?;
-    let first = draws.below(NAMES);
-    for number in 0..draws.pick(&ALIASES) {
-        let target = first.saturating_add(number) % NAMES;
-        put_alias(alloc, draws, &mut draft, target)?;
-    }
-    match draws.below(8) {
-        0 => {}
-        1 | 2 => put_denial(alloc, draws, &mut draft)?,
-        _ => put_set(alloc, draws, &mut draft)?,
-    }
-    if draws.one_in(4) {
-        put_others(alloc, draws, &mut draft)?;
-    }
-    let Draft { octets, .. } = draft;
-    Ok(octets)
+/// Puts a record of this type last, and counts the record.
+fn put_record(
+    draws: &mut Draws,
+    draft: &mut Draft,
+    section: usize,
+    kind: u16,
+    data: &[u8],
+) -> Result<(), AllocError> {
+    put16(&mut draft.octets, 0xc000 | draft.owner % 0x4000)?;
+    put16(&mut draft.octets, kind)?;
+    put16(&mut draft.octets, draft.class)?;
+    let ttl = draws.pick(&TTLS);
+    draft.octets.extend_from_slice(&ttl.to_be_bytes())?;
+    put16(&mut draft.octets, u16::try_from(data.len()).unwrap_or(0))?;
+    draft.octets.extend_from_slice(data)?;
+    let count = number16(&draft.octets, section);
+    set16(&mut draft.octets, section, count.saturating_add(1));
+    Ok(())
 }

@@ -28,15 +28,6 @@ pub(crate) struct Run {
     pub number: u32,
 }
 
-/// The configuration of a turn.
-fn config_of(alloc: Global, turn: Turn) -> Result<Config, Fault> {
-    let text = turn.text(alloc)?;
-    match Config::read(alloc, alloc, text.as_str()) {
-        Ok(config) => Ok(config),
-        Err(_) => Err(Fault::Configuration),
-    }
-}
-
 impl Run {
     pub(crate) fn new(alloc: Global) -> Run {
         Run {
@@ -104,5 +95,14 @@ impl Run {
             return Ok(last_tick(words, ledger));
         }
         draw(alloc, &mut self.draws, turn, (words, self.number), ledger)
+    }
+}
+
+/// The configuration of a turn.
+fn config_of(alloc: Global, turn: Turn) -> Result<Config, Fault> {
+    let text = turn.text(alloc)?;
+    match Config::read(alloc, alloc, text.as_str()) {
+        Ok(config) => Ok(config),
+        Err(_) => Err(Fault::Configuration),
     }
 }

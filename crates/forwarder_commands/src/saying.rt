@@ -21,20 +21,6 @@ pub(crate) fn say_of<R: Print, T: Display, U: Display>(rt: &R, what: &T, reason:
     let _ = println!(rt; "{what}: {reason}");
 }
 
-/// The name of a file, and a reason. A name that is no text, or has control characters, is shown
-/// with escapes.
-fn say_of_file<R: Print, T: Display>(rt: &R, name: &[u8], reason: &T) {
-    match str::from_utf8(name) {
-        Ok(text) if !text.chars().any(char::is_control) => say_of(rt, &text, reason),
-        _ => say_of(rt, &name.escape_ascii(), reason),
-    }
-}
-
-/// Whether memory ran out, about which nothing is printed.
-fn is_want_of_memory(error: &io::Error) -> bool {
-    error.kind() == ErrorKind::OutOfMemory
-}
-
 /// The fault of a file that the system does not open.
 pub(crate) fn unopened<R: Print>(rt: &R, name: &[u8], error: io::Error) -> ReplayFault
     ensures { result ≡ device_fault (error_kind error) }
@@ -61,4 +47,18 @@ pub(crate) fn unlistened<R: Print>(rt: &R, listen: Peer, error: io::Error) -> Re
         say_of(rt, &listen, &error);
     }
     ReplayFault::from(error)
+}
+
+/// Whether memory ran out, about which nothing is printed.
+fn is_want_of_memory(error: &io::Error) -> bool {
+    error.kind() == ErrorKind::OutOfMemory
+}
+
+/// The name of a file, and a reason. A name that is no text, or has control characters, is shown
+/// with escapes.
+fn say_of_file<R: Print, T: Display>(rt: &R, name: &[u8], reason: &T) {
+    match str::from_utf8(name) {
+        Ok(text) if !text.chars().any(char::is_control) => say_of(rt, &text, reason),
+        _ => say_of(rt, &name.escape_ascii(), reason),
+    }
 }

@@ -25,6 +25,29 @@ use std::rt::Clock;
 use suffix_routes::Config;
 use wires::Wire;
 
+/// Serves as many turns as were asked for by the configuration, at its address, under its limits,
+/// and writes a line with the counts. `Device` if the address can't be listened at, which standard
+/// output says with the system's reason, or the writer fails; `Memory` if memory ran out.
+pub fn serve_config<R, A, T>(
+    rt: &R,
+    alloc: A,
+    config: Config<A>,
+    turns: Turns,
+    writer: &mut T,
+) -> Result<(), Fault>
+where
+    R: Print + Net + Clock + RandomSource,
+    A: Allocator + Copy,
+    T: Write,
+    ensures serves { OnOk result (ServesFrom (record { config = config; state = start config }) turns.number
+        (T.contents writer.old) (T.contents writer.new)) }
+    ensures fault { IfErr result IsFaultOfStream }
+{
+    let mut wire = wire_of(rt, alloc, &config)?;
+    let mut forwarder = forwarder_of(rt, alloc, config)?;
+    serve_as_one(alloc, &mut wire, &mut forwarder, turns.number(), writer)
+}
+
 /// A wire that listens at the address of the configuration, with its limits. `Device` if the system
 /// refuses the address, with the system's reason on standard output; `Memory` if memory ran out.
 fn wire_of<'a, R: Print + Net + Clock + RandomSource, A: Allocator + Copy>(
@@ -56,6 +79,25 @@ fn forwarder_of<R: RandomSource, A: Allocator + Copy>(
     Ok(forwarder)
 }
 
+/// Serves `turns` turns over sockets with a forwarder of one configuration with its wire. What the
+/// wire gave from then on is what the turns took, and what they put is what it was asked to do.
+fn serve_as_one<R: Net + Clock, A: Allocator + Copy, T: Write>(
+    alloc: A,
+    wire: &mut MioWire<'_, R, A>,
+    forwarder: &mut Forwarder<RandomState, A>,
+    turns: u64,
+    writer: &mut T,
+) -> Result<(), Fault>
+    requires { wire.old.deadline ≡ forwarder.old.config.limits.deadline_ms }
+    ensures stops { IfErr result (StopsServing forwarder.old (telling_of wire.old) turns forwarder.new
+        (telling_of wire.new) (T.contents writer.old) (T.contents writer.new)) }
+    ensures serves { OnOk result (ServesAndTells forwarder.old (telling_of wire.old) turns forwarder.new
+        (telling_of wire.new) (T.contents writer.old) (T.contents writer.new)) }
+    ensures fault { IfErr result IsFaultOfStream }
+{
+    serve_and_tell(alloc, wire, forwarder, turns, writer)
+}
+
 /// Serves `turns` turns over a wire, and writes a line with the counts.
 fn serve_and_tell<H, A, W, T>(
     alloc: A,
@@ -84,46 +126,4 @@ where
     };
     writeln!(writer, "{}", Counted::of(served))?;
     Ok(())
-}
-
-/// Serves `turns` turns over sockets with a forwarder of one configuration with its wire. What the
-/// wire gave from then on is what the turns took, and what they put is what it was asked to do.
-fn serve_as_one<R: Net + Clock, A: Allocator + Copy, T: Write>(
-    alloc: A,
-    wire: &mut MioWire<'_, R, A>,
-    forwarder: &mut Forwarder<RandomState, A>,
-    turns: u64,
-    writer: &mut T,
-) -> Result<(), Fault>
-    requires { wire.old.deadline ≡ forwarder.old.config.limits.deadline_ms }
-    ensures stops { IfErr result (StopsServing forwarder.old (telling_of wire.old) turns forwarder.new
-        (telling_of wire.new) (T.contents writer.old) (T.contents writer.new)) }
-    ensures serves { OnOk result (ServesAndTells forwarder.old (telling_of wire.old) turns forwarder.new
-        (telling_of wire.new) (T.contents writer.old) (T.contents writer.new)) }
-    ensures fault { IfErr result IsFaultOfStream }
-{
-    serve_and_tell(alloc, wire, forwarder, turns, writer)
-}
-
-/// Serves as many turns as were asked for by the configuration, at its address, under its limits,
-/// and writes a line with the counts. `Device` if the address can't be listened at, which standard
-/// output says with the system's reason, or the writer fails; `Memory` if memory ran out.
-pub fn serve_config<R, A, T>(
-    rt: &R,
-    alloc: A,
-    config: Config<A>,
-    turns: Turns,
-    writer: &mut T,
-) -> Result<(), Fault>
-where
-    R: Print + Net + Clock + RandomSource,
-    A: Allocator + Copy,
-    T: Write,
-    ensures serves { OnOk result (ServesFrom (record { config = config; state = start config }) turns.number
-        (T.contents writer.old) (T.contents writer.new)) }
-    ensures fault { IfErr result IsFaultOfStream }
-{
-    let mut wire = wire_of(rt, alloc, &config)?;
-    let mut forwarder = forwarder_of(rt, alloc, config)?;
-    serve_as_one(alloc, &mut wire, &mut forwarder, turns.number(), writer)
 }

@@ -44,28 +44,6 @@ pub fn close_inquiry<A: Allocator>(
     }
 }
 
-/// Ends the ask on a path, and lists the next one, if any. Returns the ended ask with the key of
-/// its question.
-fn end_or_replace<A: Allocator>(
-    inquiries: &mut Inquiries<A>,
-    path: Path,
-    next: Option<Ask<A>>,
-) -> Option<KeyedAsk<A>>
-    requires listed { IsSome (ask_on path inquiries.old.asks) }
-    requires begins { IfSome next (λ ask. MayBegin ask (without_path path inquiries.old.asks)) }
-    ensures ended { result ≡ ask_on path inquiries.old.asks }
-    ensures asks { inquiries.new ≡ record inquiries.old {
-      asks = without_path path inquiries.old.asks
-          ++ ask_list next;
-    } }
-    ensures listed { AreListed inquiries.new }
-{
-    match next {
-        Some(ask) => Some(inquiries.replace(path, ask)),
-        None => inquiries.end(path),
-    }
-}
-
 /// Closes the ask on the path, and lists the next, if any. The questions waiting for it wait no
 /// more, or wait on as redirected.
 pub fn send_on<A: Allocator>(
@@ -111,4 +89,26 @@ pub fn forget_all<H: BuildHasher + Drop, A: Allocator + Copy>(
     cache.clear();
     inquiries.clear();
     waiting.clear();
+}
+
+/// Ends the ask on a path, and lists the next one, if any. Returns the ended ask with the key of
+/// its question.
+fn end_or_replace<A: Allocator>(
+    inquiries: &mut Inquiries<A>,
+    path: Path,
+    next: Option<Ask<A>>,
+) -> Option<KeyedAsk<A>>
+    requires listed { IsSome (ask_on path inquiries.old.asks) }
+    requires begins { IfSome next (λ ask. MayBegin ask (without_path path inquiries.old.asks)) }
+    ensures ended { result ≡ ask_on path inquiries.old.asks }
+    ensures asks { inquiries.new ≡ record inquiries.old {
+      asks = without_path path inquiries.old.asks
+          ++ ask_list next;
+    } }
+    ensures listed { AreListed inquiries.new }
+{
+    match next {
+        Some(ask) => Some(inquiries.replace(path, ask)),
+        None => inquiries.end(path),
+    }
 }

@@ -32,6 +32,22 @@ pub(crate) fn living_entry<'a, H: BuildHasher + Drop, A: Allocator + Copy>(
     }
 }
 
+/// The entry, if a set.
+pub(crate) fn set_in<A: Allocator>(held: Option<&Held<A>>) -> Option<&Held<A>>
+    ensures { option_copied result ≡ only is_set (option_copied held.entry) }
+{
+    let held = held?;
+    if is_set(held) { Some(held) } else { None }
+}
+
+/// The entry, if NODATA.
+pub(crate) fn no_data_in<A: Allocator>(held: Option<&Held<A>>) -> Option<&Held<A>>
+    ensures { option_copied result ≡ only is_no_data (option_copied held.entry) }
+{
+    let held = held?;
+    if is_no_data(held) { Some(held) } else { None }
+}
+
 /// Whether an entry is a set.
 fn is_set<A: Allocator>(held: &Held<A>) -> bool
     ensures { result ≡ is_set held.now }
@@ -50,20 +66,4 @@ fn is_no_data<A: Allocator>(held: &Held<A>) -> bool
         Body::NoData(_) => true,
         _ => false,
     }
-}
-
-/// The entry, if a set.
-pub(crate) fn set_in<A: Allocator>(held: Option<&Held<A>>) -> Option<&Held<A>>
-    ensures { option_copied result ≡ only is_set (option_copied held.entry) }
-{
-    let held = held?;
-    if is_set(held) { Some(held) } else { None }
-}
-
-/// The entry, if NODATA.
-pub(crate) fn no_data_in<A: Allocator>(held: Option<&Held<A>>) -> Option<&Held<A>>
-    ensures { option_copied result ≡ only is_no_data (option_copied held.entry) }
-{
-    let held = held?;
-    if is_no_data(held) { Some(held) } else { None }
 }

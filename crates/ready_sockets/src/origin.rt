@@ -24,14 +24,6 @@ pub enum Origin {
     Server(u64),
 }
 
-/// The number of a socket of this kind, below 8.
-fn numbered(kind: usize, number: u64) -> usize
-    requires { kind < 8 }
-    ensures { result ≡ number % 2 ^ 61 * 8 + kind }
-{
-    (number % NUMBERS) as usize * 8 + kind
-}
-
 impl Origin {
     /// The token for the system's reports about the socket. A connection with a number of 2^61 or
     /// more shares the token of an earlier one.
@@ -63,4 +55,12 @@ impl Origin {
             _ => None,
         }
     }
+}
+
+/// The number of a socket of this kind, below 8.
+fn numbered(kind: usize, number: u64) -> usize
+    requires { kind < 8 }
+    ensures { result ≡ number % 2 ^ 61 * 8 + kind }
+{
+    (number % NUMBERS) as usize * 8 + kind
 }

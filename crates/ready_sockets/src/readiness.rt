@@ -22,134 +22,6 @@ use std::time::Duration;
 /// How many events of the system are taken at once.
 const EVENTS: usize = 64;
 
-/// Sockets that may be ready, by their tokens; they are tried in turn.
-#[derive(Drop)]
-struct Round<A: Allocator> {
-    tokens: BTreeSet<usize, A>,
-    /// The token of the socket that was tried last.
-    last: usize,
-}
-
-impl<A: Allocator> Round<A> {
-    /// No socket.
-    fn new(alloc: A) -> Round<A>
-        ensures { (result.tokens.keys ≡ []) × (result.last ≡ 0) }
-    {
-        Round {
-            tokens: BTreeSet::new(alloc),
-            last: 0,
-        }
-    }
-
-    /// The next socket after the last tried one; after the last of the list the first.
-    fn next(&mut self) -> Option<Origin>
-        ensures { Gives result self.old self.new }
-    {
-        if self.tokens.is_empty() {
-            return None;
-        }
-        let after = self.last.saturating_add(1);
-        let next = match self.tokens.range(after..).next() {
-            Some(token) => *token,
-            None => *self.tokens.first()?,
-        };
-        self.last = next;
-        Origin::of(Token(next))
-    }
-}
-
-/// The sockets that may be ready.
-#[derive(Drop)]
-struct Ready<A: Allocator> {
-    /// The socket for datagrams of clients.
-    datagrams: bool,
-    /// The listener and the connections of clients.
-    streams: Round<A>,
-    /// The sockets and connections of asks.
-    servers: Round<A>,
-}
-
-impl<A: Allocator + Copy> Ready<A> {
-    /// Notes the socket, unless memory ran out.
-    fn add(&mut self, origin: Origin)
-        ensures { Noted origin self.old self.new }
-    {
-        let Token(number) = origin.token();
-        match origin {
-            Origin::Datagrams => self.datagrams = true,
-            Origin::Connections | Origin::Client(_) => {
-                let _ = self.streams.tokens.insert(number);
-            }
-            Origin::Ask(_) | Origin::Server(_) => {
-                let _ = self.servers.tokens.insert(number);
-            }
-        }
-    }
-
-    /// Notes the socket that the event reports, unless memory ran out.
-    fn note(&mut self, event: &Event)
-        ensures { NotesEvent event.now self.old self.new }
-    {
-        if let Some(origin) = Origin::of(event.token()) {
-            self.add(origin);
-        }
-    }
-
-    /// Notes the sockets that the events report.
-    fn note_each(&mut self, events: &Events<A>)
-        ensures { NotedStay self.old self.new }
-    {
-        for event in events {
-            self.note(event);
-        }
-    }
-
-    /// The socket for datagrams may be ready, and nothing else.
-    fn has_datagrams_alone(&self) -> bool
-        ensures { IsTrue result ↔ HasDatagramsAlone self.now }
-    {
-        self.datagrams && self.streams.tokens.is_empty() && self.servers.tokens.is_empty()
-    }
-
-    /// Notes the socket no longer.
-    fn remove(&mut self, origin: Origin)
-        ensures { Dropped origin self.old self.new }
-    {
-        let Token(number) = origin.token();
-        match origin {
-            Origin::Datagrams => self.datagrams = false,
-            Origin::Connections | Origin::Client(_) => {
-                let _was = self.streams.tokens.remove(&number);
-            }
-            Origin::Ask(_) | Origin::Server(_) => {
-                let _was = self.servers.tokens.remove(&number);
-            }
-        }
-    }
-}
-
-/// Room for the events of a poll.
-fn room_for_events<A: Allocator + Copy>(alloc: A) -> Result<Events<A>, AllocError>
-    ensures { IfOk result (λ events. events_capacity events ≡ 64) }
-{
-    Events::with_capacity(alloc, EVENTS)
-}
-
-/// The pause of a poll, of `millis` milliseconds.
-fn pause_of(millis: u64) -> Option<Duration>
-    ensures { IsSomeAnd result (λ pause. as_nanos pause ≡ millis * 1_000_000) }
-{
-    Some(Duration::from_millis(millis))
-}
-
-/// A socket that is read from and written to.
-fn both_ways() -> Interest
-    ensures reads { is_readable result ≡ true }
-    ensures writes { is_writable result ≡ true }
-{
-    Interest::READABLE | Interest::WRITABLE
-}
-
 /// The sockets that may be ready: reported by the system, or to be tried all the same. Each socket
 /// stays until a call would have blocked. Contracts see which sockets may be ready, and the last
 /// turn.
@@ -285,4 +157,132 @@ impl<A: Allocator + Copy> Readiness<A> {
             _ => self.ready.servers.next(),
         }
     }
+}
+
+/// The sockets that may be ready.
+#[derive(Drop)]
+struct Ready<A: Allocator> {
+    /// The socket for datagrams of clients.
+    datagrams: bool,
+    /// The listener and the connections of clients.
+    streams: Round<A>,
+    /// The sockets and connections of asks.
+    servers: Round<A>,
+}
+
+impl<A: Allocator + Copy> Ready<A> {
+    /// Notes the socket, unless memory ran out.
+    fn add(&mut self, origin: Origin)
+        ensures { Noted origin self.old self.new }
+    {
+        let Token(number) = origin.token();
+        match origin {
+            Origin::Datagrams => self.datagrams = true,
+            Origin::Connections | Origin::Client(_) => {
+                let _ = self.streams.tokens.insert(number);
+            }
+            Origin::Ask(_) | Origin::Server(_) => {
+                let _ = self.servers.tokens.insert(number);
+            }
+        }
+    }
+
+    /// Notes the socket that the event reports, unless memory ran out.
+    fn note(&mut self, event: &Event)
+        ensures { NotesEvent event.now self.old self.new }
+    {
+        if let Some(origin) = Origin::of(event.token()) {
+            self.add(origin);
+        }
+    }
+
+    /// Notes the sockets that the events report.
+    fn note_each(&mut self, events: &Events<A>)
+        ensures { NotedStay self.old self.new }
+    {
+        for event in events {
+            self.note(event);
+        }
+    }
+
+    /// The socket for datagrams may be ready, and nothing else.
+    fn has_datagrams_alone(&self) -> bool
+        ensures { IsTrue result ↔ HasDatagramsAlone self.now }
+    {
+        self.datagrams && self.streams.tokens.is_empty() && self.servers.tokens.is_empty()
+    }
+
+    /// Notes the socket no longer.
+    fn remove(&mut self, origin: Origin)
+        ensures { Dropped origin self.old self.new }
+    {
+        let Token(number) = origin.token();
+        match origin {
+            Origin::Datagrams => self.datagrams = false,
+            Origin::Connections | Origin::Client(_) => {
+                let _was = self.streams.tokens.remove(&number);
+            }
+            Origin::Ask(_) | Origin::Server(_) => {
+                let _was = self.servers.tokens.remove(&number);
+            }
+        }
+    }
+}
+
+/// Sockets that may be ready, by their tokens; they are tried in turn.
+#[derive(Drop)]
+struct Round<A: Allocator> {
+    tokens: BTreeSet<usize, A>,
+    /// The token of the socket that was tried last.
+    last: usize,
+}
+
+impl<A: Allocator> Round<A> {
+    /// No socket.
+    fn new(alloc: A) -> Round<A>
+        ensures { (result.tokens.keys ≡ []) × (result.last ≡ 0) }
+    {
+        Round {
+            tokens: BTreeSet::new(alloc),
+            last: 0,
+        }
+    }
+
+    /// The next socket after the last tried one; after the last of the list the first.
+    fn next(&mut self) -> Option<Origin>
+        ensures { Gives result self.old self.new }
+    {
+        if self.tokens.is_empty() {
+            return None;
+        }
+        let after = self.last.saturating_add(1);
+        let next = match self.tokens.range(after..).next() {
+            Some(token) => *token,
+            None => *self.tokens.first()?,
+        };
+        self.last = next;
+        Origin::of(Token(next))
+    }
+}
+
+/// Room for the events of a poll.
+fn room_for_events<A: Allocator + Copy>(alloc: A) -> Result<Events<A>, AllocError>
+    ensures { IfOk result (λ events. events_capacity events ≡ 64) }
+{
+    Events::with_capacity(alloc, EVENTS)
+}
+
+/// A socket that is read from and written to.
+fn both_ways() -> Interest
+    ensures reads { is_readable result ≡ true }
+    ensures writes { is_writable result ≡ true }
+{
+    Interest::READABLE | Interest::WRITABLE
+}
+
+/// The pause of a poll, of `millis` milliseconds.
+fn pause_of(millis: u64) -> Option<Duration>
+    ensures { IsSomeAnd result (λ pause. as_nanos pause ≡ millis * 1_000_000) }
+{
+    Some(Duration::from_millis(millis))
 }

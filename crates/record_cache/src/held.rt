@@ -52,13 +52,6 @@ impl<A: Allocator> Held<A> {
         self.lifetime_ms().saturating_sub(age) / 1000
     }
 
-    /// The lifetime in milliseconds.
-    fn lifetime_ms(&self) -> u64
-        ensures { result ≡ 1000 * self.now.piece.lifetime }
-    {
-        1000 * u64::from(self.piece.lifetime)
-    }
-
     /// Whether this is a name error, the denial of a whole name (RFC 2308 2.1).
     pub(crate) fn is_name_error(&self) -> bool
         ensures { result ≡ is_name_error self.now.piece }
@@ -112,5 +105,12 @@ impl<A: Allocator> Held<A> {
                 alias: None,
             },
         }
+    }
+
+    /// The lifetime in milliseconds.
+    fn lifetime_ms(&self) -> u64
+        ensures { result ≡ 1000 * self.now.piece.lifetime }
+    {
+        1000 * u64::from(self.piece.lifetime)
     }
 }

@@ -25,15 +25,6 @@ pub struct Refusing<B: Allocator> {
     growths: Growths,
 }
 
-/// The number of allocations granted before a refusal, the number granted after each refusal, and
-/// the most octets of a granted allocation.
-#[derive(Drop)]
-struct Growths {
-    left: Cell<u64>,
-    refill: Cell<u64>,
-    most: Cell<usize>,
-}
-
 impl<B: Allocator> Refusing<B> {
     /// A handle on `inner` with ample memory.
     pub fn new(inner: B) -> Refusing<B> {
@@ -68,27 +59,6 @@ impl<B: Allocator> Refusing<B> {
     }
 }
 
-/// Whether the next allocation is refused. Counts the allocation otherwise.
-fn is_spent(growths: &Growths) -> bool {
-    match growths.left.get() {
-        0 => {
-            growths.left.set(growths.refill.get());
-            true
-        }
-        AMPLE => false,
-        count => {
-            growths.left.set(count - 1);
-            false
-        }
-    }
-}
-
-/// Whether the next allocation, of this number of octets, is refused. Counts the allocation unless
-/// too large.
-fn is_refused(growths: &Growths, size: usize) -> bool {
-    size > growths.most.get() || is_spent(growths)
-}
-
 unsafe impl<B: Allocator> Allocator for Refusing<B> {
     // A block is the inner allocator's own, and so is the right to free the block.
     ghost dealloc_token = { λ heap layout block. B.dealloc_token heap.inner layout block };
@@ -102,5 +72,35 @@ unsafe impl<B: Allocator> Allocator for Refusing<B> {
 
     unsafe fn deallocate(&self, ptr: *mut u8, size: usize, align: usize) {
         self.inner.deallocate(ptr, size, align);
+    }
+}
+
+/// The number of allocations granted before a refusal, the number granted after each refusal, and
+/// the most octets of a granted allocation.
+#[derive(Drop)]
+struct Growths {
+    left: Cell<u64>,
+    refill: Cell<u64>,
+    most: Cell<usize>,
+}
+
+/// Whether the next allocation, of this number of octets, is refused. Counts the allocation unless
+/// too large.
+fn is_refused(growths: &Growths, size: usize) -> bool {
+    size > growths.most.get() || is_spent(growths)
+}
+
+/// Whether the next allocation is refused. Counts the allocation otherwise.
+fn is_spent(growths: &Growths) -> bool {
+    match growths.left.get() {
+        0 => {
+            growths.left.set(growths.refill.get());
+            true
+        }
+        AMPLE => false,
+        count => {
+            growths.left.set(count - 1);
+            false
+        }
     }
 }

@@ -22,13 +22,6 @@ pub(crate) struct Moments<'a, R: Clock> {
     given: CallLog<u64, ()>,
 }
 
-/// Returns the whole ms of a time, at most 2^64 - 1.
-fn moment_of(spent: Duration) -> u64
-    ensures { result ≡ moment_of spent }
-{
-    u64::try_from(spent.as_millis()).unwrap_or(u64::MAX)
-}
-
 impl<'a, R: Clock> Moments<'a, R> {
     /// Starts with no moment returned yet. `Err` if the clock fails.
     pub fn new(rt: &'a R) -> io::Result<Moments<'a, R>>
@@ -92,4 +85,11 @@ impl<'a, R: Clock> Moments<'a, R> {
             self.last = self.last.max(moment_of(spent));
         }
     }
+}
+
+/// Returns the whole ms of a time, at most 2^64 - 1.
+fn moment_of(spent: Duration) -> u64
+    ensures { result ≡ moment_of spent }
+{
+    u64::try_from(spent.as_millis()).unwrap_or(u64::MAX)
 }

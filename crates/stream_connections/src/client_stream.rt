@@ -75,13 +75,6 @@ impl<A: Allocator + Copy> ClientStream<A> {
         self.is_idle() && now.saturating_sub(self.active) >= REST
     }
 
-    /// Whether the client sends nothing more and waits for nothing.
-    fn is_done(&self) -> bool
-        ensures { result ≡ is_done self.now }
-    {
-        self.ended && self.is_idle()
-    }
-
     /// Whether the client has been silent for too long (RFC 7766 6.2.3). With replies due,
     /// `deadline` ms more are allowed.
     pub fn is_late(&self, now: u64, deadline: u64) -> bool
@@ -93,6 +86,27 @@ impl<A: Allocator + Copy> ClientStream<A> {
         let silent = now.saturating_sub(self.active);
         let allowed = if self.unanswered == 0 { 0 } else { deadline };
         silent >= PATIENCE && silent - PATIENCE >= allowed
+    }
+
+    /// Sends the octets left, and reads into the buffer.
+    pub fn serve(&mut self, buffer: &mut [u8], now: u64) -> Heard
+        ensures { Serves result now buffer.new self.old self.new }
+    {
+        let sent = self.send(now);
+        self.receive_after(sent, buffer, now)
+    }
+
+    /// Sends a reply after its length in two octets (RFC 1035 4.2.2). Returns whether the
+    /// connection goes on.
+    pub fn reply(&mut self, alloc: A, reply: &[u8], now: u64) -> Result<bool, Lost>
+        ensures { Replies reply.now now result self.old self.new }
+    {
+        if self.is_too_much(reply.len()) {
+            return Err(Lost::TooMuch);
+        }
+        self.list(frame(alloc, reply)?, now)?;
+        let sent = self.send(now);
+        self.goes_on_after(sent)
     }
 
     /// Sends as many octets of the replies as the stream takes. `Err` if the stream takes none any
@@ -123,33 +137,6 @@ impl<A: Allocator + Copy> ClientStream<A> {
         }
     }
 
-    /// Counts the messages that end in a piece of the stream.
-    fn heard(&mut self, piece: &[u8], now: u64)
-        ensures { HearsPiece piece.now now self.old self.new }
-    {
-        let messages = self.within.count(piece);
-        self.unanswered = self.unanswered.saturating_add(messages);
-        if messages > 0 {
-            self.active = now;
-        }
-    }
-
-    /// Notes a message's reply.
-    fn replied(&mut self, now: u64)
-        ensures { self.new ≡ record self.old { unanswered = self.old.unanswered - 1; active = now } }
-    {
-        self.unanswered = self.unanswered.saturating_sub(1);
-        self.active = now;
-    }
-
-    /// Sends the octets left, and reads into the buffer.
-    pub fn serve(&mut self, buffer: &mut [u8], now: u64) -> Heard
-        ensures { Serves result now buffer.new self.old self.new }
-    {
-        let sent = self.send(now);
-        self.receive_after(sent, buffer, now)
-    }
-
     /// Reads into the buffer, unless the send before failed.
     fn receive_after(&mut self, sent: io::Result<()>, buffer: &mut [u8], now: u64) -> Heard
         ensures ok { OnOk sent (Receives result now buffer.new self.old self.new) }
@@ -172,17 +159,6 @@ impl<A: Allocator + Copy> ClientStream<A> {
         self.hear(answer, buffer, now)
     }
 
-    /// Returns `Done` or `Nothing` for a client that sends nothing now.
-    fn silence(&self) -> Heard
-        ensures { result ≡ silence_of self.now }
-    {
-        if self.is_done() {
-            Heard::Done
-        } else {
-            Heard::Nothing
-        }
-    }
-
     /// Notes the stream's answer to a read into the buffer: a piece, the end, or neither.
     fn hear(&mut self, answer: io::Result<usize>, buffer: &[u8], now: u64) -> Heard
         requires within { ReadsAtMost answer buffer.now }
@@ -202,6 +178,35 @@ impl<A: Allocator + Copy> ClientStream<A> {
         }
     }
 
+    /// Counts the messages that end in a piece of the stream.
+    fn heard(&mut self, piece: &[u8], now: u64)
+        ensures { HearsPiece piece.now now self.old self.new }
+    {
+        let messages = self.within.count(piece);
+        self.unanswered = self.unanswered.saturating_add(messages);
+        if messages > 0 {
+            self.active = now;
+        }
+    }
+
+    /// Returns `Done` or `Nothing` for a client that sends nothing now.
+    fn silence(&self) -> Heard
+        ensures { result ≡ silence_of self.now }
+    {
+        if self.is_done() {
+            Heard::Done
+        } else {
+            Heard::Nothing
+        }
+    }
+
+    /// Whether a reply of `octets` octets would leave more than 1 MiB.
+    fn is_too_much(&self, octets: usize) -> bool
+        ensures { result ≡ nat_lt (2 ^ 20) (length self.now.unsent.left + octets + 2) }
+    {
+        self.unsent.len().saturating_add(octets) > MOST_UNSENT - 2
+    }
+
     /// Appends the frame of a reply to the octets left.
     fn list(&mut self, frame: Octets<A>, now: u64) -> Result<(), AllocError>
         ensures ok { OnOk result (self.new ≡ with_frame frame now self.old) }
@@ -216,24 +221,12 @@ impl<A: Allocator + Copy> ClientStream<A> {
         Ok(())
     }
 
-    /// Whether a reply of `octets` octets would leave more than 1 MiB.
-    fn is_too_much(&self, octets: usize) -> bool
-        ensures { result ≡ nat_lt (2 ^ 20) (length self.now.unsent.left + octets + 2) }
+    /// Notes a message's reply.
+    fn replied(&mut self, now: u64)
+        ensures { self.new ≡ record self.old { unanswered = self.old.unanswered - 1; active = now } }
     {
-        self.unsent.len().saturating_add(octets) > MOST_UNSENT - 2
-    }
-
-    /// Sends a reply after its length in two octets (RFC 1035 4.2.2). Returns whether the
-    /// connection goes on.
-    pub fn reply(&mut self, alloc: A, reply: &[u8], now: u64) -> Result<bool, Lost>
-        ensures { Replies reply.now now result self.old self.new }
-    {
-        if self.is_too_much(reply.len()) {
-            return Err(Lost::TooMuch);
-        }
-        self.list(frame(alloc, reply)?, now)?;
-        let sent = self.send(now);
-        self.goes_on_after(sent)
+        self.unanswered = self.unanswered.saturating_sub(1);
+        self.active = now;
     }
 
     /// Returns whether the connection goes on after this send. `Err` if the stream takes nothing
@@ -246,5 +239,12 @@ impl<A: Allocator + Copy> ClientStream<A> {
             Ok(()) => Ok(!self.is_done()),
             Err(_) => Err(Lost::Gone),
         }
+    }
+
+    /// Whether the client sends nothing more and waits for nothing.
+    fn is_done(&self) -> bool
+        ensures { result ≡ is_done self.now }
+    {
+        self.ended && self.is_idle()
     }
 }

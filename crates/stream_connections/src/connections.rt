@@ -96,22 +96,6 @@ impl<A: Allocator + Copy> Connections<A> {
         }
     }
 
-    /// Closes the oldest client's connection that waits for nothing; false if there is none.
-    #[tactic(auto, using(crate::proofs::Ends::fewer_without_idle))]
-    fn close_oldest(&mut self) -> bool
-        ensures closed { self.new ≡ without_first (first_idle self.old.clients) self.old }
-        ensures found { result ≡ is_some (first_idle self.old.clients) }
-        ensures fewer { IsTrue result → length self.new.clients < length self.old.clients }
-    {
-        match self.clients.oldest_idle() {
-            Some(conn) => {
-                self.close_client(conn);
-                true
-            }
-            None => false,
-        }
-    }
-
     /// Closes the oldest client's connection that has waited for nothing for a second; false if
     /// there is none.
     pub fn close_resting(&mut self, now: u64) -> bool
@@ -227,5 +211,21 @@ impl<A: Allocator + Copy> Connections<A> {
         ensures { result ≡ nat_lt 0 (length self.now.servers) }
     {
         !self.servers.is_empty()
+    }
+
+    /// Closes the oldest client's connection that waits for nothing; false if there is none.
+    #[tactic(auto, using(crate::proofs::Ends::fewer_without_idle))]
+    fn close_oldest(&mut self) -> bool
+        ensures closed { self.new ≡ without_first (first_idle self.old.clients) self.old }
+        ensures found { result ≡ is_some (first_idle self.old.clients) }
+        ensures fewer { IsTrue result → length self.new.clients < length self.old.clients }
+    {
+        match self.clients.oldest_idle() {
+            Some(conn) => {
+                self.close_client(conn);
+                true
+            }
+            None => false,
+        }
     }
 }

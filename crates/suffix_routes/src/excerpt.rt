@@ -54,6 +54,24 @@ impl Excerpt {
     }
 }
 
+/// The text between quotation marks, with unprintable characters escaped. Of a text of 64 octets or
+/// more, the whole characters in its first 63 octets are shown, and two dots after the quotation
+/// marks.
+impl fmt::Display for Excerpt {
+    fn fmt<W: fmt::Write>(&self, f: &mut fmt::Formatter<W>) -> fmt::Result {
+        let octets = self.octets();
+        let shown = characters(octets.get(..63).unwrap_or(octets));
+        let dots = if octets.len() < 64 { "" } else { ".." };
+        write!(f, "{shown:?}{dots}")
+    }
+}
+
+impl fmt::Debug for Excerpt {
+    fn fmt<W: fmt::Write>(&self, f: &mut fmt::Formatter<W>) -> fmt::Result {
+        fmt::Display::fmt(self, f)
+    }
+}
+
 /// The excerpt with these octets.
 fn kept(octets: &[u8]) -> Excerpt
     requires { length octets.now ≤ 64 }
@@ -81,23 +99,5 @@ fn characters(octets: &[u8]) -> &str {
     match str::from_utf8(octets) {
         Ok(text) => text,
         Err(error) => str::from_utf8(&octets[..error.valid_up_to()]).unwrap_or(""),
-    }
-}
-
-/// The text between quotation marks, with unprintable characters escaped. Of a text of 64 octets or
-/// more, the whole characters in its first 63 octets are shown, and two dots after the quotation
-/// marks.
-impl fmt::Display for Excerpt {
-    fn fmt<W: fmt::Write>(&self, f: &mut fmt::Formatter<W>) -> fmt::Result {
-        let octets = self.octets();
-        let shown = characters(octets.get(..63).unwrap_or(octets));
-        let dots = if octets.len() < 64 { "" } else { ".." };
-        write!(f, "{shown:?}{dots}")
-    }
-}
-
-impl fmt::Debug for Excerpt {
-    fn fmt<W: fmt::Write>(&self, f: &mut fmt::Formatter<W>) -> fmt::Result {
-        fmt::Display::fmt(self, f)
     }
 }

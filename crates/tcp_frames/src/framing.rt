@@ -17,25 +17,19 @@ pub enum Within {
     Message(NonZeroU16),
 }
 
-/// The position after a whole message, or before the rest of an unfinished message.
-fn before(left: u16) -> Within
-    ensures { Leaves left result }
-{
-    match NonZeroU16::new(left) {
-        Some(left) => Within::Message(left),
-        None => Within::Nothing,
-    }
-}
-
 impl Within {
-    /// The number of frames that end exactly at this position.
-    fn ended(self) -> usize
-        ensures { result ≡ ended self }
+    /// Advances by a piece of the stream; returns the number of frames that end in the piece.
+    pub fn count(&mut self, piece: &[u8]) -> usize
+        ensures { (rest : List ℕ) → Stands self.old rest → Counts rest piece.now result self.new }
     {
-        match self {
-            Within::Nothing => 1,
-            Within::Length(_) | Within::Message(_) => 0,
+        let mut ended = 0;
+        let mut rest = piece;
+        while !rest.is_empty() {
+            let count = self.advance(rest);
+            rest = &rest[count..];
+            ended += self.ended();
         }
+        ended
     }
 
     /// Goes on by the beginning of a piece, at most to the end of a frame; returns the number of
@@ -63,17 +57,23 @@ impl Within {
         }
     }
 
-    /// Advances by a piece of the stream; returns the number of frames that end in the piece.
-    pub fn count(&mut self, piece: &[u8]) -> usize
-        ensures { (rest : List ℕ) → Stands self.old rest → Counts rest piece.now result self.new }
+    /// The number of frames that end exactly at this position.
+    fn ended(self) -> usize
+        ensures { result ≡ ended self }
     {
-        let mut ended = 0;
-        let mut rest = piece;
-        while !rest.is_empty() {
-            let count = self.advance(rest);
-            rest = &rest[count..];
-            ended += self.ended();
+        match self {
+            Within::Nothing => 1,
+            Within::Length(_) | Within::Message(_) => 0,
         }
-        ended
+    }
+}
+
+/// The position after a whole message, or before the rest of an unfinished message.
+fn before(left: u16) -> Within
+    ensures { Leaves left result }
+{
+    match NonZeroU16::new(left) {
+        Some(left) => Within::Message(left),
+        None => Within::Nothing,
     }
 }

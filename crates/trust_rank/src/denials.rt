@@ -27,30 +27,6 @@ pub(crate) fn is_name_under<A: Allocator>(name: &Name<A>, suffix: &Name<A>) -> b
     name.is_under(suffix)
 }
 
-/// The record is an SOA of the class whose owner is at or above the name.
-fn is_soa_for<A: Allocator>(record: &Record<A>, name: &Name<A>, class: u16) -> bool
-    ensures { result ≡ is_soa_for name.now class record.now }
-{
-    record.kind == SOA && record.class == class && is_name_under(name, &record.owner)
-}
-
-/// The first fitting SOA record of the authority section for a denial at the name.
-fn find_soa<'a, A: Allocator>(
-    name: &Name<A>,
-    class: u16,
-    authority: &'a [Record<A>],
-) -> Option<&'a Record<A>>
-    ensures { MatchOption result (soa_for name.now class authority.now ≡ None)
-        (λ soa. soa_for name.now class authority.now ≡ Some soa.now) }
-{
-    for record in authority {
-        if is_soa_for(record, name, class) {
-            return Some(record);
-        }
-    }
-    None
-}
-
 /// A boxed copy of the SOA record for a denial at the name.
 pub(crate) fn soa_for<A: Allocator + Copy>(
     alloc: A,
@@ -65,36 +41,6 @@ pub(crate) fn soa_for<A: Allocator + Copy>(
     match find_soa(name, class, authority) {
         None => Ok(None),
         Some(soa) => Ok(Some(boxed_copy(alloc, soa)?)),
-    }
-}
-
-/// MINIMUM, the last field of an SOA's data, in seconds (RFC 1035 3.3.13, RFC 2308 4).
-fn minimum_from(rdata: &[u8]) -> u32
-    requires { 4 ≤ length rdata.now }
-    ensures { result ≡ minimum_of rdata.now }
-{
-    BigEndian::read_u32(&rdata[rdata.len() - 4..])
-}
-
-/// The lifetime of a denial with this SOA, in seconds: the least of the SOA's TTL, its MINIMUM and
-/// three hours (RFC 2308 5).
-fn lifetime_from<A: Allocator>(soa: &Record<A>) -> u32
-    requires { IsSoa soa.now }
-    ensures { result ≡ denial_lifetime (Some soa.now) }
-{
-    seconds_from(soa.ttl)
-        .min(minimum_from(soa.rdata.octets()))
-        .min(LONGEST_DENIAL)
-}
-
-/// The lifetime of a denial, in seconds; a denial without SOA is used once and not kept.
-fn lifetime_with<A: Allocator>(soa: &Option<Box<Record<A>, A>>) -> u32
-    requires { IfSome (unboxed soa.now) IsSoa }
-    ensures { result ≡ denial_lifetime (unboxed soa.now) }
-{
-    match soa {
-        None => 0,
-        Some(soa) => lifetime_from(soa.as_ref()),
     }
 }
 
@@ -142,4 +88,58 @@ pub(crate) fn name_error<A: Allocator + Copy>(
         rank: source.rank,
         route: source.route,
     })
+}
+
+/// The first fitting SOA record of the authority section for a denial at the name.
+fn find_soa<'a, A: Allocator>(
+    name: &Name<A>,
+    class: u16,
+    authority: &'a [Record<A>],
+) -> Option<&'a Record<A>>
+    ensures { MatchOption result (soa_for name.now class authority.now ≡ None)
+        (λ soa. soa_for name.now class authority.now ≡ Some soa.now) }
+{
+    for record in authority {
+        if is_soa_for(record, name, class) {
+            return Some(record);
+        }
+    }
+    None
+}
+
+/// The record is an SOA of the class whose owner is at or above the name.
+fn is_soa_for<A: Allocator>(record: &Record<A>, name: &Name<A>, class: u16) -> bool
+    ensures { result ≡ is_soa_for name.now class record.now }
+{
+    record.kind == SOA && record.class == class && is_name_under(name, &record.owner)
+}
+
+/// The lifetime of a denial, in seconds; a denial without SOA is used once and not kept.
+fn lifetime_with<A: Allocator>(soa: &Option<Box<Record<A>, A>>) -> u32
+    requires { IfSome (unboxed soa.now) IsSoa }
+    ensures { result ≡ denial_lifetime (unboxed soa.now) }
+{
+    match soa {
+        None => 0,
+        Some(soa) => lifetime_from(soa.as_ref()),
+    }
+}
+
+/// The lifetime of a denial with this SOA, in seconds: the least of the SOA's TTL, its MINIMUM and
+/// three hours (RFC 2308 5).
+fn lifetime_from<A: Allocator>(soa: &Record<A>) -> u32
+    requires { IsSoa soa.now }
+    ensures { result ≡ denial_lifetime (Some soa.now) }
+{
+    seconds_from(soa.ttl)
+        .min(minimum_from(soa.rdata.octets()))
+        .min(LONGEST_DENIAL)
+}
+
+/// MINIMUM, the last field of an SOA's data, in seconds (RFC 1035 3.3.13, RFC 2308 4).
+fn minimum_from(rdata: &[u8]) -> u32
+    requires { 4 ≤ length rdata.now }
+    ensures { result ≡ minimum_of rdata.now }
+{
+    BigEndian::read_u32(&rdata[rdata.len() - 4..])
 }

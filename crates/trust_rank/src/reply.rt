@@ -87,6 +87,78 @@ impl<'a, A: Allocator + Copy> Reply<'a, A> {
         }
     }
 
+    /// The finding at a name, first of the walk or not: the asked set, otherwise an alias,
+    /// otherwise a denial.
+    pub fn met_at(&self, alloc: A, is_first: bool, name: &Name<A>) -> Result<AtName<A>, AllocError>
+        ensures { IfOk result (λ met. met_of met ≡ met_at self.now is_first name.now) }
+    {
+        if !self.is_on_route(name) {
+            return Ok(AtName::Nothing);
+        }
+        if let Some(set) = self.answer_set(alloc, self.kind, name)? {
+            return Ok(set_met(self.kind, set));
+        }
+        if let Some(alias) = self.alias_set(alloc, name)? {
+            return alias_met(alloc, alias);
+        }
+        self.met_denial(alloc, is_first, name)
+    }
+
+    /// The CNAME set at the name. A question for CNAME follows none.
+    fn alias_set(&self, alloc: A, name: &Name<A>) -> Result<Option<Piece<A>>, AllocError>
+        ensures { IfOk result (λ s. s ≡ alias_set self.now name.now) }
+    {
+        if self.kind == CNAME {
+            return Ok(None);
+        }
+        self.answer_set(alloc, CNAME, name)
+    }
+
+    /// The set of this type in the answer section, at the name.
+    fn answer_set(
+        &self,
+        alloc: A,
+        kind: u16,
+        name: &Name<A>,
+    ) -> Result<Option<Piece<A>>, AllocError>
+        ensures { IfOk result (λ s. s ≡ answer_set self.now kind name.now) }
+    {
+        set_among(
+            alloc,
+            self.source_at(name),
+            self.answers,
+            &self.at_name(kind, name),
+        )
+    }
+
+    /// The finding at a name with neither the asked set nor an alias.
+    fn met_denial(&self, alloc: A, is_first: bool, name: &Name<A>) -> Result<AtName<A>, AllocError>
+        ensures { IfOk result (λ met. met_of met ≡ denial_at self.now is_first name.now) }
+    {
+        let soa = self.soa_for(alloc, name)?;
+        let source = self.source_at(name);
+        let denied = self.at_name(self.kind, name);
+        if self.rcode == NXDOMAIN {
+            return Ok(AtName::NameError(name_error(alloc, source, &denied, soa)?));
+        }
+        let lacks_soa = is_missing(&soa);
+        if lacks_soa && !is_first {
+            return Ok(AtName::Nothing);
+        }
+        if lacks_soa && self.is_referral() {
+            return Ok(AtName::Lame);
+        }
+        Ok(AtName::NoData(no_data(alloc, source, &denied, soa)?))
+    }
+
+    /// The boxed SOA for a denial at the name.
+    fn soa_for(&self, alloc: A, name: &Name<A>) -> Result<Option<Box<Record<A>, A>>, AllocError>
+        ensures found { IfOk result (λ soa. unboxed soa ≡ soa_for name.now self.now.question.class self.now.authority) }
+        ensures soa { IfOk result (λ soa. IfSome (unboxed soa) IsSoa) }
+    {
+        soa_for(alloc, name, self.class, self.authority)
+    }
+
     /// The rank of a piece at the name: highest for the asked name, by its own server.
     fn source_at(&self, name: &Name<A>) -> Source
         ensures rank { result.rank ≡ rank_at self.now name.now }
@@ -110,84 +182,12 @@ impl<'a, A: Allocator + Copy> Reply<'a, A> {
         }
     }
 
-    /// The set of this type in the answer section, at the name.
-    fn answer_set(
-        &self,
-        alloc: A,
-        kind: u16,
-        name: &Name<A>,
-    ) -> Result<Option<Piece<A>>, AllocError>
-        ensures { IfOk result (λ s. s ≡ answer_set self.now kind name.now) }
-    {
-        set_among(
-            alloc,
-            self.source_at(name),
-            self.answers,
-            &self.at_name(kind, name),
-        )
-    }
-
-    /// The CNAME set at the name. A question for CNAME follows none.
-    fn alias_set(&self, alloc: A, name: &Name<A>) -> Result<Option<Piece<A>>, AllocError>
-        ensures { IfOk result (λ s. s ≡ alias_set self.now name.now) }
-    {
-        if self.kind == CNAME {
-            return Ok(None);
-        }
-        self.answer_set(alloc, CNAME, name)
-    }
-
-    /// The boxed SOA for a denial at the name.
-    fn soa_for(&self, alloc: A, name: &Name<A>) -> Result<Option<Box<Record<A>, A>>, AllocError>
-        ensures found { IfOk result (λ soa. unboxed soa ≡ soa_for name.now self.now.question.class self.now.authority) }
-        ensures soa { IfOk result (λ soa. IfSome (unboxed soa) IsSoa) }
-    {
-        soa_for(alloc, name, self.class, self.authority)
-    }
-
     /// The authority section has name servers, and the reply is not authoritative: different
     /// servers are to be asked.
     fn is_referral(&self) -> bool
         ensures { result ≡ is_referral self.now }
     {
         !self.is_authoritative && has_name_servers(self.authority)
-    }
-
-    /// The finding at a name with neither the asked set nor an alias.
-    fn met_denial(&self, alloc: A, is_first: bool, name: &Name<A>) -> Result<AtName<A>, AllocError>
-        ensures { IfOk result (λ met. met_of met ≡ denial_at self.now is_first name.now) }
-    {
-        let soa = self.soa_for(alloc, name)?;
-        let source = self.source_at(name);
-        let denied = self.at_name(self.kind, name);
-        if self.rcode == NXDOMAIN {
-            return Ok(AtName::NameError(name_error(alloc, source, &denied, soa)?));
-        }
-        let lacks_soa = is_missing(&soa);
-        if lacks_soa && !is_first {
-            return Ok(AtName::Nothing);
-        }
-        if lacks_soa && self.is_referral() {
-            return Ok(AtName::Lame);
-        }
-        Ok(AtName::NoData(no_data(alloc, source, &denied, soa)?))
-    }
-
-    /// The finding at a name, first of the walk or not: the asked set, otherwise an alias,
-    /// otherwise a denial.
-    pub fn met_at(&self, alloc: A, is_first: bool, name: &Name<A>) -> Result<AtName<A>, AllocError>
-        ensures { IfOk result (λ met. met_of met ≡ met_at self.now is_first name.now) }
-    {
-        if !self.is_on_route(name) {
-            return Ok(AtName::Nothing);
-        }
-        if let Some(set) = self.answer_set(alloc, self.kind, name)? {
-            return Ok(set_met(self.kind, set));
-        }
-        if let Some(alias) = self.alias_set(alloc, name)? {
-            return alias_met(alloc, alias);
-        }
-        self.met_denial(alloc, is_first, name)
     }
 }
 

@@ -15,35 +15,42 @@ use dns_name::Name;
 use plain_values::PlainList;
 use std::alloc::{AllocError, Allocator};
 
-/// An NS record of the question's class, whose owner is at or above the asked name and on the
-/// route.
-fn is_server_for<A: Allocator + Copy>(reply: &Reply<'_, A>, record: &Record<A>) -> bool
-    ensures { result ≡ is_server_for reply.now record.now }
+/// The sets of the fitting NS records of the authority section whose owners have no piece yet, in
+/// order.
+pub(crate) fn servers_beside<'a, A: Allocator + Copy>(
+    alloc: A,
+    reply: &Reply<'a, A>,
+    pieces: &[Piece<A>],
+) -> Result<PlainList<Piece<A>, A>, AllocError>
+    ensures { IfOk result (λ sets. sets ≡ servers_from reply.now pieces.now reply.now.authority) }
 {
-    is_name_server(record)
-        && record.class == reply.class
-        && is_name_under(reply.name, &record.owner)
-        && reply.is_on_route(&record.owner)
+    let mut sets = PlainList::new(alloc);
+    let mut rest = reply.authority;
+    while let Some((first, others)) = rest.split_first() {
+        put_servers(alloc, reply, pieces, &mut sets, first, others)?;
+        rest = others;
+    }
+    Ok(sets)
 }
 
-fn is_owner<A: Allocator>(piece: &Piece<A>, name: &Name<A>) -> bool
-    ensures { result ≡ has_owner name.now piece.now }
+/// Puts the set that begins with this record last, if the record fits and its owner has no piece
+/// yet.
+fn put_servers<'a, A: Allocator + Copy>(
+    alloc: A,
+    reply: &Reply<'a, A>,
+    pieces: &[Piece<A>],
+    sets: &mut PlainList<Piece<A>, A>,
+    first: &'a Record<A>,
+    others: &'a [Record<A>],
+) -> Result<(), AllocError>
+    requires shaped { IsShaped first.now.kind first.now.rdata }
+    requires others_shaped { AreShaped others.now }
+    ensures { OnOk result (sets.new ≡ sets.old ++ servers_at reply.now (pieces.now ++ sets.old) first.now others.now) }
 {
-    is_same_name(&piece.owner, name)
-}
-
-fn is_among<A: Allocator>(pieces: &[Piece<A>], name: &Name<A>) -> bool
-    ensures { result ≡ list_any (has_owner name.now) pieces.now }
-{
-    pieces.iter().any(|piece| is_owner(piece, name))
-}
-
-/// A piece of either list has this owner.
-#[tactic(auto, using(crate::proofs::ServerLaws::among_both))]
-fn has_piece<A: Allocator>(pieces: &[Piece<A>], sets: &[Piece<A>], name: &Name<A>) -> bool
-    ensures { result ≡ list_any (has_owner name.now) (pieces.now ++ sets.now) }
-{
-    is_among(pieces, name) || is_among(sets, name)
+    if !begins_set(reply, pieces, sets.as_slice(), first) {
+        return Ok(());
+    }
+    sets.push(servers_with(alloc, reply, first, others)?)
 }
 
 /// The NS record fits, and its owner has no piece yet. The owner is looked for first: of many
@@ -61,6 +68,37 @@ fn begins_set<A: Allocator + Copy>(
         return false;
     }
     is_server_for(reply, record)
+}
+
+/// A piece of either list has this owner.
+#[tactic(auto, using(crate::proofs::ServerLaws::among_both))]
+fn has_piece<A: Allocator>(pieces: &[Piece<A>], sets: &[Piece<A>], name: &Name<A>) -> bool
+    ensures { result ≡ list_any (has_owner name.now) (pieces.now ++ sets.now) }
+{
+    is_among(pieces, name) || is_among(sets, name)
+}
+
+fn is_among<A: Allocator>(pieces: &[Piece<A>], name: &Name<A>) -> bool
+    ensures { result ≡ list_any (has_owner name.now) pieces.now }
+{
+    pieces.iter().any(|piece| is_owner(piece, name))
+}
+
+fn is_owner<A: Allocator>(piece: &Piece<A>, name: &Name<A>) -> bool
+    ensures { result ≡ has_owner name.now piece.now }
+{
+    is_same_name(&piece.owner, name)
+}
+
+/// An NS record of the question's class, whose owner is at or above the asked name and on the
+/// route.
+fn is_server_for<A: Allocator + Copy>(reply: &Reply<'_, A>, record: &Record<A>) -> bool
+    ensures { result ≡ is_server_for reply.now record.now }
+{
+    is_name_server(record)
+        && record.class == reply.class
+        && is_name_under(reply.name, &record.owner)
+        && reply.is_on_route(&record.owner)
 }
 
 /// The NS set that begins with this record.
@@ -84,42 +122,4 @@ fn servers_with<'a, A: Allocator + Copy>(
         class: first.class,
     };
     set_with(alloc, source, first, others, &key)
-}
-
-/// Puts the set that begins with this record last, if the record fits and its owner has no piece
-/// yet.
-fn put_servers<'a, A: Allocator + Copy>(
-    alloc: A,
-    reply: &Reply<'a, A>,
-    pieces: &[Piece<A>],
-    sets: &mut PlainList<Piece<A>, A>,
-    first: &'a Record<A>,
-    others: &'a [Record<A>],
-) -> Result<(), AllocError>
-    requires shaped { IsShaped first.now.kind first.now.rdata }
-    requires others_shaped { AreShaped others.now }
-    ensures { OnOk result (sets.new ≡ sets.old ++ servers_at reply.now (pieces.now ++ sets.old) first.now others.now) }
-{
-    if !begins_set(reply, pieces, sets.as_slice(), first) {
-        return Ok(());
-    }
-    sets.push(servers_with(alloc, reply, first, others)?)
-}
-
-/// The sets of the fitting NS records of the authority section whose owners have no piece yet, in
-/// order.
-pub(crate) fn servers_beside<'a, A: Allocator + Copy>(
-    alloc: A,
-    reply: &Reply<'a, A>,
-    pieces: &[Piece<A>],
-) -> Result<PlainList<Piece<A>, A>, AllocError>
-    ensures { IfOk result (λ sets. sets ≡ servers_from reply.now pieces.now reply.now.authority) }
-{
-    let mut sets = PlainList::new(alloc);
-    let mut rest = reply.authority;
-    while let Some((first, others)) = rest.split_first() {
-        put_servers(alloc, reply, pieces, &mut sets, first, others)?;
-        rest = others;
-    }
-    Ok(sets)
 }

@@ -73,6 +73,52 @@ pub(crate) fn seconds_from(ttl: u32) -> u32
     if ttl >= 1 << 31 { 0 } else { ttl }
 }
 
+/// The set that begins with this record and goes on in the rest.
+pub(crate) fn set_with<'a, A: Allocator + Copy>(
+    alloc: A,
+    source: Source,
+    first: &'a Record<A>,
+    others: &'a [Record<A>],
+    key: &SetKey<'_, A>,
+) -> Result<Piece<A>, AllocError>
+    requires shaped { IsShaped first.now.kind first.now.rdata }
+    requires others_shaped { AreShaped others.now }
+    requires kind { first.now.kind ≡ key.now.kind }
+    ensures { IfOk result (λ p. p ≡ set_with source.rank source.route first.now (records_for key.now others.now)) }
+{
+    let (rows, lifetime) = gather(alloc, first, others, key)?;
+    let owner = first.owner.copy(alloc)?;
+    Ok(Piece {
+        class: first.class,
+        kind: Some(first.kind),
+        owner,
+        body: Body::Rows(rows),
+        lifetime,
+        rank: source.rank,
+        route: source.route,
+    })
+}
+
+/// The set of these records, if any.
+pub(crate) fn set_among<'a, A: Allocator + Copy>(
+    alloc: A,
+    source: Source,
+    records: &'a [Record<A>],
+    key: &SetKey<'_, A>,
+) -> Result<Option<Piece<A>>, AllocError>
+    requires { AreShaped records.now }
+    ensures { IfOk result (λ s. s ≡ set_of source.rank source.route (records_for key.now records.now)) }
+{
+    let mut rest = records;
+    while let Some((first, others)) = rest.split_first() {
+        if key.includes(first) {
+            return Ok(Some(set_with(alloc, source, first, others, key)?));
+        }
+        rest = others;
+    }
+    Ok(None)
+}
+
 /// The data of a set and its lifetime, from the records so far.
 #[derive(Drop)]
 struct Gathered<'a, A: Allocator> {
@@ -80,25 +126,6 @@ struct Gathered<'a, A: Allocator> {
     /// The data after the first few.
     index: BTreeSet<&'a [u8], A>,
     lifetime: u32,
-}
-
-fn is_same_octets(a: &[u8], b: &[u8]) -> bool
-    ensures { result ≡ same_octets a.now b.now }
-{
-    a == b
-}
-
-fn is_among<A: Allocator>(octets: &[u8], rows: &[Rdata<A>]) -> bool
-    ensures { result ≡ list_any (same_octets octets.now) rows.now }
-{
-    rows.iter().any(|row| is_same_octets(octets, row.octets()))
-}
-
-/// The data compared one by one.
-fn first_few<A: Allocator>(rows: &[Rdata<A>]) -> &[Rdata<A>]
-    ensures { result.now ≡ take few rows.now }
-{
-    &rows[..rows.len().min(FEW)]
 }
 
 impl<'a, A: Allocator + Copy> Gathered<'a, A> {
@@ -159,17 +186,6 @@ impl<'a, A: Allocator + Copy> Gathered<'a, A> {
     }
 }
 
-/// Puts a copy of the data last.
-fn push_copy<A: Allocator + Copy>(
-    alloc: A,
-    rows: &mut PlainList<Rdata<A>, A>,
-    row: &Rdata<A>,
-) -> Result<(), AllocError>
-    ensures { OnOk result (rows.new ≡ rows.old ++ row.now ∷ []) }
-{
-    rows.push(row.copy(alloc)?)
-}
-
 /// The data and the lifetime of the set that begins with this record and goes on in the rest.
 fn gather<'a, A: Allocator + Copy>(
     alloc: A,
@@ -189,48 +205,32 @@ fn gather<'a, A: Allocator + Copy>(
     Ok((Rows::from_list(rows), lifetime))
 }
 
-/// The set that begins with this record and goes on in the rest.
-pub(crate) fn set_with<'a, A: Allocator + Copy>(
-    alloc: A,
-    source: Source,
-    first: &'a Record<A>,
-    others: &'a [Record<A>],
-    key: &SetKey<'_, A>,
-) -> Result<Piece<A>, AllocError>
-    requires shaped { IsShaped first.now.kind first.now.rdata }
-    requires others_shaped { AreShaped others.now }
-    requires kind { first.now.kind ≡ key.now.kind }
-    ensures { IfOk result (λ p. p ≡ set_with source.rank source.route first.now (records_for key.now others.now)) }
+fn is_among<A: Allocator>(octets: &[u8], rows: &[Rdata<A>]) -> bool
+    ensures { result ≡ list_any (same_octets octets.now) rows.now }
 {
-    let (rows, lifetime) = gather(alloc, first, others, key)?;
-    let owner = first.owner.copy(alloc)?;
-    Ok(Piece {
-        class: first.class,
-        kind: Some(first.kind),
-        owner,
-        body: Body::Rows(rows),
-        lifetime,
-        rank: source.rank,
-        route: source.route,
-    })
+    rows.iter().any(|row| is_same_octets(octets, row.octets()))
 }
 
-/// The set of these records, if any.
-pub(crate) fn set_among<'a, A: Allocator + Copy>(
-    alloc: A,
-    source: Source,
-    records: &'a [Record<A>],
-    key: &SetKey<'_, A>,
-) -> Result<Option<Piece<A>>, AllocError>
-    requires { AreShaped records.now }
-    ensures { IfOk result (λ s. s ≡ set_of source.rank source.route (records_for key.now records.now)) }
+fn is_same_octets(a: &[u8], b: &[u8]) -> bool
+    ensures { result ≡ same_octets a.now b.now }
 {
-    let mut rest = records;
-    while let Some((first, others)) = rest.split_first() {
-        if key.includes(first) {
-            return Ok(Some(set_with(alloc, source, first, others, key)?));
-        }
-        rest = others;
-    }
-    Ok(None)
+    a == b
+}
+
+/// The data compared one by one.
+fn first_few<A: Allocator>(rows: &[Rdata<A>]) -> &[Rdata<A>]
+    ensures { result.now ≡ take few rows.now }
+{
+    &rows[..rows.len().min(FEW)]
+}
+
+/// Puts a copy of the data last.
+fn push_copy<A: Allocator + Copy>(
+    alloc: A,
+    rows: &mut PlainList<Rdata<A>, A>,
+    row: &Rdata<A>,
+) -> Result<(), AllocError>
+    ensures { OnOk result (rows.new ≡ rows.old ++ row.now ∷ []) }
+{
+    rows.push(row.copy(alloc)?)
 }

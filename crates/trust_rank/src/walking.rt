@@ -18,87 +18,6 @@ use suffix_routes::{Config, RouteId};
 /// No walk takes more aliases.
 pub const MOST_ALIASES: usize = 8;
 
-/// These pieces, and no name servers.
-fn ending<A: Allocator + Copy>(alloc: A, pieces: PlainList<Piece<A>, A>, end: End<A>) -> Walk<A>
-    ensures { result ≡ ending pieces (end_of end) }
-{
-    Walk {
-        pieces,
-        authority: PlainList::new(alloc),
-        end,
-    }
-}
-
-/// These pieces and a last piece.
-fn ending_with<A: Allocator + Copy>(
-    alloc: A,
-    mut pieces: PlainList<Piece<A>, A>,
-    last: Piece<A>,
-    end: End<A>,
-) -> Result<Walk<A>, AllocError>
-    ensures { IfOk result (λ w. w ≡ ending (pieces ++ last ∷ []) (end_of end)) }
-{
-    pieces.push(last)?;
-    Ok(ending(alloc, pieces, end))
-}
-
-/// The walk from the asked name along the aliases of the answer section.
-fn walk_from<A: Allocator + Copy>(alloc: A, reply: &Reply<'_, A>) -> Result<Walk<A>, AllocError>
-    ensures { IfOk result (λ w. w ≡ walk_from reply.now most_aliases true reply.now.question.name) }
-{
-    let mut pieces = PlainList::new(alloc);
-    let mut name = reply.name.copy(alloc)?;
-    let mut is_first = true;
-    for _ in 0..MOST_ALIASES {
-        match reply.met_at(alloc, is_first, &name)? {
-            AtName::Nothing => return Ok(ending(alloc, pieces, End::Elsewhere(name))),
-            AtName::Set(set) => return ending_with(alloc, pieces, set, End::Found),
-            AtName::NoData(denial) => return ending_with(alloc, pieces, denial, End::NoData),
-            AtName::NameError(denial) => return ending_with(alloc, pieces, denial, End::Denied),
-            AtName::Lame => return Ok(ending(alloc, PlainList::new(alloc), End::Lame)),
-            AtName::Alias(alias, target) => {
-                pieces.push(alias)?;
-                name = target;
-                is_first = false;
-            }
-        }
-    }
-    Ok(ending(alloc, pieces, End::Elsewhere(name)))
-}
-
-fn is_lame<A: Allocator>(end: &End<A>) -> bool
-    ensures { result ≡ is_lame (end_of end.now) }
-{
-    matches!(end, End::Lame)
-}
-
-/// The reply is authoritative, and its walk not lame.
-fn carries_servers<A: Allocator>(reply: &Reply<'_, A>, end: &End<A>) -> bool
-    ensures { result ≡ carries_servers reply.now (end_of end.now) }
-{
-    reply.is_authoritative && !is_lame(end)
-}
-
-/// The walk, with the name servers of the authority section.
-fn with_servers<A: Allocator + Copy>(
-    alloc: A,
-    reply: &Reply<'_, A>,
-    walk: Walk<A>,
-) -> Result<Walk<A>, AllocError>
-    ensures { IfOk result (λ w. w ≡ with_servers reply.now walk) }
-{
-    if !carries_servers(reply, &walk.end) {
-        return Ok(walk);
-    }
-    let authority = servers_beside(alloc, reply, walk.pieces.as_slice())?;
-    let Walk { pieces, end, .. } = walk;
-    Ok(Walk {
-        pieces,
-        authority,
-        end,
-    })
-}
-
 /// Returns the pieces of a reply to the question on the route, and the end of the walk from the
 /// asked name.
 ///
@@ -135,4 +54,85 @@ pub fn pieces<A: Allocator + Copy>(
     };
     let walk = walk_from(alloc, &reply)?;
     with_servers(alloc, &reply, walk)
+}
+
+/// The walk from the asked name along the aliases of the answer section.
+fn walk_from<A: Allocator + Copy>(alloc: A, reply: &Reply<'_, A>) -> Result<Walk<A>, AllocError>
+    ensures { IfOk result (λ w. w ≡ walk_from reply.now most_aliases true reply.now.question.name) }
+{
+    let mut pieces = PlainList::new(alloc);
+    let mut name = reply.name.copy(alloc)?;
+    let mut is_first = true;
+    for _ in 0..MOST_ALIASES {
+        match reply.met_at(alloc, is_first, &name)? {
+            AtName::Nothing => return Ok(ending(alloc, pieces, End::Elsewhere(name))),
+            AtName::Set(set) => return ending_with(alloc, pieces, set, End::Found),
+            AtName::NoData(denial) => return ending_with(alloc, pieces, denial, End::NoData),
+            AtName::NameError(denial) => return ending_with(alloc, pieces, denial, End::Denied),
+            AtName::Lame => return Ok(ending(alloc, PlainList::new(alloc), End::Lame)),
+            AtName::Alias(alias, target) => {
+                pieces.push(alias)?;
+                name = target;
+                is_first = false;
+            }
+        }
+    }
+    Ok(ending(alloc, pieces, End::Elsewhere(name)))
+}
+
+/// These pieces and a last piece.
+fn ending_with<A: Allocator + Copy>(
+    alloc: A,
+    mut pieces: PlainList<Piece<A>, A>,
+    last: Piece<A>,
+    end: End<A>,
+) -> Result<Walk<A>, AllocError>
+    ensures { IfOk result (λ w. w ≡ ending (pieces ++ last ∷ []) (end_of end)) }
+{
+    pieces.push(last)?;
+    Ok(ending(alloc, pieces, end))
+}
+
+/// These pieces, and no name servers.
+fn ending<A: Allocator + Copy>(alloc: A, pieces: PlainList<Piece<A>, A>, end: End<A>) -> Walk<A>
+    ensures { result ≡ ending pieces (end_of end) }
+{
+    Walk {
+        pieces,
+        authority: PlainList::new(alloc),
+        end,
+    }
+}
+
+/// The walk, with the name servers of the authority section.
+fn with_servers<A: Allocator + Copy>(
+    alloc: A,
+    reply: &Reply<'_, A>,
+    walk: Walk<A>,
+) -> Result<Walk<A>, AllocError>
+    ensures { IfOk result (λ w. w ≡ with_servers reply.now walk) }
+{
+    if !carries_servers(reply, &walk.end) {
+        return Ok(walk);
+    }
+    let authority = servers_beside(alloc, reply, walk.pieces.as_slice())?;
+    let Walk { pieces, end, .. } = walk;
+    Ok(Walk {
+        pieces,
+        authority,
+        end,
+    })
+}
+
+/// The reply is authoritative, and its walk not lame.
+fn carries_servers<A: Allocator>(reply: &Reply<'_, A>, end: &End<A>) -> bool
+    ensures { result ≡ carries_servers reply.now (end_of end.now) }
+{
+    reply.is_authoritative && !is_lame(end)
+}
+
+fn is_lame<A: Allocator>(end: &End<A>) -> bool
+    ensures { result ≡ is_lame (end_of end.now) }
+{
+    matches!(end, End::Lame)
 }

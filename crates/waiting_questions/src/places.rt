@@ -14,27 +14,6 @@ use std::alloc::Allocator;
 use std::cmp::Ordering;
 use std::collections::VecDeque;
 
-/// The order of `key` and the question under a slab key. Different numbers decide alone: the
-/// questions are far away in memory, and are read only if numbers are equal. A slab key without a
-/// question comes first.
-#[inline]
-fn compare<A: Allocator>(
-    waiting: &Slab<KeyedWaiting<A>, A>,
-    item: NumberedKey,
-    question: &QuestionKey,
-) -> Ordering
-    ensures { result ≡ compared_item question.now waiting.now item }
-{
-    let number = question.number();
-    if item.number != number {
-        return item.number.cmp(&number);
-    }
-    match waiting.get(item.key()) {
-        Some(keyed) => keyed.cmp_question(question),
-        None => Ordering::Less,
-    }
-}
-
 /// The number of keys compared one by one: few clients wait for most questions.
 const FEW: usize = 4;
 
@@ -51,27 +30,6 @@ pub(crate) fn range_of<A: Allocator>(
 {
     let start = keys.partition_point(|item| compare(waiting, *item, question).is_lt());
     (start, end_from(waiting, keys, question, start))
-}
-
-/// The end of the range that begins at this place.
-fn end_from<A: Allocator>(
-    waiting: &Slab<KeyedWaiting<A>, A>,
-    keys: &VecDeque<NumberedKey, A>,
-    question: &QuestionKey,
-    start: usize,
-) -> usize
-    requires keys { AreKeys IsByQuestion waiting.now (keys_of keys.now.items) }
-    requires numbers { AreNumbered waiting.now keys.now.items }
-    requires start { BeginsAt (to_question question.now) waiting.now (keys_of keys.now.items) start }
-    ensures { IsRange (to_question question.now) waiting.now (keys_of keys.now.items) start result }
-{
-    let near = keys.len().min(start.saturating_add(FEW));
-    for place in start..near {
-        if compare(waiting, keys[place], question).is_gt() {
-            return place;
-        }
-    }
-    keys.partition_point(|item| compare(waiting, *item, question).is_le())
 }
 
 /// The place of the question with this turn in a range that is in the order of turns: after all
@@ -101,4 +59,46 @@ pub(crate) fn place_by_turn<A: Allocator>(
         }
     }
     low
+}
+
+/// The end of the range that begins at this place.
+fn end_from<A: Allocator>(
+    waiting: &Slab<KeyedWaiting<A>, A>,
+    keys: &VecDeque<NumberedKey, A>,
+    question: &QuestionKey,
+    start: usize,
+) -> usize
+    requires keys { AreKeys IsByQuestion waiting.now (keys_of keys.now.items) }
+    requires numbers { AreNumbered waiting.now keys.now.items }
+    requires start { BeginsAt (to_question question.now) waiting.now (keys_of keys.now.items) start }
+    ensures { IsRange (to_question question.now) waiting.now (keys_of keys.now.items) start result }
+{
+    let near = keys.len().min(start.saturating_add(FEW));
+    for place in start..near {
+        if compare(waiting, keys[place], question).is_gt() {
+            return place;
+        }
+    }
+    keys.partition_point(|item| compare(waiting, *item, question).is_le())
+}
+
+/// The order of `key` and the question under a slab key. Different numbers decide alone: the
+/// questions are far away in memory, and are read only if numbers are equal. A slab key without a
+/// question comes first.
+#[inline]
+fn compare<A: Allocator>(
+    waiting: &Slab<KeyedWaiting<A>, A>,
+    item: NumberedKey,
+    question: &QuestionKey,
+) -> Ordering
+    ensures { result ≡ compared_item question.now waiting.now item }
+{
+    let number = question.number();
+    if item.number != number {
+        return item.number.cmp(&number);
+    }
+    match waiting.get(item.key()) {
+        Some(keyed) => keyed.cmp_question(question),
+        None => Ordering::Less,
+    }
 }

@@ -122,50 +122,6 @@ impl<A: Allocator> Table<A> {
         self.waiting.remove(item.key());
     }
 
-    /// Redirects the question whose key is at this place in the order of questions, and at this
-    /// turn, which stays.
-    fn send_on(&mut self, place: usize, turn: usize, onward: SentOn<A>)
-        requires indexed { IsIndexed self.old }
-        requires place { place < length self.old.by_question.items }
-        requires turn { turn < length self.old.by_arrival.keys }
-        requires one { slice_index (keys_of self.old.by_question.items) place ≡ slice_index self.old.by_arrival.keys turn }
-        ensures indexed { IsIndexed self.new }
-        ensures list { (x : Asking) → slice_get (items_of self.old) turn ≡ Some x
-            → items_of self.new ≡ with_at (items_of self.old) turn (Some (sent_on onward x)) }
-    {
-        let Some(old) = self.by_question.remove(place) else {
-            unreachable!();
-        };
-        let mut keyed = self.waiting.remove(old.key());
-        keyed.send_on(onward);
-        let question = keyed.key();
-        let number = question.number();
-        let (start, end) = range_of(&self.waiting, &self.by_question, question);
-        let at = place_by_turn(&self.by_question, &self.by_arrival, start, end, turn);
-        self.waiting.insert_reserved(keyed);
-        let item = NumberedKey::new(number, old.key());
-        let Ok(()) = self.by_question.insert(at, item) else {
-            unreachable!();
-        };
-    }
-
-    /// Redirects or removes the question whose key is at this place in the order of questions, and
-    /// at this turn.
-    fn settle_one(&mut self, place: usize, turn: usize, fate: Option<SentOn<A>>)
-        requires indexed { IsIndexed self.old }
-        requires place { place < length self.old.by_question.items }
-        requires turn { turn < length self.old.by_arrival.keys }
-        requires one { slice_index (keys_of self.old.by_question.items) place ≡ slice_index self.old.by_arrival.keys turn }
-        ensures indexed { IsIndexed self.new }
-        ensures list { (x : Asking) → slice_get (items_of self.old) turn ≡ Some x
-            → items_of self.new ≡ with_at (items_of self.old) turn (left_by fate x) }
-    {
-        match fate {
-            None => self.take(place, turn),
-            Some(onward) => self.send_on(place, turn, onward),
-        }
-    }
-
     /// Gives their fates to the questions that wait for this ask's question, the newest first, so
     /// that the places of the older ones stay.
     pub(crate) fn settle(&mut self, ask: &KeyedAsk<A>, mut fates: Vec<Option<SentOn<A>>, A>)
@@ -208,6 +164,50 @@ impl<A: Allocator> Table<A> {
         self.waiting.clear();
         self.by_question.clear();
         self.by_arrival.clear();
+    }
+
+    /// Redirects or removes the question whose key is at this place in the order of questions, and
+    /// at this turn.
+    fn settle_one(&mut self, place: usize, turn: usize, fate: Option<SentOn<A>>)
+        requires indexed { IsIndexed self.old }
+        requires place { place < length self.old.by_question.items }
+        requires turn { turn < length self.old.by_arrival.keys }
+        requires one { slice_index (keys_of self.old.by_question.items) place ≡ slice_index self.old.by_arrival.keys turn }
+        ensures indexed { IsIndexed self.new }
+        ensures list { (x : Asking) → slice_get (items_of self.old) turn ≡ Some x
+            → items_of self.new ≡ with_at (items_of self.old) turn (left_by fate x) }
+    {
+        match fate {
+            None => self.take(place, turn),
+            Some(onward) => self.send_on(place, turn, onward),
+        }
+    }
+
+    /// Redirects the question whose key is at this place in the order of questions, and at this
+    /// turn, which stays.
+    fn send_on(&mut self, place: usize, turn: usize, onward: SentOn<A>)
+        requires indexed { IsIndexed self.old }
+        requires place { place < length self.old.by_question.items }
+        requires turn { turn < length self.old.by_arrival.keys }
+        requires one { slice_index (keys_of self.old.by_question.items) place ≡ slice_index self.old.by_arrival.keys turn }
+        ensures indexed { IsIndexed self.new }
+        ensures list { (x : Asking) → slice_get (items_of self.old) turn ≡ Some x
+            → items_of self.new ≡ with_at (items_of self.old) turn (Some (sent_on onward x)) }
+    {
+        let Some(old) = self.by_question.remove(place) else {
+            unreachable!();
+        };
+        let mut keyed = self.waiting.remove(old.key());
+        keyed.send_on(onward);
+        let question = keyed.key();
+        let number = question.number();
+        let (start, end) = range_of(&self.waiting, &self.by_question, question);
+        let at = place_by_turn(&self.by_question, &self.by_arrival, start, end, turn);
+        self.waiting.insert_reserved(keyed);
+        let item = NumberedKey::new(number, old.key());
+        let Ok(()) = self.by_question.insert(at, item) else {
+            unreachable!();
+        };
     }
 }
 
