@@ -8,12 +8,6 @@ use Rattle.plain_values.specs.Borrowed.{lent}
 abbrev pub held_with : Piece → ℕ → Held
 held_with p n = record { piece = p; accepted = n }
 
--- one more is put after those that were there
-pub lent_more : {X : Type 0} (base : List X) (refs more : List (Bor X)) (r : Bor X) (xs : List X) (i : ℕ) → i < length xs → r.now ≡ get_or xs i r.now → lent refs ≡ base ++ take i xs → more ≡ refs ++ r ∷ []
-    → lent more ≡ base ++ take (i + 1) xs
-lent_more {X = X} base refs more r xs i lt is so_far pushed =
-    ap lent pushed ∙ map-append (λ (x : Bor X). x.now) refs (r ∷ []) ∙ (λ j. so_far j ++ is j ∷ []) ∙ append_assoc base (take i xs) (get_or xs i r.now ∷ []) ∙ ap (λ (ys : List X). base ++ ys) (sym (take_more xs i r.now lt))
-
 -- one more of what is borrowed is copied
 pub copied_more : {X : Type 0} (copies more : List X) (copy : X) (r : Bor X) (refs : List (Bor X)) (i : ℕ) → i < length refs → r ≡ get_or refs i r → copies ≡ lent (take i refs) → copy ≡ r.now → more ≡ copies ++ copy ∷ []
     → more ≡ lent (take (i + 1) refs)

@@ -1,8 +1,7 @@
-pub mod Seeing
-pub mod Targets
-pub mod Few
+pub mod Following
 pub mod PastEnds
-pub mod Behind
+pub mod Alike
+pub mod Holding
 pub mod CallerLemmas
 pub mod Offering
 pub mod Chains

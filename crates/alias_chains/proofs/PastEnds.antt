@@ -1,6 +1,7 @@
 -- A look-up of stale entries on its way.
 use Rattle.std.proofs.Common.{◌≡◌, ℕ, zero, suc, ◌+◌, ◌-◌, ◌≤◌, List, [], ◌∷◌, ◌++◌, length, length-append, Option, Some, None, refl, sym, ap, ◌∙◌, inl, inr, subst, ◌⊎◌, arith}
 use Rattle.std.specs.Prelude.{option_map}
+use Rattle.std.specs.List.{AllByRecursion}
 use Rattle.std.proofs.lemmas.List.{append_assoc}
 use denote.Ref.{Bor}
 use Rattle.dns_message.specs.Values.{Question}
@@ -13,8 +14,18 @@ use Rattle.negative_cache.specs.Laws.{FitsWithin}
 use Rattle.negative_cache.proofs.CallerLemmas.{stale_fits}
 use Rattle.plain_values.specs.Borrowed.{lent}
 use Rattle.alias_chains.specs.PastEnds.{past_led, past_followed, look_up_past}
-use Rattle.alias_chains.proofs.Seeing.{lent_put}
-use Rattle.alias_chains.proofs.Few.{AreAmong, put_among}
+
+lent_put : (used : List (Bor Held)) (e : Bor Held) → lent (used ++ e ∷ []) ≡ lent used ++ e.now ∷ []
+lent_put [] e = refl
+lent_put (u ∷ used) e = ap (λ (es : List Held). u.now ∷ es) (lent_put used e)
+
+-- all of these lie in the cache
+abbrev AreAmong : List Held → List Held → Type 0
+AreAmong entries held = AllByRecursion (λ h. Among h entries) held
+
+put_among : (entries held : List Held) (e : Held) → AreAmong entries held → Among e entries → AreAmong entries (held ++ e ∷ [])
+put_among entries [] e all one = (one, tt)
+put_among entries (h ∷ held) e all one = (all.0, put_among entries held e all.1 one)
 
 -- after these entries
 abbrev pub behind : List Held → Option (List Held) → Option (List Held)

@@ -1,5 +1,5 @@
 pub mod LookingUp
 pub mod PastEnds
 pub mod Offering
-pub mod Seen
+pub mod Looked
 pub mod Laws

@@ -1,9 +1,10 @@
 -- Look-ups among the entries, along aliases: RFC 1034 3.6.2.
-use Rattle.std.specs.Prelude.{ℕ, zero, suc, List, [], ◌∷◌, ◌++◌, Option, Some, None}
+use Rattle.std.specs.Prelude.{ℕ, zero, suc, ◌-◌, if◌then◌else◌, nat_le, List, [], ◌∷◌, ◌++◌, length, take, Option, Some}
+use Rattle.std.specs.Prelude.{None}
 use Rattle.dns_message.specs.Values.{Question}
 use Rattle.suffix_routes.specs.Values.{Route}
 use Rattle.trust_rank.specs.declared.slot.Slot.{Slot}
-use Rattle.trust_rank.specs.Walks.{target_of}
+use Rattle.trust_rank.specs.Walks.{target_of, most_aliases}
 use Rattle.record_cache.specs.Values.{Held}
 use Rattle.record_cache.specs.Entries.{promoted}
 use Rattle.negative_cache.specs.Values.{Found, local, rows, alias, no_data, denied, miss}
@@ -65,6 +66,17 @@ look_up routes n entries zero held q = look_up_after held q (one_too_many held q
 look_up routes n entries (suc more) held q =
     look_up_after held q (λ e target. through e (look_up routes n entries more (held ++ e ∷ []) (asked_at q target)))
     (found routes n entries q)
+
+-- more aliases than a question may hold: the first alias too many ends the look-up
+abbrev pub too_many : List Held → Question → LookUp
+too_many held q = record { held = take (suc most_aliases) held; wanted = q; met = too_long; used = [] }
+
+-- the look-up of a question that holds these aliases, and takes at most eight with these
+abbrev pub goes_on : List Route → ℕ → List Held → List Held → Question → LookUp
+goes_on routes n entries held q =
+    if nat_le (length held) most_aliases
+    then look_up routes n entries (most_aliases - length held) held q
+    else too_many held q
 
 -- the entries, with those of the used slots promoted in order
 abbrev pub promoted_all : List Slot → List Held → List Held

@@ -1,42 +1,49 @@
-//! Chains of pieces, put together.
+//! Chains of pieces: aliases, and the piece at their end.
 
-ghost use Rattle.std.specs.Prelude.{◌≡◌, ◌++◌, IfOk};
+ghost use Rattle.std.specs.Prelude.{◌≡◌, ◌∷◌, ◌++◌, [], IfOk, IsOk};
 ghost use Rattle.plain_values.specs.Borrowed.{lent};
+ghost use Rattle.alias_chains.specs.Looked.{pieces_in};
 
 use record_cache::Held;
 use std::alloc::{AllocError, Allocator};
+use std::slice;
 
-/// Puts pieces last, borrowed.
-fn put_all<'a, A: Allocator>(
-    chain: &mut Vec<&'a Held<A>, A>,
-    pieces: &'a [Held<A>],
-) -> Result<(), AllocError>
-    ensures { IfOk result (λ _. lent chain.new.items ≡ lent chain.old.items ++ pieces.now) }
-{
-    for held in pieces {
-        chain.push(held)?;
+/// Borrowed pieces, in order. One alone does not allocate.
+#[derive(Drop)]
+pub(crate) enum Chain<'a, A: Allocator> {
+    One(&'a Held<A>),
+    More(Vec<&'a Held<A>, A>),
+}
+
+impl<'a, A: Allocator> Chain<'a, A> {
+    /// The aliases, then the piece at their end. Without an alias it does not allocate.
+    pub(crate) fn ended(
+        aliases: Vec<&'a Held<A>, A>,
+        end: &'a Held<A>,
+    ) -> Result<Chain<'a, A>, AllocError>
+        ensures pieces { IfOk result (λ chain. pieces_in chain ≡ lent aliases.entry.items ++ end.now ∷ []) }
+        ensures one { lent aliases.entry.items ≡ [] → IsOk result }
+    {
+        if aliases.is_empty() {
+            return Ok(Chain::One(end));
+        }
+        let mut pieces = aliases;
+        pieces.push(end)?;
+        Ok(Chain::More(pieces))
     }
-    Ok(())
+
+    /// The pieces.
+    pub(crate) fn as_slice(&self) -> &[&'a Held<A>]
+        ensures { lent result.now ≡ pieces_in self.now }
+    {
+        match self {
+            Chain::One(piece) => slice::from_ref(piece),
+            Chain::More(pieces) => pieces,
+        }
+    }
 }
 
-/// The aliases that a question holds, those of the reply, and the entries found after them, in this
-/// order.
-pub fn chain_of<'a, A: Allocator + Copy>(
-    alloc: A,
-    own: &'a [Held<A>],
-    aliases: &'a [Held<A>],
-    found: &[&'a Held<A>],
-) -> Result<Vec<&'a Held<A>, A>, AllocError>
-    ensures { IfOk result (λ chain. lent chain.items ≡ (own.now ++ aliases.now) ++ lent found.now) }
-{
-    let mut chain = Vec::new(alloc);
-    put_all(&mut chain, own)?;
-    put_all(&mut chain, aliases)?;
-    chain.extend_from_slice(found)?;
-    Ok(chain)
-}
-
-/// The same pieces, with the moments of their acceptance.
+/// Copies of the pieces, with the moments of their acceptance.
 pub fn copies<A: Allocator + Copy>(
     alloc: A,
     pieces: &[&Held<A>],

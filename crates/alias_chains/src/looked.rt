@@ -1,16 +1,16 @@
 //! The outcome of a look-up along aliases.
 
-ghost use Rattle.std.specs.Prelude.{◌≡◌, map, IfOk};
-ghost use Rattle.alias_chains.specs.Seen.{last_target};
+ghost use Rattle.std.specs.Prelude.{◌≡◌, ◌≤◌, length};
 ghost use Rattle.plain_values.specs.Borrowed.{lent};
+ghost use Rattle.alias_chains.specs.LookingUp.{missed};
+ghost use Rattle.alias_chains.specs.Looked.{chain_of, kind_of};
 
-use crate::slots::SlotsRef;
-use crate::used::UsedEntries;
-use dns_name::Name;
+use crate::chain::Chain;
+use crate::slots::Slots;
+use dns_message::QuestionRef;
 use record_cache::Held;
-use std::alloc::{AllocError, Allocator, Global};
+use std::alloc::{Allocator, Global};
 use std::marker::Model;
-use trust_rank::target_of;
 
 /// The end of a look-up.
 #[derive(Clone, Copy, Debug, PartialEq, Eq)]
@@ -23,56 +23,62 @@ pub enum LookUpEnd {
     Missed,
 }
 
-/// The entries that a look-up used, in order, and how it ended. If it ended with a set or a denial,
-/// that is the last of them; all others are aliases.
+/// The outcome of a look-up: the aliases held at its end, the question wanted then, the kind of its
+/// end, and the slots of the used entries.
 #[derive(Drop)]
 pub struct LookUp<'a, 's, A: Allocator = Global> {
-    pub(crate) used: UsedEntries<'a, 's, A>,
+    pub(crate) chain: Chain<'a, A>,
+    pub(crate) wanted: QuestionRef<'a>,
     pub(crate) met: LookUpEnd,
+    pub(crate) used: Slots<'s, A>,
 }
 
 impl<'a, 's, A: Allocator> Model for LookUp<'a, 's, A> {
-    ghost use Rattle.alias_chains.specs.Seen.{Seen, entries_of, HasItsSlot};
+    ghost use Rattle.alias_chains.specs.LookingUp.{LookUp};
+    ghost use Rattle.alias_chains.specs.Looked.{looked_so, pieces_in, IsWhole};
 
-    ghost Value = { Seen };
+    ghost Value = { LookUp };
 
-    ghost view = { λ l. record { used = entries_of l.used; met = l.met } };
+    ghost view = { λ l. looked_so l.met (pieces_in l.chain) l.wanted l.used };
 
-    ghost invariant = { λ l. HasItsSlot l.used };
+    ghost invariant = { λ l. IsWhole l.met (pieces_in l.chain) };
 }
 
-impl<'a, 's, A: Allocator + Copy> LookUp<'a, 's, A> {
-    /// The end of the look-up.
+impl<'a, 's, A: Allocator> LookUp<'a, 's, A> {
+    /// How it ended.
     pub fn met(&self) -> LookUpEnd
-        ensures { result ≡ self.now.met }
+        ensures { result ≡ kind_of self.now.met }
     {
         self.met
     }
 
-    /// The entries that it used, in order.
-    pub fn used(&self) -> &[&'a Held<A>]
-        ensures { lent result.now ≡ self.now.used }
+    /// The aliases, and after them the set or the denial at the end of the look-up, if any. A
+    /// look-up that found nothing at its end has at most eight aliases.
+    pub fn chain(&self) -> &[&'a Held<A>]
+        ensures chain { lent result.now ≡ chain_of self.now }
+        ensures few { self.now.met ≡ missed → length self.now.held ≤ 8 }
     {
-        self.used.as_slice()
+        self.chain.as_slice()
     }
 
-    /// The name that the last used entry leads to: the wanted one where the look-up missed after
-    /// aliases. `None` if it used no entry, or the last one is not a single record whose data is a
-    /// name.
-    pub fn target(&self, alloc: A) -> Result<Option<Name<A>>, AllocError>
-        ensures { IfOk result (λ name. name ≡ last_target self.now.used) }
+    /// The question wanted at the end of the look-up: without an alias the client's, otherwise the
+    /// question at the target of the last alias.
+    pub fn wanted(&self) -> &QuestionRef<'a>
+        ensures { result.now ≡ self.now.wanted }
     {
-        match self.used() {
-            [] => Ok(None),
-            [.., last] => target_of(alloc, &last.piece),
-        }
+        &self.wanted
     }
 
-    /// The slots of the entries that it used, in order.
-    pub fn into_slots(self) -> SlotsRef<'a, 's, A>
-        ensures { result ≡ map (λ h. h.piece.slot) self.entry.used }
+    /// The slots of the used entries, in order.
+    pub fn into_slots(self) -> Slots<'s, A>
+        ensures { result ≡ self.entry.used }
     {
-        let LookUp { used, met: _ } = self;
-        SlotsRef { entries: used }
+        let LookUp {
+            chain: _,
+            wanted: _,
+            met: _,
+            used,
+        } = self;
+        used
     }
 }

@@ -1,105 +1,113 @@
 //! Look-ups of a question along aliases: RFC 1034 3.6.2.
 
-ghost use Rattle.std.specs.Prelude.{◌≡◌, [], IfOk, OnErr, MatchOption, None, Some};
-ghost use Rattle.std.specs.List.{AllByRecursion};
+ghost use Rattle.std.specs.Prelude.{◌≡◌, ◌-◌, ◌≤◌, [], length, IfOk, OnErr, MatchOption, None, Some};
 ghost use Rattle.plain_values.specs.Borrowed.{lent};
-ghost use Rattle.record_cache.specs.Laws.{Among};
 ghost use Rattle.negative_cache.specs.Finding.{found};
-ghost use Rattle.negative_cache.specs.Values.{alias as alias_found};
+ghost use Rattle.negative_cache.specs.Values.{alias};
 ghost use Rattle.dns_name.specs.Labels.{labels_of, IsLaidOut};
 ghost use Rattle.dns_message.specs.Data.{name_of_rdata};
-ghost use Rattle.trust_rank.specs.Walks.{target_of};
-ghost use Rattle.alias_chains.specs.LookingUp.{look_up};
-ghost use Rattle.alias_chains.specs.Seen.{seen_from, seen_of, IsAlias, UsesFew};
+ghost use Rattle.trust_rank.specs.Walks.{target_of, most_aliases};
+ghost use Rattle.alias_chains.specs.LookingUp.{goes_on, too_many};
+ghost use Rattle.alias_chains.specs.Looked.{look_up_from, with_used, IsAlias};
 
+use crate::chain::Chain;
 use crate::looked::{LookUp, LookUpEnd};
-use crate::used::UsedEntries;
+use crate::slots::Slots;
+use crate::trail::Trail;
 use dns_message::{Bound, QuestionRef, skip_name};
 use negative_cache::{CacheAt, Found};
 use record_cache::{Held, LookUpSlot};
 use std::alloc::{AllocError, Allocator};
 use std::hash::BuildHasher;
-use trust_rank::Body;
+use trust_rank::{Body, MOST_ALIASES};
 
-/// Looks a question up along aliases (RFC 1034 3.6.2): at its name, then at the name that a found
-/// alias leads to, and so on. It ends with a set or a denial, with one alias more than `most`, or
-/// at a name without a living entry. A question that holds aliases already may take fewer. Only
-/// aliases allocate; All used entries lie in the cache. The slot may be any: where one entry alone
-/// is used and ends the look-up, it becomes that entry's, and the result borrows it.
+/// Looks a question up along aliases (RFC 1034 3.6.2): at its name, then at the target of the found
+/// alias, and so on. `held` are the aliases that the question holds already; with them the look-up
+/// takes at most eight. It ends with a set or a denial, with a ninth alias, or at a name without a
+/// living entry. Only aliases allocate. The slot may be any: if the first entry ends the look-up,
+/// the slot becomes the entry's, and the result borrows it.
 pub fn look_up<'a, 's, H: BuildHasher + Drop, A: Allocator + Copy>(
     alloc: A,
     at: &CacheAt<'a, H, A>,
     slot: &'s mut LookUpSlot,
-    question: &QuestionRef<'_>,
-    most: usize,
+    held: Vec<&'a Held<A>, A>,
+    question: &QuestionRef<'a>,
 ) -> Result<LookUp<'a, 's, A>, AllocError>
     ensures exact { IfOk result (λ looked. looked
-        ≡ seen_of (look_up at.now.config.routes at.now.moment at.now.cache.entries most [] question.now)) }
-    ensures few { IfOk result (λ looked. UsesFew most looked) }
-    ensures from_cache { IfOk result (λ looked. AllByRecursion (λ h. Among h at.now.cache.entries) looked.used) }
-    ensures no_alias { OnErr result
+        ≡ goes_on at.now.config.routes at.now.moment at.now.cache.entries (lent held.entry.items) question.now) }
+    ensures no_alias { lent held.entry.items ≡ [] → OnErr result
         (IsAlias (found at.now.config.routes at.now.moment at.now.cache.entries question.now)) }
 {
+    if held.len() > MOST_ALIASES {
+        return Ok(too_long(alloc, held, question));
+    }
     match at.find(slot, question) {
-        Found::Rows(held) | Found::NoData(held) | Found::Denied(held) => Ok(LookUp {
-            used: UsedEntries::One(held, slot),
+        Found::Rows(end) | Found::NoData(end) | Found::Denied(end) => Ok(LookUp {
+            chain: Chain::ended(held, end)?,
+            wanted: question.reborrow(),
             met: LookUpEnd::Ends,
+            used: Slots::one(alloc, slot),
         }),
-        Found::Alias(held) => follow(alloc, at, slot, question, held, most),
+        Found::Alias(alias) => follow(Trail::new(alloc, held, question), at, slot, alias),
         Found::Local | Found::Miss => Ok(LookUp {
-            used: UsedEntries::none(alloc),
+            chain: Chain::More(held),
+            wanted: question.reborrow(),
             met: LookUpEnd::Missed,
+            used: Slots::none(alloc),
         }),
     }
 }
 
-/// The look-up of a question that meets this alias first, and may take at most `most` of them.
-fn follow<'a, 's, H: BuildHasher + Drop, A: Allocator + Copy>(
+/// The look-up of a question that holds more than eight aliases.
+fn too_long<'a, 's, A: Allocator>(
     alloc: A,
+    held: Vec<&'a Held<A>, A>,
+    question: &QuestionRef<'a>,
+) -> LookUp<'a, 's, A>
+    ensures { result ≡ too_many (lent held.entry.items) question.now }
+{
+    let mut aliases = held;
+    aliases.truncate(MOST_ALIASES + 1);
+    LookUp {
+        chain: Chain::More(aliases),
+        wanted: question.reborrow(),
+        met: LookUpEnd::TooLong,
+        used: Slots::none(alloc),
+    }
+}
+
+/// The look-up of a trail from its first alias on.
+fn follow<'a, 's, H: BuildHasher + Drop, A: Allocator + Copy>(
+    trail: Trail<'a, A>,
     at: &CacheAt<'a, H, A>,
     slot: &mut LookUpSlot,
-    question: &QuestionRef<'_>,
     first: &'a Held<A>,
-    most: usize,
 ) -> Result<LookUp<'a, 's, A>, AllocError>
-    ensures { IfOk result (λ looked. looked
-        ≡ seen_from at.now.config.routes at.now.moment at.now.cache.entries question.now.class question.now.kind most []
-        (alias_found first.now)) }
+    requires { length (lent trail.held.items) ≤ most_aliases }
+    ensures { IfOk result (λ looked. looked ≡ with_used trail.entry.used.items (look_up_from
+        at.now.config.routes at.now.moment at.now.cache.entries
+        (most_aliases - length (lent trail.entry.held.items)) (lent trail.entry.held.items) trail.entry.wanted
+        (alias first.now))) }
 {
-    let mut used = Vec::new(alloc);
+    let mut trail = trail;
     let mut alias = first;
     loop {
         let Some(target) = target_octets(alias) else {
-            return Ok(ended(used, LookUpEnd::Missed));
+            return Ok(trail.stopped(LookUpEnd::Missed));
         };
-        used.push(alias)?;
-        if used.len() > most {
-            return Ok(ended(used, LookUpEnd::TooLong));
+        trail.take(alias, target)?;
+        if trail.held.len() > MOST_ALIASES {
+            return Ok(trail.stopped(LookUpEnd::TooLong));
         }
-        let onward = QuestionRef::from_octets(target, question.kind(), question.class());
-        match at.find(slot, &onward) {
-            Found::Rows(held) | Found::NoData(held) | Found::Denied(held) => {
-                used.push(held)?;
-                return Ok(ended(used, LookUpEnd::Ends));
-            }
-            Found::Alias(held) => alias = held,
-            Found::Local | Found::Miss => return Ok(ended(used, LookUpEnd::Missed)),
+        match at.find(slot, &trail.wanted) {
+            Found::Rows(end) | Found::NoData(end) | Found::Denied(end) => return trail.ended(end),
+            Found::Alias(next) => alias = next,
+            Found::Local | Found::Miss => return Ok(trail.stopped(LookUpEnd::Missed)),
         }
     }
 }
 
-/// A look-up that used these entries and ended in this way.
-fn ended<'a, 's, A: Allocator>(used: Vec<&'a Held<A>, A>, met: LookUpEnd) -> LookUp<'a, 's, A>
-    ensures { result ≡ record { used = lent used.entry.items; met = met } }
-{
-    LookUp {
-        used: UsedEntries::More(used),
-        met,
-    }
-}
-
-/// The name that an alias leads to, that of its one record: its octets, without the zero octet at
-/// their end.
+/// The target of a cached CNAME, in wire form without the final zero octet.
 #[tactic(auto, using(trust_rank::proofs::CallerLemmas::no_target))]
 pub(crate) fn target_octets<A: Allocator>(alias: &Held<A>) -> Option<&[u8]>
     ensures { MatchOption result (target_of alias.now.piece.body ≡ None)

@@ -19,8 +19,8 @@ use Rattle.step_table.specs.State.{State, turn}
 use Rattle.waiting_questions.specs.Values.{Waiting}
 use Rattle.step_table.specs.Attempts.{preferred_on, peer_at, over_udp, ask_by, first_ask, first_ask_on}
 use Rattle.step_table.specs.Steps.{Done, with_promoted, idle_step, reply_step, failed, gives_up, taking_step, asks, tcp_count}
-use Rattle.waiting_questions.specs.Onward.{Onward, waits_on}
-use Rattle.step_table.specs.Clients.{row_of_request, row_of_opening, row_of_new_inquiry, row_of_inquiry, row_of_waiting}
+use Rattle.alias_chains.specs.LookingUp.{LookUp}
+use Rattle.step_table.specs.Clients.{row_of_request, row_of_opening, row_of_new_inquiry, row_of_inquiry, row_of_waiting, waits_with}
 use Rattle.step_values.specs.Values.{Action}
 use Rattle.step_values.specs.declared.action.Why.{Why}
 use Rattle.step_values.specs.declared.action.Why.TheVariants.{BadOpcode, QuestionsFull}
@@ -65,18 +65,12 @@ waiting_row c n words x s d room d_is = d_is ∙ sym
     (cond-false (nat_le c.limits.questions (length s.waiting)) _ _
     (lt-leb c.limits.questions (length s.waiting) room))
 
--- a question that is sent on fails as it would by itself
-fails_alike : (why : Why) (o : Option Onward) (x : Waiting) → gives_up why x ≡ gives_up why (waits_on o x)
-fails_alike why None x = refl
-fails_alike why (Some s) x = refl
-
 -- without room among the questions
-pub full_row : (c : Config) (n : ℕ) (words : List ℕ) (o : Option Onward) (x : Waiting) (s : State) (d : Done)
+pub full_row : (c : Config) (n : ℕ) (words : List ℕ) (x : Waiting) (l : LookUp) (s : State) (d : Done)
     → c.limits.questions ≤ length s.waiting → d ≡ reply_step n (gives_up QuestionsFull x) s
-    → d ≡ row_of_waiting (turn c n words s) (waits_on o x)
-full_row c n words o x s d full d_is =
+    → d ≡ row_of_waiting (turn c n words s) (waits_with x l)
+full_row c n words x l s d full d_is =
     d_is
-    ∙ ap (λ (a : Action). reply_step n a s) (fails_alike QuestionsFull o x)
     ∙ sym (cond-true (nat_le c.limits.questions (length s.waiting)) _ _
     (le-leb c.limits.questions (length s.waiting) full))
 

@@ -4,12 +4,13 @@
 //! 1. `on_client`: nothing, `refuse_message`, or `serve_message` for exactly one question.
 //! 2. `serve_message` calls `serve`: `refuse` for an unserved kind, otherwise `look`.
 //! 3. `look` looks the question up in the cache, and `step_actions::fate_of` gives its fate.
-//! 4. `decide_fate`: `reply` with the answer, the denial or the failure, or `wait`.
+//! 4. By its fate: `reply` with the answer, the denial or the failure, or `wait`.
 //! 5. `wait`: `refuse` if no room is left, otherwise `admit`.
 //! 6. `admit`: `join` if an ask is listed; `ask_anew`: `first_ask`, then `open` or `refuse`.
 //! 7. `reply`, also the end of `refuse`: one reply, and the promotion of the used entries.
 
-ghost use Rattle.std.specs.Prelude.{◌≡◌, ◌<◌, false, length, IfOk, Some, None};
+ghost use Rattle.std.specs.Prelude.{◌≡◌, ◌<◌, [], false, length, IfOk, Some, None};
+ghost use Rattle.std.specs.List.{AllByRecursion};
 ghost use Rattle.dns_message.specs.Messages.{first_question};
 ghost use Rattle.dns_message.specs.Questions.{question_read};
 ghost use Rattle.outstanding.specs.Lists.{of_question};
@@ -17,40 +18,39 @@ ghost use Rattle.outstanding.specs.Orders.{question_key};
 ghost use Rattle.suffix_routes.specs.Serving.{serving_route_of};
 ghost use Rattle.step_values.specs.Requests.{is_taken};
 ghost use Rattle.step_actions.specs.Kept.{HoldsEarlier};
-ghost use Rattle.waiting_questions.specs.Onward.{waits_on};
+ghost use Rattle.answer_builder.specs.Answers.{IsEarlier};
+ghost use Rattle.alias_chains.specs.LookingUp.{missed};
 ghost use Rattle.step_table.specs.Attempts.{first_ask};
 ghost use Rattle.answer_builder.specs.Values.{asked_in};
 ghost use Rattle.step_table.specs.Steps.{with_promoted, idle_step, reply_step, taking_step, gives_up, failed};
 ghost use Rattle.step_table.specs.Clients.{row_of_opening, row_of_new_inquiry, row_of_inquiry};
-ghost use Rattle.step_table.specs.Clients.{row_of_waiting, row_of_fate, row_of_route, row_of_service};
+ghost use Rattle.step_table.specs.Clients.{row_of_waiting, row_of_route, row_of_service, waits_with};
 ghost use Rattle.step_table.specs.Clients.{row_of_question, row_of_request};
 ghost use Rattle.step_values.specs.Values.{action_of};
-ghost use Rattle.step_actions.specs.Fates.{becomes, fate_in, IfWaits};
 ghost use Rattle.step_actions.specs.Decision.{IsQuiet, CanWait, CanFollow, MeetsStep};
 ghost use Rattle.step_table.specs.State.{turn, from_state};
 
 use crate::request::{is_not_served, owned_question, taken_header, with_one_question};
-use alias_chains::{SlotsRef, look_up};
+use alias_chains::{LookUp, Slots, look_up};
 use dns_message::{Header, MessageRef, Question, QuestionRef};
 use outstanding::{Ask, KeyedAsk, QuestionKey, draw};
 use record_cache::LookUpSlot;
 use std::alloc::{AllocError, Allocator};
 use std::hash::BuildHasher;
 use step_actions::{
-    Attempt, Change, Decision, Fate, Opening, TurnRef, by_udp, fate_of, new_ask, nothing,
+    Attempt, Change, Decision, Fate, Opening, TurnRef, by_udp, fate_of, new_ask, nothing, sent_on,
 };
 use step_texts::{ask as ask_action, failure, refusal};
 use step_values::{Action, Actions, Client, Why};
 use suffix_routes::RouteId;
-use trust_rank::MOST_ALIASES;
-use waiting_questions::{KeyedWaiting, Request, SentOn, Waiting};
+use waiting_questions::{KeyedWaiting, Request, Waiting};
 
 /// Decides a reply, and the promotion of the entries used by a look-up.
-fn reply<'a, 's, H: BuildHasher + Drop, A: Allocator + Copy>(
-    turn: &TurnRef<'a, H, A>,
+fn reply<'s, H: BuildHasher + Drop, A: Allocator + Copy>(
+    turn: &TurnRef<'_, H, A>,
     action: Action<A>,
-    used: SlotsRef<'a, 's, A>,
-) -> Result<Decision<'a, 's, A>, AllocError>
+    used: Slots<'s, A>,
+) -> Result<Decision<'s, A>, AllocError>
     ensures decides { IfOk result (MeetsStep turn.now (reply_step turn.now.moment (action_of action)
         (with_promoted used.entry turn.now.state))) }
 {
@@ -63,12 +63,12 @@ fn reply<'a, 's, H: BuildHasher + Drop, A: Allocator + Copy>(
 }
 
 /// Decides that the question fails at once.
-fn refuse<'a, 's, H: BuildHasher + Drop, A: Allocator + Copy>(
-    turn: &TurnRef<'a, H, A>,
+fn refuse<'s, H: BuildHasher + Drop, A: Allocator + Copy>(
+    turn: &TurnRef<'_, H, A>,
     request: &Request<'_>,
     why: Why,
-    used: SlotsRef<'a, 's, A>,
-) -> Result<Decision<'a, 's, A>, AllocError>
+    used: Slots<'s, A>,
+) -> Result<Decision<'s, A>, AllocError>
     ensures decides { IfOk result (MeetsStep turn.now (reply_step turn.now.moment (gives_up why request.now)
         (with_promoted used.entry turn.now.state))) }
 {
@@ -77,13 +77,13 @@ fn refuse<'a, 's, H: BuildHasher + Drop, A: Allocator + Copy>(
 }
 
 /// Decides that the question waits, and that its ask goes out. Both have this key.
-fn open<'a, 's, H: BuildHasher + Drop, A: Allocator + Copy>(
-    turn: &TurnRef<'a, H, A>,
+fn open<'s, H: BuildHasher + Drop, A: Allocator + Copy>(
+    turn: &TurnRef<'_, H, A>,
     waiting: Waiting<A>,
     ask: Ask<A>,
     key: &QuestionKey,
-    used: SlotsRef<'a, 's, A>,
-) -> Result<Decision<'a, 's, A>, AllocError>
+    used: Slots<'s, A>,
+) -> Result<Decision<'s, A>, AllocError>
     requires keyed { key.now ≡ question_key waiting.wanted }
     requires same { ask.question ≡ waiting.wanted }
     requires waits { CanWait turn.now.config turn.now.moment turn.now.state waiting }
@@ -106,12 +106,12 @@ fn open<'a, 's, H: BuildHasher + Drop, A: Allocator + Copy>(
 }
 
 /// Decides that the question waits for a listed ask. Both have this key.
-fn join<'a, 's, H: BuildHasher + Drop, A: Allocator + Copy>(
-    turn: &TurnRef<'a, H, A>,
+fn join<'s, H: BuildHasher + Drop, A: Allocator + Copy>(
+    turn: &TurnRef<'_, H, A>,
     waiting: Waiting<A>,
     key: &QuestionKey,
-    used: SlotsRef<'a, 's, A>,
-) -> Result<Decision<'a, 's, A>, AllocError>
+    used: Slots<'s, A>,
+) -> Result<Decision<'s, A>, AllocError>
     requires keyed { key.now ≡ question_key waiting.wanted }
     requires waits { CanWait turn.now.config turn.now.moment turn.now.state waiting }
     ensures decides { IfOk result (MeetsStep turn.now (taking_step turn.now.moment waiting None
@@ -127,8 +127,8 @@ fn join<'a, 's, H: BuildHasher + Drop, A: Allocator + Copy>(
 }
 
 /// The first ask for a question: by UDP, to its route's preferred server.
-fn first_ask<'a, H: BuildHasher + Drop, A: Allocator + Copy>(
-    turn: &TurnRef<'a, H, A>,
+fn first_ask<H: BuildHasher + Drop, A: Allocator + Copy>(
+    turn: &TurnRef<'_, H, A>,
     question: &Question<A>,
     route: RouteId,
 ) -> Result<Option<Ask<A>>, AllocError>
@@ -151,7 +151,7 @@ fn first_ask<'a, H: BuildHasher + Drop, A: Allocator + Copy>(
 }
 
 /// The number of asks under way.
-fn asks_under_way<'a, H: BuildHasher + Drop, A: Allocator + Copy>(turn: &TurnRef<'a, H, A>) -> usize
+fn asks_under_way<H: BuildHasher + Drop, A: Allocator + Copy>(turn: &TurnRef<'_, H, A>) -> usize
     ensures count { result ≡ length turn.now.state.asks }
 {
     turn.kept.inquiries.len()
@@ -159,13 +159,13 @@ fn asks_under_way<'a, H: BuildHasher + Drop, A: Allocator + Copy>(turn: &TurnRef
 
 /// Decides a question without a listed ask. It fails with `InquiriesFull` at the limit of
 /// `limits.inquiries`, and with `NoPort` if no port is free.
-fn ask_anew<'a, 's, H: BuildHasher + Drop, A: Allocator + Copy>(
-    turn: &TurnRef<'a, H, A>,
+fn ask_anew<'s, H: BuildHasher + Drop, A: Allocator + Copy>(
+    turn: &TurnRef<'_, H, A>,
     waiting: Waiting<A>,
     key: &QuestionKey,
     route: RouteId,
-    used: SlotsRef<'a, 's, A>,
-) -> Result<Decision<'a, 's, A>, AllocError>
+    used: Slots<'s, A>,
+) -> Result<Decision<'s, A>, AllocError>
     requires new { of_question waiting.wanted turn.now.state.asks ≡ None }
     requires on { serving_route_of turn.now.config waiting.wanted.name ≡ Some route }
     requires keyed { key.now ≡ question_key waiting.wanted }
@@ -186,12 +186,12 @@ fn ask_anew<'a, 's, H: BuildHasher + Drop, A: Allocator + Copy>(
 }
 
 /// Decides a question for which there is room. If an ask is listed, none goes out.
-fn admit<'a, 's, H: BuildHasher + Drop, A: Allocator + Copy>(
-    turn: &TurnRef<'a, H, A>,
+fn admit<'s, H: BuildHasher + Drop, A: Allocator + Copy>(
+    turn: &TurnRef<'_, H, A>,
     waiting: Waiting<A>,
     route: RouteId,
-    used: SlotsRef<'a, 's, A>,
-) -> Result<Decision<'a, 's, A>, AllocError>
+    used: Slots<'s, A>,
+) -> Result<Decision<'s, A>, AllocError>
     requires on { serving_route_of turn.now.config waiting.wanted.name ≡ Some route }
     requires taken { waiting.taken ≡ turn.now.moment }
     requires aliases { HoldsEarlier turn.now.moment waiting }
@@ -207,109 +207,108 @@ fn admit<'a, 's, H: BuildHasher + Drop, A: Allocator + Copy>(
     }
 }
 
-/// Decides a question without an answer in the cache, on the route of its own name, or of the name
-/// at its aliases' end. It fails with `QuestionsFull` at the limit of `limits.questions`. Out of
-/// line: inlined, each answer would clear its frame.
-#[inline(never)]
-fn wait<'a, 's, H: BuildHasher + Drop, A: Allocator + Copy>(
-    turn: &TurnRef<'a, H, A>,
+/// A request whose look-up missed, copied into a question that waits: without an alias for its own
+/// question.
+fn waiting_with<A: Allocator + Copy>(
+    alloc: A,
     request: &Request<'_>,
-    sent_on: Option<SentOn<A>>,
+    looked: &LookUp<'_, '_, A>,
+) -> Result<Waiting<A>, AllocError>
+    requires missed { looked.now.met ≡ missed }
+    requires own { looked.now.held ≡ [] → waits_with request.now looked.now ≡ request.now }
+    ensures { IfOk result (λ waiting. waiting ≡ waits_with request.now looked.now) }
+{
+    if looked.chain().is_empty() {
+        return request.to_waiting(alloc, None);
+    }
+    let sent_on = sent_on(alloc, looked)?;
+    request.to_waiting(alloc, Some(sent_on))
+}
+
+/// Decides a question whose look-up missed, on the route of the wanted name. It fails with
+/// `QuestionsFull` at the limit of `limits.questions`. Out of line: inlined, each answer would
+/// clear its frame.
+#[inline(never)]
+fn wait<'s, H: BuildHasher + Drop, A: Allocator + Copy>(
+    turn: &TurnRef<'_, H, A>,
+    request: &Request<'_>,
+    looked: LookUp<'_, 's, A>,
     route: RouteId,
-    used: SlotsRef<'a, 's, A>,
-) -> Result<Decision<'a, 's, A>, AllocError>
-    requires on { serving_route_of turn.now.config (waits_on sent_on request.now).wanted.name ≡ Some route }
-    requires aliases { HoldsEarlier turn.now.moment (waits_on sent_on request.now) }
+) -> Result<Decision<'s, A>, AllocError>
+    requires missed { looked.met ≡ missed }
+    requires own { looked.held ≡ [] → waits_with request.now looked ≡ request.now }
+    requires on { serving_route_of turn.now.config looked.wanted.name ≡ Some route }
+    requires aliases { AllByRecursion (IsEarlier turn.now.moment) looked.held }
     requires taken { request.now.taken ≡ turn.now.moment }
     ensures decides { IfOk result (MeetsStep turn.now (row_of_waiting
-        (from_state (with_promoted used.entry turn.now.state) turn.now) (waits_on sent_on request.now))) }
+        (from_state (with_promoted looked.entry.used turn.now.state) turn.now) (waits_with request.now looked.entry))) }
 {
     let config = turn.config;
     if turn.kept.waiting.len() >= config.limits.questions {
-        return refuse(turn, request, Why::QuestionsFull, used);
+        return refuse(turn, request, Why::QuestionsFull, looked.into_slots());
     }
-    let waiting = request.to_waiting(turn.alloc, sent_on)?;
-    admit(turn, waiting, route, used)
-}
-
-/// Decides a question by its fate: a reply goes out, or the question waits.
-fn decide_fate<'a, 's, H: BuildHasher + Drop, A: Allocator + Copy>(
-    turn: &TurnRef<'a, H, A>,
-    request: &Request<'_>,
-    fate: Fate<A>,
-    used: SlotsRef<'a, 's, A>,
-) -> Result<Decision<'a, 's, A>, AllocError>
-    requires waits { IfWaits turn.now.config turn.now.moment request.now fate }
-    requires taken { request.now.taken ≡ turn.now.moment }
-    ensures decides { IfOk result (MeetsStep turn.now (row_of_fate
-        (from_state (with_promoted used.entry turn.now.state) turn.now) (fate_in request.now (becomes fate)))) }
-{
-    match fate {
-        Fate::Reply(action) => reply(turn, action, used),
-        Fate::Waits(sent_on, route) => wait(turn, request, sent_on, route, used),
-    }
+    let waiting = waiting_with(turn.alloc, request, &looked)?;
+    admit(turn, waiting, route, looked.into_slots())
 }
 
 /// Decides a question of a served kind. No route is looked up for an answer from the cache: each
 /// entry is within its name's route.
-fn look<'a, 's, H: BuildHasher + Drop, A: Allocator + Copy>(
-    turn: &TurnRef<'a, H, A>,
+fn look<'s, H: BuildHasher + Drop, A: Allocator + Copy>(
+    turn: &TurnRef<'_, H, A>,
     slot: &'s mut LookUpSlot,
     request: &Request<'_>,
-) -> Result<Decision<'a, 's, A>, AllocError>
+) -> Result<Decision<'s, A>, AllocError>
     requires taken { request.now.taken ≡ turn.now.moment }
     ensures decides { IfOk result (MeetsStep turn.now (row_of_route turn.now request.now
         (serving_route_of turn.now.config request.now.wanted.name))) }
 {
-    let looked = look_up(
-        turn.alloc,
-        &turn.cache_at(),
-        slot,
-        &request.question,
-        MOST_ALIASES,
-    )?;
-    let fate = fate_of(turn, request, looked.used(), &looked, None)?;
-    decide_fate(turn, request, fate, looked.into_slots())
+    let none = Vec::new(turn.alloc);
+    let looked = look_up(turn.alloc, &turn.cache_at(), slot, none, &request.question)?;
+    let fate = fate_of(turn, request, &looked)?;
+    match fate {
+        Fate::Reply(action) => reply(turn, action, looked.into_slots()),
+        Fate::Waits(route) => wait(turn, request, looked, route),
+    }
 }
 
 /// Decides a readable question. It fails with `NotServed` if its class or type is not served.
-fn serve<'a, 's, H: BuildHasher + Drop, A: Allocator + Copy>(
-    turn: &TurnRef<'a, H, A>,
+fn serve<'s, H: BuildHasher + Drop, A: Allocator + Copy>(
+    turn: &TurnRef<'_, H, A>,
     slot: &'s mut LookUpSlot,
     request: &Request<'_>,
-) -> Result<Decision<'a, 's, A>, AllocError>
+) -> Result<Decision<'s, A>, AllocError>
     requires taken { request.now.taken ≡ turn.now.moment }
     ensures decides { IfOk result (MeetsStep turn.now (row_of_service turn.now request.now)) }
 {
     if is_not_served(&request.question) {
-        return refuse(turn, request, Why::NotServed, SlotsRef::none(turn.alloc));
+        return refuse(turn, request, Why::NotServed, Slots::none(turn.alloc));
     }
     look(turn, slot, request)
 }
 
 /// Decides that a message without an accepted question fails.
-fn refuse_message<'a, 's, H: BuildHasher + Drop, A: Allocator + Copy>(
-    turn: &TurnRef<'a, H, A>,
+fn refuse_message<'s, H: BuildHasher + Drop, A: Allocator + Copy>(
+    turn: &TurnRef<'_, H, A>,
     client: Client,
     header: &Header,
     why: Why,
-) -> Result<Decision<'a, 's, A>, AllocError>
+) -> Result<Decision<'s, A>, AllocError>
     requires { header.now.opcode < 16 }
     ensures decides { IfOk result (MeetsStep turn.now (reply_step turn.now.moment
         (failed client (asked_in header.now None) why) turn.now.state)) }
 {
     let action = refusal(turn.alloc, client, header, why)?;
-    reply(turn, action, SlotsRef::none(turn.alloc))
+    reply(turn, action, Slots::none(turn.alloc))
 }
 
 /// Decides a message with one question. The name is copied only if it has a pointer.
-fn serve_message<'a, 's, H: BuildHasher + Drop, A: Allocator + Copy>(
-    turn: &TurnRef<'a, H, A>,
+fn serve_message<'s, H: BuildHasher + Drop, A: Allocator + Copy>(
+    turn: &TurnRef<'_, H, A>,
     slot: &'s mut LookUpSlot,
     client: Client,
     header: Header,
     message: &MessageRef<'_>,
-) -> Result<Decision<'a, 's, A>, AllocError>
+) -> Result<Decision<'s, A>, AllocError>
     requires opcode { header.opcode < 16 }
     ensures decides { IfOk result (MeetsStep turn.now (row_of_question turn.now client header
         (question_read (first_question message.now)))) }
@@ -339,12 +338,12 @@ fn serve_message<'a, 's, H: BuildHasher + Drop, A: Allocator + Copy>(
 /// borrow it. Nothing is decided on octets without a header, on more than 65,535, and on a reply.
 /// The reply is `BadOpcode` for an opcode other than 0, and `BadFormat` without exactly one
 /// readable question.
-pub fn on_client<'a, 's, H: BuildHasher + Drop, A: Allocator + Copy>(
-    turn: &TurnRef<'a, H, A>,
+pub fn on_client<'s, H: BuildHasher + Drop, A: Allocator + Copy>(
+    turn: &TurnRef<'_, H, A>,
     slot: &'s mut LookUpSlot,
     client: Client,
     bytes: &[u8],
-) -> Result<Decision<'a, 's, A>, AllocError>
+) -> Result<Decision<'s, A>, AllocError>
     ensures decides { IfOk result (MeetsStep turn.now (row_of_request turn.now client bytes.now)) }
     ensures dropped { is_taken bytes.now ≡ false → IsQuiet result }
 {

@@ -15,11 +15,11 @@ use step_values::Event;
 
 /// The decision on an event; `None` for a restart. The slot may be any: it serves a look-up, and
 /// the decision may borrow it.
-pub(crate) fn decide<'a, 's, H: BuildHasher + Drop, A: Allocator + Copy>(
-    turn: &TurnRef<'a, H, A>,
+pub(crate) fn decide<'s, H: BuildHasher + Drop, A: Allocator + Copy>(
+    turn: &TurnRef<'_, H, A>,
     slot: &'s mut LookUpSlot,
     event: &Event<A>,
-) -> Result<Option<Decision<'a, 's, A>>, AllocError>
+) -> Result<Option<Decision<'s, A>>, AllocError>
     ensures row { IfOk result (λ next. IsDecided turn.now (event_of event.now) next) }
     ensures no_memory { TakesNoMemory turn.now.config turn.now.moment turn.now.state (event_of event.now)
         → IsDecidedQuietly result }

@@ -60,6 +60,13 @@ impl LookUpSlot {
         self.hashed.slot.kind = kind;
     }
 
+    /// The slot alone, to be copied.
+    pub fn slot(&self) -> &Slot
+        ensures { result.now ≡ self.now }
+    {
+        &self.hashed.slot
+    }
+
     /// The name, letter case aside (RFC 4343).
     pub fn key(&self) -> &NameKey
         ensures { result.now ≡ self.now.key }

@@ -27,8 +27,7 @@ use Rattle.reply_match.specs.Verdicts.{judge}
 use Rattle.step_actions.specs.declared.decision.Preferred.{Preferred}
 use Rattle.step_actions.specs.declared.decision.Change.TheVariants.{Close, SendOn, AskAgain, Expire}
 use Rattle.step_actions.specs.declared.decision.Sending.{Sending}
-use Rattle.step_actions.specs.Fates.{Becomes, IsSentOn}
-use Rattle.reply_decisions.specs.Fates.{reply_of, onward_in, Become}
+use Rattle.reply_decisions.specs.Fates.{onward_of, AreFates}
 use Rattle.reply_decisions.proofs.Becoming.{replies_are, waiting_are}
 use Rattle.step_actions.specs.Decision.{left_waiting, with_preferred, without_closed, closed_path, closing_path, changed, gives_from, told_from, left_or_sent, with_reply, with_replies}
 use Rattle.step_table.proofs.CallerLemmas.{ask_on-is}
@@ -114,11 +113,11 @@ given_frees d q = λ x. one_fate (waits_for q x) (told_from d x) x
 
 -- ---- those that waited for an ask are sent on
 
-pub sending_row : (A : Type 0) (n : ℕ) (s : State) (a : Ask) (fate : Waiting → Fate) (each : List Becomes) (next : Option Ask) (used : List Slot) (boxed : Box (Sending A) A) (actions : List Action) → ask_on a.path s.asks ≡ Some a → AllByRecursion IsSentOn each → Become a.question fate s.waiting each
-    → boxed.value.path ≡ a.path → boxed.value.preferred.route ≡ a.route → boxed.value.preferred.server ≡ a.server → boxed.value.onward.items ≡ map onward_in each → boxed.value.ask ≡ next
-    → actions ≡ closes a.path ∷ (filter_map reply_of each ++ map asks (ask_list next))
+pub sending_row : (A : Type 0) (n : ℕ) (s : State) (a : Ask) (fate : Waiting → Fate) (each : List Fate) (next : Option Ask) (used : List Slot) (boxed : Box (Sending A) A) (actions : List Action) → ask_on a.path s.asks ≡ Some a → AreFates a.question fate s.waiting each
+    → boxed.value.path ≡ a.path → boxed.value.preferred.route ≡ a.route → boxed.value.preferred.server ≡ a.server → boxed.value.onward.items ≡ map onward_of each → boxed.value.ask ≡ next
+    → actions ≡ closes a.path ∷ (replies each ++ map asks (ask_list next))
     → record { actions = actions; unkept = 0; state = changed {A = A} n (with_promoted used s) (SendOn boxed) } ≡ closing_step n a fate next (with_promoted used (with_preferred_server a s))
-sending_row A n s a fate each next used boxed actions on sent become path route server onward ask told = λ i. record {
+sending_row A n s a fate each next used boxed actions on become path route server onward ask told = λ i. record {
   actions = actions_are i;
   unkept = 0;
   state = record {
@@ -136,8 +135,8 @@ sending_row A n s a fate each next used boxed actions on sent become path route 
 
     waiting_is : left_or_sent (ask_on boxed.value.path s.asks) boxed.value.onward.items s.waiting ≡ still_waiting (map fate s.waiting)
     waiting_is = (λ i. left_or_sent (ask_on (path i) s.asks) (onward i) s.waiting)
-        ∙ ap (λ (r : Option Ask). left_or_sent r (map onward_in each) s.waiting) on
-        ∙ waiting_are a.question fate s.waiting each sent become
+        ∙ ap (λ (r : Option Ask). left_or_sent r (map onward_of each) s.waiting) on
+        ∙ waiting_are a.question fate s.waiting each become
 
 -- ---- one ask after another
 

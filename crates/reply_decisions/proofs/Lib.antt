@@ -1,6 +1,7 @@
 pub mod Accepting
 pub mod Becoming
 pub mod Beside
+pub mod Chains
 pub mod Deciding
 pub mod Earlier
 pub mod Going

@@ -1,5 +1,5 @@
 -- A reply that leads on: what the code decides is what the table has.
-use Rattle.std.proofs.Common.{◌≡◌, ℕ, ◌^◌, ◌≤◌, List, [], ◌∷◌, ◌++◌, length, Bool, true, false, Option, Some, None, refl, sym, ap, ◌∙◌, arith}
+use Rattle.std.proofs.Common.{◌≡◌, ℕ, ◌^◌, ◌≤◌, List, [], ◌∷◌, ◌++◌, Bool, true, false, Option, Some, None, refl, sym, ap, ◌∙◌, subst, arith}
 use Rattle.std.specs.Prelude.{filter, is_some, map}
 use Rattle.std.specs.List.{flat_map, AllByRecursion}
 use Rattle.std.proofs.lemmas.Bool.{cond-true, cond-false}
@@ -13,17 +13,17 @@ use Rattle.trust_rank.specs.Values.{Piece, End, elsewhere, Walk}
 use Rattle.record_cache.specs.Values.{Held, Cache}
 use Rattle.answer_builder.specs.Answers.{IsEarlier}
 use Rattle.suffix_routes.specs.Serving.{serving_route_of}
-use Rattle.waiting_questions.specs.Onward.{Onward}
-use Rattle.step_table.specs.State.{State, turn}
+use Rattle.waiting_questions.specs.Onward.{Onward, sent_on}
+use Rattle.step_table.specs.State.{State, Turn, turn}
 use Rattle.waiting_questions.specs.Values.{Waiting, waits_for}
 use Rattle.step_table.specs.Attempts.{first_ask_on}
-use Rattle.step_table.specs.Steps.{Done, Fate, waits, still_waiting, with_preferred_server, with_promoted, closing_step, offering_step}
+use Rattle.step_table.specs.Steps.{Done, Fate, gets, waits, still_waiting, with_preferred_server, with_promoted, closing_step, offering_step}
 use Rattle.step_table.specs.Replies.{fate_by, looked_by, unless_open, to_be_asked, without_port, unless_no_port, row_of_next_name, row_of_sent_on, row_of_end, row_of_acceptance}
 use Rattle.step_table.specs.Clients.{fate_of}
 use Rattle.alias_chains.specs.Offering.{held_at}
-use Rattle.step_actions.specs.Fates.{Becomes, IsSentOn}
-use Rattle.reply_decisions.specs.Fates.{fates_in, first_wanted, looked_behind, fate_behind, onward_in, Become}
-use Rattle.reply_decisions.proofs.Becoming.{none_wanted, FirstWaits, first_waits, same_fates}
+use Rattle.reply_decisions.specs.Fates.{first_wanted, looked_on, onward_of, AreFates}
+use Rattle.reply_decisions.proofs.Becoming.{same_fates}
+use Rattle.reply_decisions.proofs.Going.{waits_with_it}
 use Rattle.reply_decisions.proofs.Earlier.{IsHeld, Holds, no_port_holds, all_hold}
 use Rattle.step_table.proofs.CallerLemmas.{without_shorter, All-weaker}
 use Rattle.step_actions.specs.Kept.{IsKeptForwarder}
@@ -33,18 +33,18 @@ use Rattle.reply_decisions.specs.Sending.{closing_state, asked_for, ask_for, fat
 
 -- ---- what is asked for
 
--- what the first of those wants that are sent on, unless it is asked already
-pub asked_is : (a : Ask) (s : State) (those : List Waiting) (each : List Becomes) (wanted : Question)
-    → AllByRecursion IsSentOn each → length each ≡ length those → first_wanted each ≡ Some wanted
-    → asked_for a s (fates_in those each) ≡ unless_open wanted (of_question wanted (without_path a.path s.asks))
-asked_is a s those each wanted on count is =
-    let first : FirstWaits wanted (still_waiting (fates_in those each)) = first_waits wanted those each on count is in
-    ap (to_be_asked (without_path a.path s.asks)) first.are
-    ∙ ap (λ (q : Question). unless_open q (of_question q (without_path a.path s.asks))) first.wants
+none_of : (listed : List Ask) (ys : List Waiting) → first_wanted ys ≡ None → to_be_asked listed ys ≡ None
+none_of listed [] none = refl
+none_of listed (y ∷ ys) none = absurd (cc)
 
-pub none_asked : (a : Ask) (s : State) (those : List Waiting) (each : List Becomes) → AllByRecursion IsSentOn each
-    → first_wanted each ≡ None → asked_for a s (fates_in those each) ≡ None
-none_asked a s those each on none = ap (to_be_asked (without_path a.path s.asks)) (none_wanted those each on none)
+first_of : (listed : List Ask) (ys : List Waiting) (wanted : Question) → first_wanted ys ≡ Some wanted
+    → to_be_asked listed ys ≡ unless_open wanted (of_question wanted listed)
+first_of listed [] wanted is = absurd (cc)
+first_of listed (y ∷ ys) wanted is =
+    let same : y.wanted ≡ wanted = cc in ap (λ (q : Question). unless_open q (of_question q listed)) same
+
+pub none_asked : (a : Ask) (s : State) (each : List Fate) → first_wanted (still_waiting each) ≡ None → asked_for a s each ≡ None
+none_asked a s each none = none_of (without_path a.path s.asks) (still_waiting each) none
 
 -- ---- the fate of each that waits
 
@@ -79,14 +79,27 @@ then_those q fate None next xs = refl
 then_those q fate (Some wanted) (Some next) xs = refl
 then_those q fate (Some wanted) None xs = no_port_of q fate xs
 
-pub become_then : (q : Question) (fate : Waiting → Fate) (asked : Option Question) (next : Option Ask)
-    (xs : List Waiting) (each : List Becomes) → ((x : Waiting) → waits_for q x ≡ false → fate x ≡ waits x)
-    → length each ≡ length (filter (waits_for q) xs)
-    → fates_in (filter (waits_for q) xs) each ≡ fates_then asked next (map fate (filter (waits_for q) xs))
-    → Become q (fate_then q fate asked next) xs each
-become_then q fate asked next xs each others count are = record {
-  count = count;
-  those = are ∙ then_those q fate asked next xs;
+-- each waits on with its own client
+abbrev IsOwn : Question → (Waiting → Fate) → Type 0
+IsOwn q fate = (x y : Waiting) → waits_for q x ≡ true → fate x ≡ waits y → y ≡ sent_on (record { held = y.held; wanted = y.wanted }) x
+
+then_own : (q : Question) (fate : Waiting → Fate) (asked : Option Question) (next : Option Ask) → IsOwn q fate
+    → IsOwn q (fate_then q fate asked next)
+then_own q fate None next own x y t is = own x y t is
+then_own q fate (Some wanted) (Some next) own x y t is = own x y t is
+then_own q fate (Some wanted) None own x y t is = by (fate x) (sym (cond-true (waits_for q x) _ _ t) ∙ is)
+  where
+    by : (f : Fate) → without_port f ≡ waits y → y ≡ sent_on (record { held = y.held; wanted = y.wanted }) x
+    by (gets reply) e = absurd (cc)
+    by (waits z) e = absurd (cc)
+
+are_then : (q : Question) (fate : Waiting → Fate) (asked : Option Question) (next : Option Ask)
+    (xs : List Waiting) (each : List Fate) → ((x : Waiting) → waits_for q x ≡ false → fate x ≡ waits x) → IsOwn q fate
+    → each ≡ fates_then asked next (map fate (filter (waits_for q) xs))
+    → AreFates q (fate_then q fate asked next) xs each
+are_then q fate asked next xs each others own are = record {
+  are = are ∙ then_those q fate asked next xs;
+  own = then_own q fate asked next own;
   others = then_others q fate asked next others;
 }
 
@@ -100,23 +113,29 @@ module _ (c : Config) (n : ℕ) (words : List ℕ) (a : Ask) (w : Walk) (s : Sta
   abbrev fate : Waiting → Fate
   fate = fate_by c n s.cache.entries a w
 
-  abbrev behind : Waiting → Fate
-  behind = fate_behind c n s.cache.entries (map (held_at n) w.pieces) name
+  abbrev t : Turn
+  t = turn c n words s
 
-  looked_is : (x : Waiting) → looked_by c n s.cache.entries w x w.end ≡ looked_behind c n s.cache.entries
-      (map (held_at n) w.pieces) name x
+  abbrev behind : Waiting → Fate
+  behind = λ x. fate_of c n x (looked_on t (map (held_at n) w.pieces) name x)
+
+  looked_is : (x : Waiting) → looked_by c n s.cache.entries w x w.end ≡ looked_on t (map (held_at n) w.pieces) name x
   looked_is x = ap (looked_by c n s.cache.entries w x) leads
 
   -- of those that wait for the ask, what the table has
   pub fates_are : map behind those ≡ map fate those
   fates_are = same_fates (waits_for a.question) behind fate
-      (λ x t. sym (cond-true (waits_for a.question x) _ _ t ∙ ap (fate_of c n x) (looked_is x))) s.waiting
+      (λ x is. sym (cond-true (waits_for a.question x) _ _ is ∙ ap (fate_of c n x) (looked_is x))) s.waiting
+
+  own_waits : IsOwn a.question fate
+  own_waits x y is waits_so =
+      (waits_with_it c n (looked_by c n s.cache.entries w x w.end) x y (sym (cond-true (waits_for a.question x) _ _ is) ∙ waits_so)).own
 
   -- all others wait on
   pub others_wait : (x : Waiting) → waits_for a.question x ≡ false → fate x ≡ waits x
   others_wait x f = cond-false (waits_for a.question x) _ _ f
 
-  used_one : (xs : List Waiting) → flat_map (λ x. (looked_behind c n s.cache.entries
+  used_one : (xs : List Waiting) → flat_map (λ x. (looked_on t
       (map (held_at n) w.pieces) name x).used) xs ≡ flat_map (λ x. (looked_by c n s.cache.entries w x w.end).used) xs
   used_one xs = ap (λ (e : End). flat_map (λ x. (looked_by c n s.cache.entries w x e).used) xs) (sym leads)
 
@@ -134,7 +153,7 @@ module _ (c : Config) (n : ℕ) (words : List ℕ) (a : Ask) (w : Walk) (s : Sta
   accepted_is : (rooms : List Bool) (asked : Option Question) (next : Option Ask) (used : List Slot)
       (pieces : List Piece) → asked ≡ asked_for a s (map fate those)
       → next ≡ ask_for (turn c n words (closing_state a s)) asked
-      → used ≡ flat_map (λ x. (looked_behind c n s.cache.entries (map (held_at n) w.pieces) name x).used) those
+      → used ≡ flat_map (λ x. (looked_on t (map (held_at n) w.pieces) name x).used) those
       → pieces ≡ w.pieces ++ w.authority
       → offering_step n rooms pieces (closing_step n a (fate_then a.question fate asked next) next
       (with_promoted used (with_preferred_server a s))) ≡ row_of_acceptance (turn c n words s) rooms a w
@@ -149,68 +168,64 @@ module _ (c : Config) (n : ℕ) (words : List ℕ) (a : Ask) (w : Walk) (s : Sta
 
   -- the decision is the table's: each question is looked up after these aliases, and then it is
   -- known whether there is an ask
-  module _ (aliases : List Held) (xs : List Waiting) (each : List Becomes) (next : Option Ask)
+  module _ (aliases : List Held) (xs : List Waiting) (each : List Fate) (next : Option Ask)
       (aliases_are : aliases ≡ map (held_at n) w.pieces) (xs_are : xs ≡ those)
-      (each_are : fates_in xs each ≡ map (fate_behind c n s.cache.entries aliases name) xs) where
+      (each_are : each ≡ map (λ x. fate_of c n x (looked_on t aliases name x)) xs) where
     abbrev then : Waiting → Fate
     then = fate_then a.question fate (asked_for a s (map fate those)) next
 
-    each_then : fates_in xs each ≡ map fate those
-    each_then = each_are ∙ (λ i. map (fate_behind c n s.cache.entries (aliases_are i) name) (xs_are i)) ∙ fates_are
+    each_then : each ≡ map fate those
+    each_then = each_are ∙ (λ i. map (λ x. fate_of c n x (looked_on t (aliases_are i) name x)) (xs_are i)) ∙ fates_are
 
-    pub sent_become : (told : List Becomes) → length told ≡ length xs
-        → fates_in xs told ≡ fates_then (asked_for a s (fates_in xs each)) next (fates_in xs each)
-        → Become a.question then s.waiting told
-    sent_become told count told_are =
-        become_then a.question fate (asked_for a s (map fate those)) next s.waiting told others_wait
-        (count ∙ ap (λ (ys : List Waiting). length ys) xs_are)
-        (ap (λ (ys : List Waiting). fates_in ys told) (sym xs_are) ∙ told_are
-        ∙ ap (λ (fs : List Fate). fates_then (asked_for a s fs) next fs) each_then)
+    pub sent_are : (told : List Fate) → told ≡ fates_then (asked_for a s each) next each
+        → AreFates a.question then s.waiting told
+    sent_are told told_are =
+        are_then a.question fate (asked_for a s (map fate those)) next s.waiting told others_wait own_waits
+        (told_are ∙ ap (λ (fs : List Fate). fates_then (asked_for a s fs) next fs) each_then)
 
-    pub sent_row : (rooms : List Bool) (met used : List Held) (pieces : List Piece) (d : Done)
-        → next ≡ ask_for (turn c n words (closing_state a s)) (asked_for a s (fates_in xs each))
-        → map (λ h. h.piece.slot) met ≡ flat_map (λ x. (looked_behind c n s.cache.entries aliases name x).used) xs
+    pub sent_row : (rooms : List Bool) (met used : List Slot) (pieces : List Piece) (d : Done)
+        → next ≡ ask_for (turn c n words (closing_state a s)) (asked_for a s each)
+        → met ≡ flat_map (λ x. (looked_on t aliases name x).used) xs
         → used ≡ met → pieces ≡ w.pieces ++ w.authority
         → d ≡ offering_step n rooms pieces (closing_step n a then next
-        (with_promoted (map (λ h. h.piece.slot) used) (with_preferred_server a s)))
+        (with_promoted used (with_preferred_server a s)))
         → d ≡ row_of_acceptance (turn c n words s) rooms a w
     sent_row rooms met used pieces d next_is met_used used_is pieces_are d_is =
         d_is
-        ∙ accepted_is rooms (asked_for a s (map fate those)) next (map (λ h. h.piece.slot) used) pieces refl
+        ∙ accepted_is rooms (asked_for a s (map fate those)) next used pieces refl
         (next_is ∙ ap (λ (fs : List Fate). ask_for (turn c n words (closing_state a s)) (asked_for a s fs)) each_then)
-        (ap (map (λ h. h.piece.slot)) used_is ∙ met_used ∙ (λ i. flat_map
-        (λ x. (looked_behind c n s.cache.entries (aliases_are i) name x).used) (xs_are i))) pieces_are
+        (used_is ∙ met_used ∙ (λ i. flat_map
+        (λ x. (looked_on t (aliases_are i) name x).used) (xs_are i))) pieces_are
 
 -- ---- what those hold that are sent on
 
 module _ (n : ℕ) (behind : Waiting → Fate) (holds : Holds (IsEarlier n) behind) (xs : List Waiting)
-    (told : List Becomes) (count : length told ≡ length xs)
     (own : AllByRecursion (λ x. AllByRecursion (IsEarlier n) x.held) xs) where
   then_holds : (asked : Option Question) (next : Option Ask)
-      → fates_in xs told ≡ fates_then asked next (map behind xs)
-      → AllByRecursion (λ b. IsHeld (IsEarlier n) (onward_in b)) told
-  then_holds None next are = all_hold (IsEarlier n) behind holds xs told count own are
-  then_holds (Some q) (Some next) are = all_hold (IsEarlier n) behind holds xs told count own are
-  then_holds (Some q) None are = all_hold (IsEarlier n) (λ x. without_port (behind x))
-      (no_port_holds (IsEarlier n) behind) xs told count own (are ∙ map-map without_port behind xs)
+      → AllByRecursion (λ f. IsHeld (IsEarlier n) (onward_of f)) (fates_then asked next (map behind xs))
+  then_holds None next = all_hold (IsEarlier n) behind holds xs own
+  then_holds (Some q) (Some next) = all_hold (IsEarlier n) behind holds xs own
+  then_holds (Some q) None = subst (AllByRecursion (λ f. IsHeld (IsEarlier n) (onward_of f))) (sym (map-map without_port behind xs))
+      (all_hold (IsEarlier n) (λ x. without_port (behind x)) (no_port_holds (IsEarlier n) behind) xs own)
 
   earlier_then : (o : Option Onward) → IsHeld (IsEarlier n) o → IsSentEarlier n o
   earlier_then None is = tt
   earlier_then (Some s) is = is
 
   -- their aliases were accepted by now
-  pub sent_earlier : (asked : Option Question) (next : Option Ask)
-      → fates_in xs told ≡ fates_then asked next (map behind xs)
-      → AllByRecursion (λ b. IsSentEarlier n (onward_in b)) told
-  sent_earlier asked next are = All-weaker (λ b. IsHeld (IsEarlier n) (onward_in b))
-      (λ b. IsSentEarlier n (onward_in b)) (λ b is. earlier_then (onward_in b) is) told (then_holds asked next are)
+  pub sent_earlier : (asked : Option Question) (next : Option Ask) (told : List Fate)
+      → told ≡ fates_then asked next (map behind xs)
+      → AllByRecursion (λ f. IsSentEarlier n (onward_of f)) told
+  sent_earlier asked next told are = All-weaker (λ f. IsHeld (IsEarlier n) (onward_of f))
+      (λ f. IsSentEarlier n (onward_of f)) (λ f is. earlier_then (onward_of f) is) told
+      (subst (AllByRecursion (λ f. IsHeld (IsEarlier n) (onward_of f))) (sym are) (then_holds asked next))
 
 -- ---- what each is sent on with
 
-pub sent_all : (n : ℕ) (each : List Becomes) → AllByRecursion (λ b. IsSentEarlier n (onward_in b)) each
-    → AllByRecursion (IsSentEarlier n) (map onward_in each)
+pub sent_all : (n : ℕ) (each : List Fate) → AllByRecursion (λ f. IsSentEarlier n (onward_of f)) each
+    → AllByRecursion (IsSentEarlier n) (map onward_of each)
 sent_all n [] all = tt
-sent_all n (b ∷ each) all = (all.0, sent_all n each all.1)
+sent_all n (f ∷ each) all = (all.0, sent_all n each all.1)
 
 -- ---- whether it is asked already
 
@@ -222,16 +237,13 @@ unopened_is : (q : Question) (o : Option Ask) → is_some o ≡ false → unless
 unopened_is q None is = refl
 unopened_is q (Some a) is = absurd (cc)
 
-module _ (a : Ask) (s : State) (those : List Waiting) (each : List Becomes) (wanted : Question)
-    (on : AllByRecursion IsSentOn each) (count : length each ≡ length those) (is : first_wanted each ≡ Some wanted) where
-  pub asked_already : is_some (of_question wanted (without_path a.path s.asks)) ≡ true
-      → asked_for a s (fates_in those each) ≡ None
-  asked_already there = asked_is a s those each wanted on count is
+module _ (a : Ask) (s : State) (each : List Fate) (wanted : Question) (is : first_wanted (still_waiting each) ≡ Some wanted) where
+  pub asked_already : is_some (of_question wanted (without_path a.path s.asks)) ≡ true → asked_for a s each ≡ None
+  asked_already there = first_of (without_path a.path s.asks) (still_waiting each) wanted is
       ∙ open_is wanted (of_question wanted (without_path a.path s.asks)) there
 
-  pub asked_now : is_some (of_question wanted (without_path a.path s.asks)) ≡ false
-      → asked_for a s (fates_in those each) ≡ Some wanted
-  asked_now none = asked_is a s those each wanted on count is
+  pub asked_now : is_some (of_question wanted (without_path a.path s.asks)) ≡ false → asked_for a s each ≡ Some wanted
+  asked_now none = first_of (without_path a.path s.asks) (still_waiting each) wanted is
       ∙ unopened_is wanted (of_question wanted (without_path a.path s.asks)) none
 
 -- ---- the ask for it may be listed

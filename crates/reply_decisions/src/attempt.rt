@@ -21,11 +21,11 @@ use step_texts::ask as ask_action;
 use step_values::{Actions, Why};
 
 /// Closes the ask; those that wait for it fail for this reason.
-pub(crate) fn give_up<'a, 's, H: BuildHasher + Drop, A: Allocator + Copy>(
-    turn: &TurnRef<'a, H, A>,
+pub(crate) fn give_up<'s, H: BuildHasher + Drop, A: Allocator + Copy>(
+    turn: &TurnRef<'_, H, A>,
     ask: &KeyedAsk<A>,
     why: Why,
-) -> Result<Decision<'a, 's, A>, AllocError>
+) -> Result<Decision<'s, A>, AllocError>
     requires { ask_on ask.now.path turn.now.state.asks ≡ Some ask.now }
     ensures decides { IfOk result (MeetsStep turn.now (closing_step turn.now.moment ask.now
         (fails why ask.now.question) None turn.now.state)) }
@@ -38,10 +38,10 @@ pub(crate) fn give_up<'a, 's, H: BuildHasher + Drop, A: Allocator + Copy>(
 
 /// Closes the ask, whose question has no try left; those that wait for it get their last
 /// reply.
-fn run_out<'a, 's, H: BuildHasher + Drop, A: Allocator + Copy>(
-    turn: &TurnRef<'a, H, A>,
+fn run_out<'s, H: BuildHasher + Drop, A: Allocator + Copy>(
+    turn: &TurnRef<'_, H, A>,
     ask: &KeyedAsk<A>,
-) -> Result<Decision<'a, 's, A>, AllocError>
+) -> Result<Decision<'s, A>, AllocError>
     requires on { ask_on ask.now.path turn.now.state.asks ≡ Some ask.now }
     ensures decides { IfOk result (MeetsStep turn.now (closing_step turn.now.moment ask.now
         (runs_out turn.now.config turn.now.moment turn.now.state.cache.entries ask.now.question) None
@@ -54,11 +54,11 @@ fn run_out<'a, 's, H: BuildHasher + Drop, A: Allocator + Copy>(
 }
 
 /// Closes the ask, and sends the next one.
-fn ask_again<'a, 's, H: BuildHasher + Drop, A: Allocator + Copy>(
-    turn: &TurnRef<'a, H, A>,
+fn ask_again<'s, H: BuildHasher + Drop, A: Allocator + Copy>(
+    turn: &TurnRef<'_, H, A>,
     ask: &KeyedAsk<A>,
     next: Ask<A>,
-) -> Result<Decision<'a, 's, A>, AllocError>
+) -> Result<Decision<'s, A>, AllocError>
     requires on { ask_on ask.now.path turn.now.state.asks ≡ Some ask.now }
     requires follows { CanFollow turn.now.config turn.now.moment turn.now.state
         (without_path ask.now.path turn.now.state.asks) next }
@@ -76,12 +76,12 @@ fn ask_again<'a, 's, H: BuildHasher + Drop, A: Allocator + Copy>(
 
 /// Closes the ask, and asks another server over the drawn path. Without one those that
 /// wait fail.
-fn retry<'a, 's, H: BuildHasher + Drop, A: Allocator + Copy>(
-    turn: &TurnRef<'a, H, A>,
+fn retry<'s, H: BuildHasher + Drop, A: Allocator + Copy>(
+    turn: &TurnRef<'_, H, A>,
     ask: &KeyedAsk<A>,
     server: u8,
     drawn: Option<(u16, Path)>,
-) -> Result<Decision<'a, 's, A>, AllocError>
+) -> Result<Decision<'s, A>, AllocError>
     requires on { ask_on ask.now.path turn.now.state.asks ≡ Some ask.now }
     requires tries { ask.now.used < 255 }
     requires follows { (next : AskValue) → ask_by turn.now.moment ask.now.question ask.now.route server
@@ -106,11 +106,11 @@ fn retry<'a, 's, H: BuildHasher + Drop, A: Allocator + Copy>(
 
 /// Closes the ask of a failed attempt; then the next ask goes out, or the questions waiting for it
 /// get the reason.
-pub(crate) fn fail<'a, 's, H: BuildHasher + Drop, A: Allocator + Copy>(
-    turn: &TurnRef<'a, H, A>,
+pub(crate) fn fail<'s, H: BuildHasher + Drop, A: Allocator + Copy>(
+    turn: &TurnRef<'_, H, A>,
     ask: &KeyedAsk<A>,
     failure: Failure,
-) -> Result<Decision<'a, 's, A>, AllocError>
+) -> Result<Decision<'s, A>, AllocError>
     requires on { ask_on ask.now.path turn.now.state.asks ≡ Some ask.now }
     ensures decides { IfOk result (MeetsStep turn.now (row_of_failure turn.now ask.now failure)) }
 {
@@ -130,10 +130,10 @@ pub(crate) fn fail<'a, 's, H: BuildHasher + Drop, A: Allocator + Copy>(
 }
 
 /// Decides on the end of a path: its ask is a failed attempt. Nothing without an ask.
-pub fn on_failed_path<'a, 's, H: BuildHasher + Drop, A: Allocator + Copy>(
-    turn: &TurnRef<'a, H, A>,
+pub fn on_failed_path<'s, H: BuildHasher + Drop, A: Allocator + Copy>(
+    turn: &TurnRef<'_, H, A>,
     path: Path,
-) -> Result<Decision<'a, 's, A>, AllocError>
+) -> Result<Decision<'s, A>, AllocError>
     ensures decides { IfOk result (MeetsStep turn.now (row_of_failed_path turn.now
         (ask_on path turn.now.state.asks))) }
     ensures unlisted { ask_on path turn.now.state.asks ≡ None → IsQuiet result }

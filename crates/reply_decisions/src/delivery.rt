@@ -25,7 +25,7 @@ ghost use Rattle.step_table.specs.State.{turn};
 
 use crate::attempt::fail;
 use crate::sending::send_on;
-use alias_chains::{SlotsRef, held_from};
+use alias_chains::{Slots, held_from};
 use dns_message::{Fault, Message, MessageRef};
 use outstanding::{KeyedAsk, Path};
 use plain_values::PlainList;
@@ -39,12 +39,12 @@ use trust_rank::{End, Piece, Walk, pieces};
 
 /// Accepts a reply that answers, with these pieces: all that wait for it are answered, and its
 /// pieces are kept.
-fn accept<'a, 's, H: BuildHasher + Drop, A: Allocator + Copy>(
-    turn: &TurnRef<'a, H, A>,
+fn accept<'s, H: BuildHasher + Drop, A: Allocator + Copy>(
+    turn: &TurnRef<'_, H, A>,
     ask: &KeyedAsk<A>,
     pieces: PlainList<Piece<A>, A>,
     authority: PlainList<Piece<A>, A>,
-) -> Result<Decision<'a, 's, A>, AllocError>
+) -> Result<Decision<'s, A>, AllocError>
     requires on { ask_on ask.now.path turn.now.state.asks ≡ Some ask.now }
     ensures decides { (e : EndValue) → has_last e ≡ true → IsWalkFor turn.now.config ask.now (walk_to pieces authority e)
         → IfOk result (MeetsRow turn.now (λ rooms. row_of_acceptance turn.now rooms ask.now
@@ -61,18 +61,18 @@ fn accept<'a, 's, H: BuildHasher + Drop, A: Allocator + Copy>(
     };
     Ok(Decision {
         actions,
-        used: SlotsRef::none(turn.alloc),
+        used: Slots::none(turn.alloc),
         change: Change::Close(answered.path, Some(preferred)),
         carried: held,
     })
 }
 
 /// Decides a message that matches the ask. A lame server is a failed attempt.
-fn on_message<'a, 's, H: BuildHasher + Drop, A: Allocator + Copy>(
-    turn: &TurnRef<'a, H, A>,
+fn on_message<'s, H: BuildHasher + Drop, A: Allocator + Copy>(
+    turn: &TurnRef<'_, H, A>,
     ask: &KeyedAsk<A>,
     message: &Message<A>,
-) -> Result<Decision<'a, 's, A>, AllocError>
+) -> Result<Decision<'s, A>, AllocError>
     requires on { ask_on ask.now.path turn.now.state.asks ≡ Some ask.now }
     requires read { IsRead message.now }
     ensures decides { IfOk result (MeetsRow turn.now (λ rooms. row_of_walk turn.now rooms ask.now
@@ -106,11 +106,11 @@ fn wants_memory(fault: Fault) -> bool
 
 /// Reads a whole message that matches the ask, and decides it. An unreadable message is a failed
 /// attempt; `Err` only if memory ran out.
-fn on_whole<'a, 's, H: BuildHasher + Drop, A: Allocator + Copy>(
-    turn: &TurnRef<'a, H, A>,
+fn on_whole<'s, H: BuildHasher + Drop, A: Allocator + Copy>(
+    turn: &TurnRef<'_, H, A>,
     ask: &KeyedAsk<A>,
     view: &MessageRef<'_>,
-) -> Result<Decision<'a, 's, A>, AllocError>
+) -> Result<Decision<'s, A>, AllocError>
     requires on { ask_on ask.now.path turn.now.state.asks ≡ Some ask.now }
     requires octets { AreOctets view.now }
     ensures decides { IfOk result (MeetsRow turn.now (λ rooms. row_of_message turn.now rooms ask.now
@@ -124,11 +124,11 @@ fn on_whole<'a, 's, H: BuildHasher + Drop, A: Allocator + Copy>(
 }
 
 /// Decides a judged delivery. Nothing for a stranger's octets.
-fn on_verdict<'a, 's, H: BuildHasher + Drop, A: Allocator + Copy>(
-    turn: &TurnRef<'a, H, A>,
+fn on_verdict<'s, H: BuildHasher + Drop, A: Allocator + Copy>(
+    turn: &TurnRef<'_, H, A>,
     ask: &KeyedAsk<A>,
     judged: Judged<'_>,
-) -> Result<Decision<'a, 's, A>, AllocError>
+) -> Result<Decision<'s, A>, AllocError>
     requires on { ask_on ask.now.path turn.now.state.asks ≡ Some ask.now }
     requires octets { ShowsOctets judged }
     ensures decides { (octets : List ℕ) → IsViewOf octets judged.entry
@@ -149,12 +149,12 @@ fn on_verdict<'a, 's, H: BuildHasher + Drop, A: Allocator + Copy>(
 /// are not its reply. Out of line: inlined, its frame would be on the stack of each client's
 /// question.
 #[inline(never)]
-pub fn on_delivery<'a, 's, H: BuildHasher + Drop, A: Allocator + Copy>(
-    turn: &TurnRef<'a, H, A>,
+pub fn on_delivery<'s, H: BuildHasher + Drop, A: Allocator + Copy>(
+    turn: &TurnRef<'_, H, A>,
     path: Path,
     from: Peer,
     bytes: &[u8],
-) -> Result<Decision<'a, 's, A>, AllocError>
+) -> Result<Decision<'s, A>, AllocError>
     ensures decides { IfOk result (MeetsRow turn.now (λ rooms. row_of_delivery turn.now rooms from bytes.now
         (ask_on path turn.now.state.asks))) }
     ensures unmatched { verdict_on turn.now.config turn.now.moment from bytes.now

@@ -1,27 +1,26 @@
 //! The fate of a question that waited for a reply with aliases to an unanswered name.
 
-ghost use Rattle.std.specs.Prelude.{◌≡◌, ◌++◌, ◌+◌, ◌≤◌, ℕ, List, [], length, IfOk};
+ghost use Rattle.std.specs.Prelude.{◌≡◌, ◌++◌, option_map, IfOk, MatchOption, None, Some};
 ghost use Rattle.std.specs.List.{AllByRecursion};
+ghost use Rattle.plain_values.specs.Borrowed.{lent};
 ghost use Rattle.answer_builder.specs.Answers.{IsEarlier};
-ghost use Rattle.record_cache.specs.Values.{Held as HeldValue};
 ghost use Rattle.dns_message.specs.Questions.{asked_at};
-ghost use Rattle.alias_chains.specs.LookingUp.{look_up};
-ghost use Rattle.alias_chains.specs.Seen.{seen_of};
-ghost use Rattle.alias_chains.specs.declared.looked.LookUpEnd.{LookUpEnd};
+ghost use Rattle.alias_chains.specs.Looked.{chain_of};
+ghost use Rattle.step_table.specs.Clients.{fate_of};
 ghost use Rattle.step_table.specs.Replies.{without_port};
-ghost use Rattle.step_actions.specs.Fates.{becomes, fate_in, IsSentOn};
-ghost use Rattle.reply_decisions.specs.Fates.{fate_behind};
+ghost use Rattle.step_table.specs.Steps.{waiting_in};
+ghost use Rattle.reply_decisions.specs.Fates.{fate_now};
 
-use alias_chains::{LookUp, chain_of};
-use dns_message::QuestionRef;
+use alias_chains::LookUp;
+use dns_message::{Question, QuestionRef};
 use dns_name::Name;
 use record_cache::Held;
 use std::alloc::{AllocError, Allocator, Global};
 use std::hash::BuildHasher;
-use step_actions::{Fate, TurnRef, fate_of};
+use step_actions::{Fate, TurnRef, fate_of, sent_on};
 use step_texts::failure;
-use step_values::Why;
-use waiting_questions::Waiting;
+use step_values::{Action, Why};
+use waiting_questions::{SentOn, Waiting};
 
 /// The aliases of a reply, and their target.
 #[derive(Drop)]
@@ -40,49 +39,86 @@ impl<'a, A: Allocator> AliasLead<'a, A> {
         let own = waiting.wanted();
         QuestionRef::from_octets(self.name.octets(), own.kind, own.class)
     }
+
+    /// The aliases that a question holds, and then the aliases of the reply.
+    pub(crate) fn chain(
+        &self,
+        alloc: A,
+        waiting: &'a Waiting<A>,
+    ) -> Result<Vec<&'a Held<A>, A>, AllocError>
+        ensures { IfOk result (λ chain. lent chain.items ≡ waiting.now.held ++ self.now.aliases.now) }
+    {
+        let mut chain = Vec::new(alloc);
+        put_all(&mut chain, waiting.aliases())?;
+        put_all(&mut chain, self.aliases)?;
+        Ok(chain)
+    }
 }
 
-/// The fate of a question by this look-up, which went on after its own aliases and those of the
+/// Puts pieces last, borrowed.
+fn put_all<'a, A: Allocator>(
+    chain: &mut Vec<&'a Held<A>, A>,
+    pieces: &'a [Held<A>],
+) -> Result<(), AllocError>
+    ensures { IfOk result (λ _. lent chain.new.items ≡ lent chain.old.items ++ pieces.now) }
+{
+    for held in pieces {
+        chain.push(held)?;
+    }
+    Ok(())
+}
+
+/// The fate of a question that waited: its reply, or the aliases and the question of its further
+/// wait.
+#[derive(Drop)]
+pub(crate) enum WaitingFate<'a, A: Allocator = Global> {
+    Reply(Action<A>),
+    SentOn(&'a Waiting<A>, SentOn<A>),
+}
+
+/// The fate of a question by its look-up, which went on after its own aliases and those of the
 /// reply.
-pub(crate) fn fate_behind<'a, H: BuildHasher + Drop, A: Allocator + Copy>(
-    turn: &TurnRef<'a, H, A>,
-    lead: &AliasLead<'_, A>,
-    waiting: &Waiting<A>,
+pub(crate) fn fate_after<'a, H: BuildHasher + Drop, A: Allocator + Copy>(
+    turn: &TurnRef<'_, H, A>,
+    waiting: &'a Waiting<A>,
     looked: &LookUp<'_, '_, A>,
-) -> Result<Fate<A>, AllocError>
-    requires own { AllByRecursion (IsEarlier turn.now.moment) waiting.now.held }
-    requires aliases { AllByRecursion (IsEarlier turn.now.moment) lead.now.aliases.now }
-    requires used { AllByRecursion (IsEarlier turn.now.moment) looked.now.used }
-    requires few { looked.now.met ≡ LookUpEnd.Missed
-        → length ((waiting.now.held ++ lead.now.aliases.now) ++ looked.now.used) ≤ 8 }
-    ensures fate { (entries : List HeldValue) → (more : ℕ)
-        → more + length (waiting.now.held ++ lead.now.aliases.now) ≡ 8
-        → looked.now ≡ seen_of (look_up turn.now.config.routes turn.now.moment entries more []
-        (asked_at waiting.now.wanted lead.now.name.now))
-        → IfOk result (λ fate. fate_in waiting.now (becomes fate)
-        ≡ fate_behind turn.now.config turn.now.moment entries lead.now.aliases.now lead.now.name.now waiting.now) }
-    ensures sent { IfOk result (λ fate. IsSentOn (becomes fate)) }
+) -> Result<WaitingFate<'a, A>, AllocError>
+    requires { AllByRecursion (IsEarlier turn.now.moment) (chain_of looked.now) }
+    ensures { IfOk result (λ fate. fate_now fate
+        ≡ fate_of turn.now.config turn.now.moment waiting.now looked.now) }
 {
-    let chain = chain_of(turn.alloc, waiting.aliases(), lead.aliases, looked.used())?;
-    let question = lead.question(waiting);
-    fate_of(turn, &waiting.request(), &chain, looked, Some(&question))
+    let fate = fate_of(turn, &waiting.request(), looked)?;
+    match fate {
+        Fate::Reply(action) => Ok(WaitingFate::Reply(action)),
+        Fate::Waits(_) => {
+            let sent_on = sent_on(turn.alloc, looked)?;
+            Ok(WaitingFate::SentOn(waiting, sent_on))
+        }
+    }
 }
 
-/// The question fails where it would wait on, since no port is free for an ask.
-pub(crate) fn unless_waits<A: Allocator + Copy>(
-    alloc: A,
-    waiting: &Waiting<A>,
-    fate: Fate<A>,
-) -> Result<Fate<A>, AllocError>
-    ensures fate { IfOk result (λ told. fate_in waiting.now (becomes told)
-        ≡ without_port (fate_in waiting.now (becomes fate))) }
-    ensures sent { IfOk result (λ told. IsSentOn (becomes told)) }
-{
-    match fate {
-        Fate::Reply(action) => Ok(Fate::Reply(action)),
-        Fate::Waits(_, _) => {
-            let action = failure(alloc, &waiting.request(), Why::NoPort)?;
-            Ok(Fate::Reply(action))
+impl<'a, A: Allocator + Copy> WaitingFate<'a, A> {
+    /// The question fails if it would be sent on, since no port is free for an ask.
+    pub(crate) fn without_port(self, alloc: A) -> Result<WaitingFate<'a, A>, AllocError>
+        ensures { IfOk result (λ fate. fate_now fate ≡ without_port (fate_now self.entry)) }
+    {
+        match self {
+            WaitingFate::Reply(action) => Ok(WaitingFate::Reply(action)),
+            WaitingFate::SentOn(waiting, _) => {
+                let action = failure(alloc, &waiting.request(), Why::NoPort)?;
+                Ok(WaitingFate::Reply(action))
+            }
+        }
+    }
+
+    /// The wanted question, if the question is sent on.
+    pub(crate) fn wanted(&self) -> Option<&Question<A>>
+        ensures { MatchOption result (waiting_in (fate_now self.now) ≡ None)
+            (λ q. option_map (λ y. y.wanted) (waiting_in (fate_now self.now)) ≡ Some q.now) }
+    {
+        match self {
+            WaitingFate::Reply(_) => None,
+            WaitingFate::SentOn(_, sent_on) => Some(&sent_on.wanted),
         }
     }
 }

@@ -1,192 +1,122 @@
 //! The fates of all questions that waited for a reply.
 
-ghost use Rattle.std.specs.Prelude.{◌≡◌, ◌++◌, ◌+◌, ◌≤◌, ◌∷◌, ℕ, List, [], length, map, option_map, IfOk, MatchOption};
-ghost use Rattle.std.specs.Prelude.{None, Some};
-ghost use Rattle.record_cache.specs.Values.{Held as HeldValue};
-ghost use Rattle.dns_message.specs.Questions.{asked_at};
-ghost use Rattle.alias_chains.specs.LookingUp.{look_up};
-ghost use Rattle.alias_chains.specs.Seen.{seen_of};
-ghost use Rattle.alias_chains.specs.declared.looked.LookUpEnd.{LookUpEnd};
-ghost use Rattle.std.specs.List.{AllByRecursion, filter_map, flat_map};
+ghost use Rattle.std.specs.Prelude.{◌≡◌, ◌++◌, ◌∷◌, [], map, IfOk, MatchOption, None, Some};
+ghost use Rattle.std.specs.List.{AllByRecursion, flat_map};
 ghost use Rattle.answer_builder.specs.Answers.{IsEarlier};
+ghost use Rattle.step_table.specs.Clients.{fate_of};
 ghost use Rattle.step_table.specs.Replies.{without_port};
-ghost use Rattle.step_table.specs.Steps.{replies};
+ghost use Rattle.step_table.specs.Steps.{replies, still_waiting};
 ghost use Rattle.step_values.specs.Values.{actions_of};
-ghost use Rattle.step_actions.specs.Fates.{becomes, IsSentOn};
-ghost use Rattle.reply_decisions.specs.Fates.{fates_in, fate_behind, first_wanted, looked_behind, onward_in};
-ghost use Rattle.reply_decisions.specs.Fates.{reply_of, OneMore};
+ghost use Rattle.reply_decisions.specs.Fates.{fate_now, first_wanted, looked_on, onward_of};
 
-use crate::fate::{AliasLead, fate_behind, unless_waits};
-use crate::looking_on::look_on;
-use alias_chains::{LookUp, SlotsRef};
+use crate::fate::{AliasLead, WaitingFate, fate_after};
+use alias_chains::{Slots, look_up};
 use dns_message::Question;
-use record_cache::{Held, LookUpSlot};
+use record_cache::LookUpSlot;
 use std::alloc::{AllocError, Allocator, Global};
 use std::hash::BuildHasher;
 use std::marker::Model;
-use step_actions::{Fate, TurnRef};
-use step_texts::failure;
-use step_values::{Action, Actions, Why};
+use step_actions::TurnRef;
+use step_values::Actions;
+use trust_rank::Slot;
 use waiting_questions::{SentOn, Waiting, WaitingFor};
 
-/// The fates of questions, in the order of arrival, and the entries used by their look-ups.
+/// The fates of questions, in the order of arrival, and the slots of the entries used by their
+/// look-ups.
 #[derive(Drop)]
 pub struct Fates<'a, A: Allocator = Global> {
-    each: Vec<Fate<A>, A>,
-    used: Vec<&'a Held<A>, A>,
+    each: Vec<WaitingFate<'a, A>, A>,
+    used: Vec<Slot, A>,
 }
 
 impl<'a, A: Allocator> Model for Fates<'a, A> {
     ghost use Rattle.std.specs.Prelude.{map};
-    ghost use Rattle.std.specs.List.{AllByRecursion};
-    ghost use Rattle.plain_values.specs.Borrowed.{lent};
-    ghost use Rattle.step_actions.specs.Fates.{becomes, IsSentOn};
-    ghost use Rattle.reply_decisions.specs.Fates.{Fates};
+    ghost use Rattle.reply_decisions.specs.Fates.{fate_now, Fates};
 
     ghost Value = { Fates };
 
-    ghost view = { λ f. record { each = map becomes f.each.items; used = lent f.used.items } };
-
-    ghost invariant = { λ f. AllByRecursion IsSentOn (map becomes f.each.items) };
+    ghost view = { λ f. record { each = map fate_now f.each.items; used = f.used.items } };
 }
 
 /// The fates of the questions that waited for a reply which leads on: each is looked up at the name
 /// that it leads to, in the cache as the step finds it, one after another.
-pub fn fates_behind<'a, H: BuildHasher + Drop, A: Allocator + Copy>(
-    turn: &TurnRef<'a, H, A>,
+pub fn fates_of<'a, H: BuildHasher + Drop, A: Allocator + Copy>(
+    turn: &TurnRef<'_, H, A>,
     lead: &AliasLead<'_, A>,
-    those: &WaitingFor<'_, A>,
+    waiting: &WaitingFor<'a, A>,
 ) -> Result<Fates<'a, A>, AllocError>
     requires aliases { AllByRecursion (IsEarlier turn.now.moment) lead.now.aliases.now }
-    requires own { AllByRecursion (λ x. AllByRecursion (IsEarlier turn.now.moment) x.held) those.now }
-    ensures fates { IfOk result (λ f. fates_in those.now f.each
-        ≡ map (fate_behind turn.now.config turn.now.moment turn.now.state.cache.entries lead.now.aliases.now
-        lead.now.name.now) those.now) }
-    ensures count { IfOk result (λ f. length f.each ≡ length those.now) }
-    ensures used { IfOk result (λ f. map (λ h. h.piece.slot) f.used
-        ≡ flat_map (λ x. (looked_behind turn.now.config turn.now.moment turn.now.state.cache.entries
-        lead.now.aliases.now lead.now.name.now x).used) those.now) }
+    requires own { AllByRecursion (λ x. AllByRecursion (IsEarlier turn.now.moment) x.held) waiting.now }
+    ensures each { IfOk result (λ f. f.each ≡ map (λ x. fate_of turn.now.config turn.now.moment x
+        (looked_on turn.now lead.now.aliases.now lead.now.name.now x)) waiting.now) }
+    ensures used { IfOk result (λ f. f.used
+        ≡ flat_map (λ x. (looked_on turn.now lead.now.aliases.now lead.now.name.now x).used) waiting.now) }
 {
     let mut fates = Fates {
-        each: Vec::with_capacity(turn.alloc, those.len())?,
+        each: Vec::with_capacity(turn.alloc, waiting.len())?,
         used: Vec::new(turn.alloc),
     };
-    for place in 0..those.len() {
-        fates.add(turn, lead, those.get(place))?;
+    for place in 0..waiting.len() {
+        fates.add(turn, lead, waiting.get(place))?;
     }
     Ok(fates)
 }
 
-/// The question that is wanted by a fate with aliases.
-fn wanted_in<A: Allocator>(fate: &Fate<A>) -> Option<&Question<A>>
-    ensures { MatchOption result (onward_in (becomes fate.now) ≡ None)
-        (λ q. option_map (λ s. s.wanted) (onward_in (becomes fate.now)) ≡ Some q.now) }
-{
-    let Fate::Waits(sent_on, _) = fate else {
-        return None;
-    };
-    match sent_on {
-        Some(sent_on) => Some(&sent_on.wanted),
-        None => None,
-    }
-}
-
 impl<'a, A: Allocator + Copy> Fates<'a, A> {
-    /// Puts the fate of one more question last, by its look-up, and the entries that this used.
-    fn put_looked<H: BuildHasher + Drop>(
-        &mut self,
-        turn: &TurnRef<'a, H, A>,
-        lead: &AliasLead<'_, A>,
-        waiting: &Waiting<A>,
-        looked: &LookUp<'a, '_, A>,
-    ) -> Result<(), AllocError>
-        requires own { AllByRecursion (IsEarlier turn.now.moment) waiting.now.held }
-        requires aliases { AllByRecursion (IsEarlier turn.now.moment) lead.now.aliases.now }
-        requires used { AllByRecursion (IsEarlier turn.now.moment) looked.now.used }
-        requires few { looked.now.met ≡ LookUpEnd.Missed
-            → length ((waiting.now.held ++ lead.now.aliases.now) ++ looked.now.used) ≤ 8 }
-        ensures fate { (entries : List HeldValue) → (more : ℕ)
-            → more + length (waiting.now.held ++ lead.now.aliases.now) ≡ 8
-            → looked.now ≡ seen_of (look_up turn.now.config.routes turn.now.moment entries more []
-            (asked_at waiting.now.wanted lead.now.name.now))
-            → IfOk result (λ _. OneMore (fate_behind turn.now.config turn.now.moment entries lead.now.aliases.now
-            lead.now.name.now) waiting.now self.old.each self.new.each) }
-        ensures used { IfOk result (λ _. self.new.used ≡ self.old.used ++ looked.now.used) }
-    {
-        self.used.extend_from_slice(looked.used())?;
-        let fate = fate_behind(turn, lead, waiting, looked)?;
-        self.put(fate)
-    }
-
     /// Looks one more question up, and puts its fate last.
     fn add<H: BuildHasher + Drop>(
         &mut self,
-        turn: &TurnRef<'a, H, A>,
+        turn: &TurnRef<'_, H, A>,
         lead: &AliasLead<'_, A>,
-        waiting: &Waiting<A>,
+        waiting: &'a Waiting<A>,
     ) -> Result<(), AllocError>
         requires aliases { AllByRecursion (IsEarlier turn.now.moment) lead.now.aliases.now }
         requires own { AllByRecursion (IsEarlier turn.now.moment) waiting.now.held }
-        ensures fate { IfOk result (λ _. OneMore (fate_behind turn.now.config turn.now.moment
-            turn.now.state.cache.entries lead.now.aliases.now lead.now.name.now) waiting.now self.old.each
-            self.new.each) }
-        ensures used { IfOk result (λ _. map (λ h. h.piece.slot) self.new.used
-            ≡ map (λ h. h.piece.slot) self.old.used
-            ++ (looked_behind turn.now.config turn.now.moment turn.now.state.cache.entries lead.now.aliases.now
-            lead.now.name.now waiting.now).used) }
+        ensures each { IfOk result (λ _. self.new.each ≡ self.old.each ++ fate_of turn.now.config turn.now.moment
+            waiting.now (looked_on turn.now lead.now.aliases.now lead.now.name.now waiting.now) ∷ []) }
+        ensures used { IfOk result (λ _. self.new.used ≡ self.old.used
+            ++ (looked_on turn.now lead.now.aliases.now lead.now.name.now waiting.now).used) }
     {
         let mut slot = LookUpSlot::new();
-        match look_on(turn, &mut slot, lead, waiting)? {
-            None => {
-                let action = failure(turn.alloc, &waiting.request(), Why::ChainLong)?;
-                self.put(Fate::Reply(action))
-            }
-            Some(looked) => self.put_looked(turn, lead, waiting, &looked),
-        }
+        let held = lead.chain(turn.alloc, waiting)?;
+        let question = lead.question(waiting);
+        let looked = look_up(turn.alloc, &turn.cache_at(), &mut slot, held, &question)?;
+        let fate = fate_after(turn, waiting, &looked)?;
+        self.put(fate, &looked.into_slots())
     }
 
-    /// Puts the fate of one more question last.
-    fn put(&mut self, fate: Fate<A>) -> Result<(), AllocError>
-        requires { IsSentOn (becomes fate) }
-        ensures each { IfOk result (λ _. self.new.each ≡ self.old.each ++ becomes fate ∷ []) }
-        ensures used { self.new.used ≡ self.old.used }
+    /// Puts the fate of one more question last, and the slots that its look-up used.
+    fn put(&mut self, fate: WaitingFate<'a, A>, used: &Slots<'_, A>) -> Result<(), AllocError>
+        ensures each { IfOk result (λ _. self.new.each ≡ self.old.each ++ fate_now fate ∷ []) }
+        ensures used { IfOk result (λ _. self.new.used ≡ self.old.used ++ used.now) }
     {
         self.each.push(fate)?;
-        Ok(())
+        used.copy_to(&mut self.used)
     }
 
     /// The question that the first of those that are sent on wants, and so all of them; `None`
     /// exactly if none is sent on.
     pub fn wanted(&self) -> Option<&Question<A>>
-        ensures wanted { MatchOption result (first_wanted self.now.each ≡ None) (λ q. first_wanted self.now.each
-            ≡ Some q.now) }
-        ensures sent { AllByRecursion IsSentOn self.now.each }
+        ensures { MatchOption result (first_wanted (still_waiting self.now.each) ≡ None)
+            (λ q. first_wanted (still_waiting self.now.each) ≡ Some q.now) }
     {
         for fate in &self.each {
-            if let Some(question) = wanted_in(fate) {
+            if let Some(question) = fate.wanted() {
                 return Some(question);
             }
         }
         None
     }
 
-    /// The same, where those that would be sent on fail, since no port is free for an ask.
-    pub fn without_port(
-        self,
-        alloc: A,
-        those: &WaitingFor<'_, A>,
-    ) -> Result<Fates<'a, A>, AllocError>
-        requires { length self.each ≡ length those.now }
-        ensures fates { IfOk result (λ f. fates_in those.now f.each
-            ≡ map without_port (fates_in those.now self.entry.each)) }
-        ensures count { IfOk result (λ f. length f.each ≡ length those.now) }
+    /// The same fates, but a question that would be sent on fails: no port is free for an ask.
+    pub fn without_port(self, alloc: A) -> Result<Fates<'a, A>, AllocError>
+        ensures each { IfOk result (λ f. f.each ≡ map without_port self.entry.each) }
         ensures used { IfOk result (λ f. f.used ≡ self.entry.used) }
     {
         let Fates { each, used } = self;
         let mut told = Vec::with_capacity(alloc, each.len())?;
         for fate in each {
-            let waiting = those.get(told.len());
-            told.push(unless_waits(alloc, waiting, fate)?)?;
+            told.push(fate.without_port(alloc)?)?;
         }
         Ok(Fates { each: told, used })
     }
@@ -197,24 +127,23 @@ impl<'a, A: Allocator + Copy> Fates<'a, A> {
         self,
         alloc: A,
         actions: &mut Actions<A>,
-    ) -> Result<(Vec<Option<SentOn<A>>, A>, SlotsRef<'a, 's, A>), AllocError>
+    ) -> Result<(Vec<Option<SentOn<A>>, A>, Slots<'s, A>), AllocError>
         ensures replies { IfOk result (λ parts. actions_of actions.new
-            ≡ actions_of actions.old ++ filter_map reply_of self.entry.each) }
-        ensures onward { IfOk result (λ parts. parts.0.items ≡ map onward_in self.entry.each) }
-        ensures used { IfOk result (λ parts. parts.1 ≡ map (λ h. h.piece.slot) self.entry.used) }
-        ensures sent { IfOk result (λ _. AllByRecursion IsSentOn self.entry.each) }
+            ≡ actions_of actions.old ++ replies self.entry.each) }
+        ensures onward { IfOk result (λ parts. parts.0.items ≡ map onward_of self.entry.each) }
+        ensures used { IfOk result (λ parts. parts.1 ≡ self.entry.used) }
     {
         let Fates { each, used } = self;
         let mut onward = Vec::with_capacity(alloc, each.len())?;
         for fate in each {
             match fate {
-                Fate::Reply(action) => {
+                WaitingFate::Reply(action) => {
                     actions.push(action)?;
                     onward.push(None)?;
                 }
-                Fate::Waits(sent_on, _) => onward.push(sent_on)?,
+                WaitingFate::SentOn(_, sent_on) => onward.push(Some(sent_on))?,
             }
         }
-        Ok((onward, SlotsRef::of(used)))
+        Ok((onward, Slots::of(used)))
     }
 }

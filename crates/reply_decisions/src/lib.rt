@@ -6,7 +6,6 @@ mod attempt;
 mod delivery;
 mod fate;
 mod fates;
-mod looking_on;
 mod sending;
 mod tick;
 

@@ -1,9 +1,9 @@
 //! The decision on a reply whose aliases lead on to a name that it does not answer, or that is of
 //! another route. `send_on`, the last in this file, is called by `delivery::on_message`:
 //!
-//! 1. `send_on` makes the pieces ready for the cache, and `fates::fates_behind` looks each waiting
+//! 1. `send_on` makes the pieces ready for the cache, and `fates::fates_of` looks each waiting
 //!    question up at that name: each gets its reply, or waits on.
-//! 2. `ask_for_those`: no ask where nobody waits on or `is_asked_beside` finds one; otherwise
+//! 2. `ask_next`: no ask where nobody waits on or `is_asked_beside` finds one; otherwise
 //!    `first_ask_then`, to the server of `preferred_then`. Without a port those fail.
 //! 3. `close_and_send_on` closes the answered ask, puts the replies, and calls `put_next` for the
 //!    next ask.
@@ -19,13 +19,13 @@ ghost use Rattle.step_table.specs.Replies.{row_of_acceptance};
 ghost use Rattle.step_values.specs.Values.{actions_of};
 ghost use Rattle.step_actions.specs.Decision.{MeetsRow, IfFollows, IsRouted, IsSentEarlier};
 ghost use Rattle.alias_chains.specs.Offering.{pieces_of};
-ghost use Rattle.reply_decisions.specs.Fates.{fates_in, onward_in, Become};
+ghost use Rattle.reply_decisions.specs.Fates.{onward_of, AreFates};
 ghost use Rattle.reply_decisions.specs.Sending.{ask_for, asked_for, closing_state, fates_then};
 ghost use Rattle.reply_decisions.specs.Walked.{walk_on, IsWalkFor};
 ghost use Rattle.step_table.specs.State.{turn, from_state};
 
 use crate::fate::AliasLead;
-use crate::fates::{Fates, fates_behind};
+use crate::fates::{Fates, fates_of};
 use alias_chains::held_from;
 use dns_message::Question;
 use dns_name::Name;
@@ -41,7 +41,6 @@ use step_texts::ask as ask_action;
 use step_values::Actions;
 use suffix_routes::{RouteId, Routing};
 use trust_rank::Piece;
-use waiting_questions::WaitingFor;
 
 /// Puts the ask last, if any.
 fn put_next<A: Allocator + Copy>(
@@ -59,8 +58,8 @@ fn put_next<A: Allocator + Copy>(
 }
 
 /// The first server to ask on a route once this ask is answered.
-fn preferred_then<'a, H: BuildHasher + Drop, A: Allocator + Copy>(
-    turn: &TurnRef<'a, H, A>,
+fn preferred_then<H: BuildHasher + Drop, A: Allocator + Copy>(
+    turn: &TurnRef<'_, H, A>,
     route: RouteId,
     answered: &KeyedAsk<A>,
 ) -> usize
@@ -85,8 +84,8 @@ fn preferred_then<'a, H: BuildHasher + Drop, A: Allocator + Copy>(
 
 /// The first ask for a question once this ask is answered, whose port counts as free. `None` if no
 /// route serves the name, or no port is free.
-fn first_ask_then<'a, H: BuildHasher + Drop, A: Allocator + Copy>(
-    turn: &TurnRef<'a, H, A>,
+fn first_ask_then<H: BuildHasher + Drop, A: Allocator + Copy>(
+    turn: &TurnRef<'_, H, A>,
     answered: &KeyedAsk<A>,
     question: &Question<A>,
 ) -> Result<Option<Ask<A>>, AllocError>
@@ -108,8 +107,8 @@ fn first_ask_then<'a, H: BuildHasher + Drop, A: Allocator + Copy>(
 }
 
 /// Whether an ask of the question other than the answered one is listed.
-fn is_asked_beside<'a, H: BuildHasher + Drop, A: Allocator + Copy>(
-    turn: &TurnRef<'a, H, A>,
+fn is_asked_beside<H: BuildHasher + Drop, A: Allocator + Copy>(
+    turn: &TurnRef<'_, H, A>,
     question: &Question<A>,
     answered: &KeyedAsk<A>,
 ) -> bool
@@ -126,21 +125,17 @@ fn is_asked_beside<'a, H: BuildHasher + Drop, A: Allocator + Copy>(
 
 /// The ask for the question of those that are sent on, if none is listed. If no port is free for
 /// it, they fail.
-fn ask_for_those<'a, H: BuildHasher + Drop, A: Allocator + Copy>(
-    turn: &TurnRef<'a, H, A>,
+fn ask_next<'a, H: BuildHasher + Drop, A: Allocator + Copy>(
+    turn: &TurnRef<'_, H, A>,
     answered: &KeyedAsk<A>,
     fates: Fates<'a, A>,
-    those: &WaitingFor<'_, A>,
 ) -> Result<(Fates<'a, A>, Option<Ask<A>>), AllocError>
     requires on { ask_on answered.now.path turn.now.state.asks ≡ Some answered.now }
-    requires count { length fates.each ≡ length those.now }
     ensures ask { IfOk result (λ parts. parts.1 ≡ ask_for
         (from_state (closing_state answered.now turn.now.state) turn.now)
-        (asked_for answered.now turn.now.state (fates_in those.now fates.entry.each))) }
-    ensures fates { IfOk result (λ parts. fates_in those.now parts.0.each ≡ fates_then
-        (asked_for answered.now turn.now.state (fates_in those.now fates.entry.each)) parts.1
-        (fates_in those.now fates.entry.each)) }
-    ensures count { IfOk result (λ parts. length parts.0.each ≡ length those.now) }
+        (asked_for answered.now turn.now.state fates.entry.each)) }
+    ensures fates { IfOk result (λ parts. parts.0.each ≡ fates_then
+        (asked_for answered.now turn.now.state fates.entry.each) parts.1 fates.entry.each) }
     ensures used { IfOk result (λ parts. parts.0.used ≡ fates.entry.used) }
 {
     let Some(wanted) = fates.wanted() else {
@@ -151,31 +146,29 @@ fn ask_for_those<'a, H: BuildHasher + Drop, A: Allocator + Copy>(
     }
     match first_ask_then(turn, answered, wanted)? {
         Some(next) => Ok((fates, Some(next))),
-        None => Ok((fates.without_port(turn.alloc, those)?, None)),
+        None => Ok((fates.without_port(turn.alloc)?, None)),
     }
 }
 
 /// Closes the ask, gives the replies, and sends the next ask.
-fn close_and_send_on<'a, 's, H: BuildHasher + Drop, A: Allocator + Copy>(
-    turn: &TurnRef<'a, H, A>,
+fn close_and_send_on<'s, H: BuildHasher + Drop, A: Allocator + Copy>(
+    turn: &TurnRef<'_, H, A>,
     answered: &KeyedAsk<A>,
-    fates: Fates<'a, A>,
+    fates: Fates<'_, A>,
     next: Option<Ask<A>>,
     carried: Vec<Held<A>, A>,
-) -> Result<Decision<'a, 's, A>, AllocError>
+) -> Result<Decision<'s, A>, AllocError>
     requires on { ask_on answered.now.path turn.now.state.asks ≡ Some answered.now }
-    requires count { length fates.each ≡ length (filter (waits_for answered.now.question) turn.now.state.waiting) }
-    requires earlier { AllByRecursion (λ b. IsSentEarlier turn.now.moment (onward_in b)) fates.each }
+    requires earlier { AllByRecursion (λ f. IsSentEarlier turn.now.moment (onward_of f)) fates.each }
     requires follows { IfFollows turn.now.config turn.now.moment turn.now.state
         (without_path answered.now.path turn.now.state.asks) next }
     requires few { length (pieces_of carried.items) < 2 ^ 32 }
     requires routed { AllByRecursion (IsRouted turn.now.config) (pieces_of carried.items) }
-    ensures decides { (fate : Waiting → Fate) → Become answered.now.question fate turn.now.state.waiting
+    ensures decides { (fate : Waiting → Fate) → AreFates answered.now.question fate turn.now.state.waiting
         fates.entry.each
         → IfOk result (MeetsRow turn.now (λ rooms. offering_step turn.now.moment rooms (pieces_of carried.items)
         (closing_step turn.now.moment answered.now fate next
-        (with_promoted (map (λ h. h.piece.slot) fates.entry.used)
-        (with_preferred_server answered.now turn.now.state))))) }
+        (with_promoted fates.entry.used (with_preferred_server answered.now turn.now.state))))) }
 {
     let ask = answered.ask();
     let mut actions = Actions::one(turn.alloc, close_path(ask.path));
@@ -202,13 +195,13 @@ fn close_and_send_on<'a, 's, H: BuildHasher + Drop, A: Allocator + Copy>(
 
 /// Accepts a reply with these pieces that leads on to a name. Each question that waits for it is
 /// looked up there, and gets its reply or waits on. The pieces are kept.
-pub(crate) fn send_on<'a, 's, H: BuildHasher + Drop, A: Allocator + Copy>(
-    turn: &TurnRef<'a, H, A>,
+pub(crate) fn send_on<'s, H: BuildHasher + Drop, A: Allocator + Copy>(
+    turn: &TurnRef<'_, H, A>,
     answered: &KeyedAsk<A>,
     pieces: PlainList<Piece<A>, A>,
     authority: PlainList<Piece<A>, A>,
     name: Name<A>,
-) -> Result<Decision<'a, 's, A>, AllocError>
+) -> Result<Decision<'s, A>, AllocError>
     requires on { ask_on answered.now.path turn.now.state.asks ≡ Some answered.now }
     requires carried { IsWalkFor turn.now.config answered.now (walk_on pieces authority name) }
     ensures decides { IfOk result (MeetsRow turn.now (λ rooms. row_of_acceptance turn.now rooms answered.now
@@ -216,12 +209,12 @@ pub(crate) fn send_on<'a, 's, H: BuildHasher + Drop, A: Allocator + Copy>(
 {
     let walked = pieces.as_slice().len();
     let held = held_from(turn.alloc, pieces, authority, turn.moment)?;
-    let those = turn.kept.waiting.for_ask(answered);
+    let waiting = turn.kept.waiting.for_ask(answered);
     let lead = AliasLead {
         aliases: &held[..walked],
         name: &name,
     };
-    let fates = fates_behind(turn, &lead, &those)?;
-    let (fates, next) = ask_for_those(turn, answered, fates, &those)?;
+    let fates = fates_of(turn, &lead, &waiting)?;
+    let (fates, next) = ask_next(turn, answered, fates)?;
     close_and_send_on(turn, answered, fates, next, held)
 }

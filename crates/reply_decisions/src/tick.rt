@@ -17,8 +17,8 @@ use step_values::Why;
 use waiting_questions::Waiting;
 
 /// The path of the oldest question's ask, if no further question waits for it.
-fn left_alone<'a, H: BuildHasher + Drop, A: Allocator + Copy>(
-    turn: &TurnRef<'a, H, A>,
+fn left_alone<H: BuildHasher + Drop, A: Allocator + Copy>(
+    turn: &TurnRef<'_, H, A>,
     oldest: &Waiting<A>,
 ) -> Option<Path>
     ensures { result ≡ closed_path (left_alone oldest.now.wanted
@@ -36,10 +36,10 @@ fn left_alone<'a, H: BuildHasher + Drop, A: Allocator + Copy>(
 
 /// Decides that the oldest question has reached its deadline. Its ask is closed if no further
 /// question waits for it.
-fn expire<'a, 's, H: BuildHasher + Drop, A: Allocator + Copy>(
-    turn: &TurnRef<'a, H, A>,
+fn expire<'s, H: BuildHasher + Drop, A: Allocator + Copy>(
+    turn: &TurnRef<'_, H, A>,
     oldest: &Waiting<A>,
-) -> Result<Decision<'a, 's, A>, AllocError>
+) -> Result<Decision<'s, A>, AllocError>
     requires { slice_get turn.now.state.waiting 0 ≡ Some oldest.now }
     ensures decides { IfOk result (MeetsStep turn.now (expiry_step turn.now.moment oldest.now
         (drop 1 turn.now.state.waiting) (left_alone oldest.now.wanted
@@ -53,9 +53,9 @@ fn expire<'a, 's, H: BuildHasher + Drop, A: Allocator + Copy>(
 }
 
 /// Decides on passing time, for the oldest question or the oldest ask, whichever is due first.
-pub fn on_tick<'a, 's, H: BuildHasher + Drop, A: Allocator + Copy>(
-    turn: &TurnRef<'a, H, A>,
-) -> Result<Decision<'a, 's, A>, AllocError>
+pub fn on_tick<'s, H: BuildHasher + Drop, A: Allocator + Copy>(
+    turn: &TurnRef<'_, H, A>,
+) -> Result<Decision<'s, A>, AllocError>
     ensures decides { IfOk result (MeetsStep turn.now (row_of_tick turn.now)) }
     ensures early { is_due_at turn.now.config turn.now.moment turn.now.state ≡ false → IsQuiet result }
 {

@@ -4,7 +4,7 @@ ghost use Rattle.std.specs.Prelude.{◌≡◌, []};
 ghost use Rattle.step_values.specs.Values.{actions_of};
 ghost use Rattle.alias_chains.specs.Offering.{pieces_of};
 
-use alias_chains::SlotsRef;
+use alias_chains::Slots;
 use outstanding::{Ask, KeyedAsk, Path};
 use record_cache::Held;
 use std::alloc::{Allocator, Global};
@@ -59,17 +59,17 @@ pub enum Change<A: Allocator = Global> {
 /// The actions of a step, and its changes: the entries used by a look-up are promoted, and the
 /// pieces of an accepted reply are offered to the cache, last.
 #[derive(Drop)]
-pub struct Decision<'a, 's, A: Allocator = Global> {
+pub struct Decision<'s, A: Allocator = Global> {
     pub actions: Actions<A>,
-    pub used: SlotsRef<'a, 's, A>,
+    pub used: Slots<'s, A>,
     pub change: Change<A>,
     /// The pieces, in the order of their offers.
     pub carried: Vec<Held<A>, A>,
 }
 
-impl<'a, 's, A: Allocator + Copy> Decision<'a, 's, A> {
+impl<'s, A: Allocator + Copy> Decision<'s, A> {
     /// These actions and this change, without a look-up and an accepted reply.
-    pub fn without_cache(alloc: A, actions: Actions<A>, change: Change<A>) -> Decision<'a, 's, A>
+    pub fn without_cache(alloc: A, actions: Actions<A>, change: Change<A>) -> Decision<'s, A>
         ensures actions { actions_of result.actions ≡ actions_of actions }
         ensures used { result.used ≡ [] }
         ensures change { result.change ≡ change }
@@ -77,7 +77,7 @@ impl<'a, 's, A: Allocator + Copy> Decision<'a, 's, A> {
     {
         Decision {
             actions,
-            used: SlotsRef::none(alloc),
+            used: Slots::none(alloc),
             change,
             carried: Vec::new(alloc),
         }

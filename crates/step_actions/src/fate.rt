@@ -1,27 +1,17 @@
-//! The fate of a question after its look-up: it gets its reply, or waits. The public function is
-//! `fate_of`, the last in this file. After a miss, `wanted_after` gives the question that is wanted
-//! now, and `missed` decides by the route of its name.
+//! The fate of a question after its look-up: it gets its reply, or waits.
 
-ghost use Rattle.std.specs.Prelude.{◌≡◌, ◌≤◌, length, option_map, IfOk, None};
+ghost use Rattle.std.specs.Prelude.{◌≡◌, IfOk};
 ghost use Rattle.std.specs.List.{AllByRecursion};
-ghost use Rattle.dns_message.specs.Questions.{asked_at};
 ghost use Rattle.suffix_routes.specs.Serving.{serving_route_of};
-ghost use Rattle.outstanding.specs.Orders.{question_key};
 ghost use Rattle.plain_values.specs.Borrowed.{lent};
 ghost use Rattle.answer_builder.specs.Answers.{IsEarlier};
-ghost use Rattle.alias_chains.specs.LookingUp.{LookUp as LookUpValue, missing};
-ghost use Rattle.alias_chains.specs.Laws.{led_to};
-ghost use Rattle.alias_chains.specs.Seen.{last_target};
-ghost use Rattle.alias_chains.specs.declared.looked.LookUpEnd.{LookUpEnd};
+ghost use Rattle.alias_chains.specs.LookingUp.{missed};
+ghost use Rattle.alias_chains.specs.Looked.{chain_of};
 ghost use Rattle.step_table.specs.Clients.{fate_missed, fate_of};
-ghost use Rattle.step_actions.specs.Fates.{becomes, began_at, fate_in, or_own, wanted_at, IfLed, IfWaits, IsSeenAs};
+ghost use Rattle.step_actions.specs.Fates.{fate_in, IfWaits};
 
 use crate::turn::TurnRef;
 use alias_chains::{LookUp, LookUpEnd, copies};
-use dns_message::{Question, QuestionRef};
-use dns_name::Name;
-use outstanding::QuestionKey;
-use record_cache::Held;
 use std::alloc::{AllocError, Allocator, Global};
 use std::hash::BuildHasher;
 use step_texts::{answer, failure, local_answer};
@@ -33,95 +23,55 @@ use waiting_questions::{Request, SentOn};
 #[derive(Drop)]
 pub enum Fate<A: Allocator = Global> {
     Reply(Action<A>),
-    /// It waits with these aliases for the question behind them, or without an alias for its own.
-    /// This route serves the name of that question.
-    Waits(Option<SentOn<A>>, RouteId),
+    /// The question waits for the wanted question of its look-up. The route serves the wanted name.
+    Waits(RouteId),
 }
 
-/// The same question at another name.
-fn at_name<A: Allocator>(question: &QuestionRef<'_>, name: Name<A>) -> Question<A>
-    ensures { result ≡ asked_at question.now name }
-{
-    Question {
-        name,
-        kind: question.kind(),
-        class: question.class(),
-    }
-}
-
-/// The question that is wanted after a miss: the one to which the last used alias leads, otherwise
-/// the one at which the look-up began. `None` if that is the client's own.
-fn wanted_after<'a, H: BuildHasher + Drop, A: Allocator + Copy>(
-    turn: &TurnRef<'a, H, A>,
+/// The fate of a question by its look-up: an answer from the chain if the look-up ended, a failure
+/// with `ChainLong` at a ninth alias, and otherwise the fate of a miss. No piece of the chain was
+/// accepted after the moment.
+pub fn fate_of<H: BuildHasher + Drop, A: Allocator + Copy>(
+    turn: &TurnRef<'_, H, A>,
     request: &Request<'_>,
     looked: &LookUp<'_, '_, A>,
-    lead: Option<&QuestionRef<'_>>,
-) -> Result<Option<Question<A>>, AllocError>
-    ensures { IfOk result (λ wanted. wanted
-        ≡ wanted_at request.now.wanted lead.entry (last_target looked.now.used)) }
-{
-    match (looked.target(turn.alloc)?, lead) {
-        (Some(name), Some(lead)) => Ok(Some(at_name(lead, name))),
-        (Some(name), None) => Ok(Some(at_name(&request.question, name))),
-        (None, Some(lead)) => Ok(Some(lead.copy(turn.alloc)?)),
-        (None, None) => Ok(None),
-    }
-}
-
-/// The key of the wanted question: of this one, or of the client's own.
-fn key_of<A: Allocator>(request: &Request<'_>, wanted: &Option<Question<A>>) -> QuestionKey
-    ensures { result ≡ question_key (or_own request.now.wanted wanted.now) }
-{
-    match wanted {
-        Some(question) => QuestionKey::of(question),
-        None => QuestionKey::of_ref(&request.question),
-    }
-}
-
-/// The aliases of this chain, at most 8, and the wanted question. `None` for the client's own.
-fn sent_on_for<A: Allocator + Copy>(
-    alloc: A,
-    chain: &[&Held<A>],
-    wanted: Option<Question<A>>,
-) -> Result<Option<SentOn<A>>, AllocError>
-    requires { length (lent chain.now) ≤ 8 }
-    ensures { IfOk result (λ sent_on. sent_on
-        ≡ option_map (λ question. record { held = lent chain.now; wanted = question }) wanted) }
-{
-    let Some(wanted) = wanted else {
-        return Ok(None);
-    };
-    let aliases = copies(alloc, chain)?;
-    Ok(Some(SentOn { aliases, wanted }))
-}
-
-/// The fate of a question that has no answer in the cache, after the aliases of this chain. It
-/// waits where the wanted name is served, gets the local denial where it is denied, and fails with
-/// `NoRoute` otherwise.
-fn missed<'a, H: BuildHasher + Drop, A: Allocator + Copy>(
-    turn: &TurnRef<'a, H, A>,
-    request: &Request<'_>,
-    chain: &[&Held<A>],
-    wanted: Option<Question<A>>,
 ) -> Result<Fate<A>, AllocError>
-    requires few { length (lent chain.now) ≤ 8 }
-    requires earlier { AllByRecursion (IsEarlier turn.now.moment) (lent chain.now) }
-    requires own { wanted ≡ None → lent chain.now ≡ request.now.held }
-    ensures fate { IfOk result (λ fate. fate_in request.now (becomes fate)
-        ≡ fate_missed turn.now.config turn.now.moment request.now
-        (missing (lent chain.now) (or_own request.now.wanted wanted))
-        (serving_route_of turn.now.config (or_own request.now.wanted wanted).name)) }
-    ensures waits { IfOk result (IfWaits turn.now.config turn.now.moment request.now) }
-    ensures led { IfOk result (λ fate. IfLed wanted (becomes fate)) }
+    requires earlier { AllByRecursion (IsEarlier turn.now.moment) (chain_of looked.now) }
+    ensures fate { IfOk result (λ fate. fate_in request.now looked.now fate
+        ≡ fate_of turn.now.config turn.now.moment request.now looked.now) }
+    ensures waits { IfOk result (IfWaits turn.now.config looked.now) }
 {
-    let key = key_of(request, &wanted);
-    match turn.config.routing_of_key(key.name()) {
-        Routing::Served(route) => {
-            let sent_on = sent_on_for(turn.alloc, chain, wanted)?;
-            Ok(Fate::Waits(sent_on, route))
+    match looked.met() {
+        LookUpEnd::Ends => {
+            let action = answer(turn.alloc, request, looked.chain(), turn.moment)?;
+            Ok(Fate::Reply(action))
         }
+        LookUpEnd::TooLong => {
+            let action = failure(turn.alloc, request, Why::ChainLong)?;
+            Ok(Fate::Reply(action))
+        }
+        LookUpEnd::Missed => missed(turn, request, looked),
+    }
+}
+
+/// The fate of a question that has no answer in the cache. It waits if the wanted name is served,
+/// gets the local denial if it is denied, and otherwise fails with `NoRoute`.
+fn missed<H: BuildHasher + Drop, A: Allocator + Copy>(
+    turn: &TurnRef<'_, H, A>,
+    request: &Request<'_>,
+    looked: &LookUp<'_, '_, A>,
+) -> Result<Fate<A>, AllocError>
+    requires earlier { AllByRecursion (IsEarlier turn.now.moment) (chain_of looked.now) }
+    requires missed { looked.now.met ≡ missed }
+    ensures fate { IfOk result (λ fate. fate_in request.now looked.now fate
+        ≡ fate_missed turn.now.config turn.now.moment request.now looked.now
+        (serving_route_of turn.now.config looked.now.wanted.name)) }
+    ensures waits { IfOk result (IfWaits turn.now.config looked.now) }
+{
+    let wanted = looked.wanted();
+    match turn.config.routing_of_key(&wanted.key()) {
+        Routing::Served(route) => Ok(Fate::Waits(route)),
         Routing::Denied => {
-            let action = local_answer(turn.alloc, request, chain, turn.moment)?;
+            let action = local_answer(turn.alloc, request, looked.chain(), turn.moment)?;
             Ok(Fate::Reply(action))
         }
         Routing::None => {
@@ -131,39 +81,17 @@ fn missed<'a, H: BuildHasher + Drop, A: Allocator + Copy>(
     }
 }
 
-/// The fate of a question by its look-up. The chain has the aliases that it held before, none of
-/// them accepted after the moment, and then the entries that the look-up used. `lead` is the
-/// question at which the look-up began, where it is not the client's own.
-pub fn fate_of<'a, H: BuildHasher + Drop, A: Allocator + Copy>(
-    turn: &TurnRef<'a, H, A>,
-    request: &Request<'_>,
-    chain: &[&Held<A>],
+/// Copies of the aliases held and the question wanted at the end of a look-up that missed: a
+/// question waits with these.
+pub fn sent_on<A: Allocator + Copy>(
+    alloc: A,
     looked: &LookUp<'_, '_, A>,
-    lead: Option<&QuestionRef<'_>>,
-) -> Result<Fate<A>, AllocError>
-    requires few { looked.now.met ≡ LookUpEnd.Missed → length (lent chain.now) ≤ 8 }
-    requires earlier { AllByRecursion (IsEarlier turn.now.moment) (lent chain.now) }
-    requires own { looked.now.met ≡ LookUpEnd.Missed → lead ≡ None → last_target looked.now.used ≡ None
-        → lent chain.now ≡ request.now.held }
-    ensures fate { (l : LookUpValue) → IsSeenAs (lent chain.now) looked.now.met
-        (led_to (began_at request.now.wanted lead.entry) (last_target looked.now.used)) l
-        → IfOk result (λ fate. fate_in request.now (becomes fate)
-        ≡ fate_of turn.now.config turn.now.moment request.now l) }
-    ensures waits { IfOk result (IfWaits turn.now.config turn.now.moment request.now) }
-    ensures led { IfOk result (λ fate. IfLed lead.entry (becomes fate)) }
+) -> Result<SentOn<A>, AllocError>
+    requires { looked.now.met ≡ missed }
+    ensures { IfOk result (λ sent_on. sent_on
+        ≡ record { held = looked.now.held; wanted = looked.now.wanted }) }
 {
-    match looked.met() {
-        LookUpEnd::Ends => {
-            let action = answer(turn.alloc, request, chain, turn.moment)?;
-            Ok(Fate::Reply(action))
-        }
-        LookUpEnd::TooLong => {
-            let action = failure(turn.alloc, request, Why::ChainLong)?;
-            Ok(Fate::Reply(action))
-        }
-        LookUpEnd::Missed => {
-            let wanted = wanted_after(turn, request, looked, lead)?;
-            missed(turn, request, chain, wanted)
-        }
-    }
+    let aliases = copies(alloc, looked.chain())?;
+    let wanted = looked.wanted().copy(alloc)?;
+    Ok(SentOn { aliases, wanted })
 }

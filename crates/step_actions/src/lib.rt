@@ -14,7 +14,7 @@ mod turn;
 pub use attempts::{Attempt, by_tcp, by_udp, draw_connection, freed_port, new_ask, plan};
 pub use decision::{Change, Decision, Opening, Preferred, Sending};
 pub use due::{Due, Oldest, first_due, is_live};
-pub use fate::{Fate, fate_of};
+pub use fate::{Fate, fate_of, sent_on};
 pub use kept::Kept;
 pub use lasts::last_replies;
 pub use replies::{answers_to, close_path, close_paths, failures};

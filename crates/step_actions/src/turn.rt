@@ -69,9 +69,9 @@ impl<'a, H: BuildHasher + Drop, A: Allocator + Copy> TurnRef<'a, H, A> {
 }
 
 /// The decision to do nothing.
-pub fn nothing<'a, 's, H: BuildHasher + Drop, A: Allocator + Copy>(
-    turn: &TurnRef<'a, H, A>,
-) -> Decision<'a, 's, A>
+pub fn nothing<'s, H: BuildHasher + Drop, A: Allocator + Copy>(
+    turn: &TurnRef<'_, H, A>,
+) -> Decision<'s, A>
     ensures decides { MeetsStep turn.now (idle_step turn.now.moment turn.now.state) result }
     ensures quiet { (result.used ≡ []) × (result.change ≡ Change.Nothing) }
 {

@@ -15,8 +15,8 @@ use Rattle.suffix_routes.specs.Serving.{serving_route_of}
 use Rattle.dns_message.specs.Questions.{asked_at}
 use Rattle.waiting_questions.specs.Values.{Waiting, waits_for}
 use Rattle.step_table.specs.Steps.{waits}
-use Rattle.alias_chains.specs.LookingUp.{LookUpEnd, ends, too_long, missed, LookUp, look_up_behind, look_up_after, one_too_many, through, look_up}
-use Rattle.step_table.specs.Replies.{goes_on, too_many, looked_by, fate_by}
+use Rattle.alias_chains.specs.LookingUp.{LookUpEnd, ends, too_long, missed, LookUp, look_up_behind, look_up_after, one_too_many, through, look_up, too_many, goes_on}
+use Rattle.step_table.specs.Replies.{looked_by, fate_by}
 use Rattle.step_table.specs.Clients.{fate_missed, fate_at, fate_of}
 use Rattle.alias_chains.specs.Offering.{held_at}
 use Rattle.step_table.specs.Laws.{SentOnQuestionsWantOne}
@@ -48,9 +48,9 @@ miss_alike routes n entries (suc more) (suc less) held other q =
     followed_alike held other q (λ e target. through e (look_up routes n entries more (held ++ e ∷ []) (asked_at q target))) (λ e target. through e (look_up routes n entries less (other ++ e ∷ []) (asked_at q target)))
     (λ e target m k. miss_alike routes n entries more less (held ++ e ∷ []) (other ++ e ∷ []) (asked_at q target) m k) (found_in routes n entries q)
 
-goes_alike : (c : Config) (n : ℕ) (entries held other : List Held) (q : Question) → MissAlike (goes_on c n entries held q) (goes_on c n entries other q)
+goes_alike : (c : Config) (n : ℕ) (entries held other : List Held) (q : Question) → MissAlike (goes_on c.routes n entries held q) (goes_on c.routes n entries other q)
 goes_alike c n entries held other q =
-    cond_both (nat_le (length held) most_aliases) (look_up c.routes n entries (most_aliases - length held) held q) (too_many held q) (λ l. MissAlike l (goes_on c n entries other q))
+    cond_both (nat_le (length held) most_aliases) (look_up c.routes n entries (most_aliases - length held) held q) (too_many held q) (λ l. MissAlike l (goes_on c.routes n entries other q))
     (λ _. cond_both (nat_le (length other) most_aliases) (look_up c.routes n entries (most_aliases - length other) other q) (too_many other q) (MissAlike (look_up c.routes n entries (most_aliases - length held) held q))
     (λ _. miss_alike c.routes n entries (most_aliases - length held) (most_aliases - length other) held other q) (λ _ m k. absurd (cc)))
     (λ _ m k. absurd (cc))
@@ -71,21 +71,21 @@ missed_at c n x x' l missed met is = by (serving_route_of c l.wanted.name) is
 
 pub sent_on_questions_want_one : SentOnQuestionsWantOne
 sent_on_questions_want_one c n entries a w name x y x' y' ends_so for_x for_y fate_x fate_y =
-    one.wanted ∙ goes_alike c n entries (x.held ++ here) (y.held ++ here) (asked_at x.wanted name) one.missed (ap (λ (q : Question). (goes_on c n entries (y.held ++ here) q).met) same ∙ two.missed)
-    ∙ ap (λ (q : Question). (goes_on c n entries (y.held ++ here) q).wanted) same ∙ sym two.wanted
+    one.wanted ∙ goes_alike c n entries (x.held ++ here) (y.held ++ here) (asked_at x.wanted name) one.missed (ap (λ (q : Question). (goes_on c.routes n entries (y.held ++ here) q).met) same ∙ two.missed)
+    ∙ ap (λ (q : Question). (goes_on c.routes n entries (y.held ++ here) q).wanted) same ∙ sym two.wanted
   where
     here : List Held
     here = Rattle.std.specs.Prelude.map (held_at n) w.pieces
 
-    missed_by : (z z' : Waiting) → waits_for a.question z ≡ true → fate_by c n entries a w z ≡ waits z' → HasMissed (goes_on c n entries (z.held ++ here) (asked_at z.wanted name)) z'
+    missed_by : (z z' : Waiting) → waits_for a.question z ≡ true → fate_by c n entries a w z ≡ waits z' → HasMissed (goes_on c.routes n entries (z.held ++ here) (asked_at z.wanted name)) z'
     missed_by z z' for is =
-        missed_at c n z z' (goes_on c n entries (z.held ++ here) (asked_at z.wanted name)) (goes_on c n entries (z.held ++ here) (asked_at z.wanted name)).met refl
+        missed_at c n z z' (goes_on c.routes n entries (z.held ++ here) (asked_at z.wanted name)) (goes_on c.routes n entries (z.held ++ here) (asked_at z.wanted name)).met refl
         (ap (λ e. fate_of c n z (looked_by c n entries w z e)) (sym ends_so) ∙ sym (cond-true (waits_for a.question z) _ _ for) ∙ is)
 
-    one : HasMissed (goes_on c n entries (x.held ++ here) (asked_at x.wanted name)) x'
+    one : HasMissed (goes_on c.routes n entries (x.held ++ here) (asked_at x.wanted name)) x'
     one = missed_by x x' for_x fate_x
 
-    two : HasMissed (goes_on c n entries (y.held ++ here) (asked_at y.wanted name)) y'
+    two : HasMissed (goes_on c.routes n entries (y.held ++ here) (asked_at y.wanted name)) y'
     two = missed_by y y' for_y fate_y
 
     like_x : IsSameQuestion x.wanted a.question

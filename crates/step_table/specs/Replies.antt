@@ -1,6 +1,6 @@
 -- The rows of a delivery, and of an accepted reply.
-use Rattle.std.specs.Prelude.{ℕ, suc, ◌+◌, ◌-◌, Bool, if◌then◌else◌, nat_lt, nat_le, List, [], ◌∷◌, ◌++◌, length, map}
-use Rattle.std.specs.Prelude.{filter, take, Option, Some, None, Result, Ok, Err}
+use Rattle.std.specs.Prelude.{ℕ, ◌+◌, Bool, if◌then◌else◌, nat_lt, nat_le, List, [], ◌∷◌, ◌++◌, length, map}
+use Rattle.std.specs.Prelude.{filter, Option, Some, None, Result, Ok, Err}
 use Rattle.std.specs.List.{flat_map}
 use Rattle.dns_message.specs.declared.names.fault.Fault.{Fault}
 use Rattle.dns_message.specs.Values.{Question, Message}
@@ -22,7 +22,7 @@ use Rattle.step_values.specs.declared.action.Why.TheVariants.{NoPort}
 use Rattle.step_table.specs.State.{State, Turn, from_state}
 use Rattle.waiting_questions.specs.Values.{Waiting, waits_for}
 use Rattle.step_table.specs.Attempts.{first_ask_for}
-use Rattle.alias_chains.specs.LookingUp.{ends, too_long, missed, LookUp, look_up}
+use Rattle.alias_chains.specs.LookingUp.{ends, missed, LookUp, too_many, goes_on}
 use Rattle.step_table.specs.Steps.{Done, Fate, gets, waits, with_preferred_server, with_promoted, idle_step}
 use Rattle.step_table.specs.Steps.{still_waiting, closing_step, offering_step, gives_up}
 use Rattle.alias_chains.specs.Offering.{held_at}
@@ -51,25 +51,15 @@ ends_at n held q (p ∷ ps) = record {
   used = [];
 }
 
--- more aliases than a question may hold: the first alias too many ends the look-up
-abbrev pub too_many : List Held → Question → LookUp
-too_many held q = record { held = take (suc most_aliases) held; wanted = q; met = too_long; used = [] }
-
 -- the look-up, failed if more than 8 aliases are held
 abbrev pub unless_many : LookUp → LookUp
 unless_many l = if nat_le (length l.held) most_aliases then l else too_many l.held l.wanted
 
--- with the aliases of the walk held, the look-up goes on at their target, in the cache of before
-abbrev pub goes_on : Config → ℕ → List Held → List Held → Question → LookUp
-goes_on c n entries held q =
-    if nat_le (length held) most_aliases
-    then look_up c.routes n entries (most_aliases - length held) held q
-    else too_many held q
-
--- the look-up of a question that waits for the reply, by the walk's end
+-- the look-up of a question that waits for the reply, by the walk's end; if the walk leads on, the
+-- look-up goes on with the walk's aliases held too, in the cache of before
 abbrev pub looked_by : Config → ℕ → List Held → Walk → Waiting → End → LookUp
 looked_by c n entries w x (elsewhere name) =
-    goes_on c n entries (x.held ++ map (held_at n) w.pieces) (asked_at x.wanted name)
+    goes_on c.routes n entries (x.held ++ map (held_at n) w.pieces) (asked_at x.wanted name)
 looked_by c n entries w x found = unless_many (ends_at n x.held x.wanted w.pieces)
 looked_by c n entries w x ends_no_data = unless_many (ends_at n x.held x.wanted w.pieces)
 looked_by c n entries w x ends_denied = unless_many (ends_at n x.held x.wanted w.pieces)

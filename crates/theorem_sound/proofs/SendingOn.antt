@@ -24,8 +24,8 @@ use Rattle.step_history.specs.Answers.{FollowsAliases, Leads}
 use Rattle.step_history.proofs.CallerLemmas.{moment_later, target_is}
 use Rattle.waiting_questions.specs.Values.{Waiting, waits_for}
 use Rattle.step_table.specs.Steps.{Fate, gets, waits, waiting_in, still_waiting}
-use Rattle.alias_chains.specs.LookingUp.{LookUpEnd, ends, too_long, missed, LookUp, look_up}
-use Rattle.step_table.specs.Replies.{goes_on, looked_by, unless_open, to_be_asked, without_port, unless_no_port}
+use Rattle.alias_chains.specs.LookingUp.{LookUpEnd, ends, too_long, missed, LookUp, look_up, goes_on}
+use Rattle.step_table.specs.Replies.{looked_by, unless_open, to_be_asked, without_port, unless_no_port}
 use Rattle.step_table.specs.Clients.{fate_missed, fate_at, fate_of}
 use Rattle.alias_chains.specs.Offering.{held_at}
 use Rattle.theorem_cache.specs.Kept.{CanBeKept, CanBeTold, IsCached}
@@ -174,7 +174,7 @@ module _ (c : Config) (past : List Step) (step : Step) (t n : ℕ) (cache : Cach
     abbrev IsFated : LookUp → Type 0
     IsFated l = Fated (OwnsReply c now) (Waits c now) (fate_of c n y l) i
 
-    fated_on : IsFated (goes_on c n cache.entries held wanted)
+    fated_on : IsFated (goes_on c.routes n cache.entries held wanted)
     fated_on = cond_both (nat_le (length held) 8) _ _ IsFated
         (λ few.
         let is = right few in
@@ -186,7 +186,7 @@ module _ (c : Config) (past : List Step) (step : Step) (t n : ℕ) (cache : Cach
     pub fate_led : IsFated (looked_by c n cache.entries w y w.end)
     fate_led = subst (λ e. IsFated (looked_by c n cache.entries w y e)) (sym ends_so) fated_on
 
-    sent_on : IsSent c (fate_of c n y (goes_on c n cache.entries held wanted))
+    sent_on : IsSent c (fate_of c n y (goes_on c.routes n cache.entries held wanted))
     sent_on = cond_both (nat_le (length held) 8) _ _ (λ l. IsSent c (fate_of c n y l))
         (λ few. sent_at c n y looked_on looked_on.met (question_led look was.comes.question looked_on.wanted looked_on.held (read_well was.comes.request was.comes.question was.comes.octets was.comes.reads) (right few).follows))
         (λ many. tt)

@@ -201,7 +201,6 @@ impl<H: BuildHasher + Drop, A: Allocator + Copy> Forwarder<H, A> {
             self.restart();
             return Ok(self.nothing_done());
         };
-        let used = used.copied(self.alloc)?;
         self.carry_out(moment, actions, &used, change, carried)
     }
 

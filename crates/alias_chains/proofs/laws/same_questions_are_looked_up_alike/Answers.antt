@@ -1,4 +1,4 @@
-use Rattle.alias_chains.proofs.Behind.{same_are_looked_up_alike}
+use Rattle.alias_chains.proofs.Alike.{same_are_looked_up_alike}
 use Rattle.alias_chains.proofs.laws.same_questions_are_looked_up_alike.Goals as goal
 
 pub returns : goal.returns

@@ -1,67 +1,98 @@
-use Rattle.std.proofs.Common.{◌≡◌, ◌∙◌, ◌≤◌, [], List, length, ap, sym, subst}
+use Rattle.std.proofs.Common.{◌≡◌, ◌∙◌, [], List, ap, sym, subst}
 use Rattle.std.specs.List.{AllByRecursion}
-use Rattle.plain_values.specs.Borrowed.{lent}
 use Rattle.answer_builder.specs.Answers.{IsEarlier}
-use Rattle.negative_cache.specs.Moments.{CacheAt}
-use Rattle.record_cache.specs.Values.{Held}
+use Rattle.plain_values.specs.Borrowed.{lent}
+use Rattle.alias_chains.specs.LookingUp.{LookUp, goes_on}
+use Rattle.alias_chains.specs.Looked.{chain_of}
+use Rattle.alias_chains.proofs.CallerLemmas.{look_up_holds, held_holds}
 use Rattle.waiting_questions.specs.Values.{Waiting}
 use Rattle.step_table.specs.State.{Turn}
-use Rattle.step_actions.specs.LookUps.{cache_at}
 use Rattle.step_table.specs.Progress.{IsOnRoute}
-use Rattle.alias_chains.specs.LookingUp.{look_up}
-use Rattle.trust_rank.specs.Walks.{most_aliases}
-use Rattle.alias_chains.specs.Seen.{Seen, seen_of}
-use Rattle.client_decisions.proofs.Hits.{earlier_used, fate_row, few_used, none_used, seen_as, slots_are}
-use Rattle.step_actions.proofs.CallerLemmas.{decides_by}
+use Rattle.step_actions.specs.Fates.{fate_in, IfWaits}
+use Rattle.step_actions.proofs.CallerLemmas.{decides_by, later_entries}
+use Rattle.client_decisions.proofs.Hits.{fate_row, own_waits}
 use Rattle.client_decisions.proofs.client.look.Goals as goal
 
-pub fate_of-requires-clause-few : goal.fate_of-requires-clause-few
-fate_of-requires-clause-few g c = λ missed.
-    subst (λ (hs : List Held). length hs ≤ 8) (sym c.used.ensures)
-    (few_used c.args.turn.now.config c.args.turn.now.moment c.args.request.now c.args.turn.now.state
-    c.in_ok-looked.looked
-    (c.in_ok-looked.ensures.exact
-    ∙ (λ i. seen_of (look_up (c.cache_at.ensures i).config.routes (c.cache_at.ensures i).moment
-    (c.cache_at.ensures i).cache.entries most_aliases [] (c.request.view_is i).wanted)))
-    missed c.in_ok-looked.ensures.few)
+pub fate_of-requires : goal.fate_of-requires
+fate_of-requires g c =
+    let t = c.args.turn.now in
+    let exact : c.in_ok-looked.looked ≡ goes_on t.config.routes t.moment t.state.cache.entries [] c.args.request.now.wanted =
+    c.in_ok-looked.ensures.exact
+    ∙ (λ i. goes_on (c.cache_at.ensures i).config.routes (c.cache_at.ensures i).moment (c.cache_at.ensures i).cache.entries
+    (lent (c.new-none.ensures.items i)) (c.request.view_is i).wanted) in
+    let earlier : AllByRecursion (IsEarlier t.moment) (chain_of c.in_ok-looked.looked) =
+    subst (λ (l : LookUp). AllByRecursion (IsEarlier t.moment) (chain_of l)) (sym exact)
+    (look_up_holds (IsEarlier t.moment) t.config.routes t.moment t.state.cache.entries
+    (subst (λ (r : Turn). AllByRecursion (IsEarlier r.moment) r.state.cache.entries) c.turn.view_is
+    (later_entries c.turn.inside.kept.now.moment c.turn.inside.moment c.turn.inside.kept.now.cache.entries c.turn.invariant.1
+    c.turn.invariant.0.accepted))
+    [] c.args.request.now.wanted tt) in
+    earlier
 
-pub fate_of-requires-clause-earlier : goal.fate_of-requires-clause-earlier
-fate_of-requires-clause-earlier g c =
-    subst (AllByRecursion (IsEarlier c.args.turn.now.moment)) (sym c.used.ensures)
-    (subst (λ (r : Turn). AllByRecursion (IsEarlier r.moment) c.in_ok-looked.looked.used) c.turn.view_is
-    (subst (λ (v : Seen). AllByRecursion (IsEarlier c.turn.inside.moment) v.used)
-    (sym (c.in_ok-looked.ensures.exact ∙ ap (λ (a : CacheAt). seen_of (look_up a.config.routes a.moment a.cache.entries
-    most_aliases [] c.request.inside.question)) (c.cache_at.ensures ∙ ap cache_at (sym c.turn.view_is))))
-    (earlier_used c.turn.inside.config.now.routes c.turn.inside.kept.now.moment c.turn.inside.moment
-    c.turn.inside.kept.now.cache.entries c.request.inside.question c.turn.invariant.0.accepted c.turn.invariant.1)))
+pub wait-requires-clause-missed : goal.wait-requires-clause-missed
+wait-requires-clause-missed g c =
+    (subst (IfWaits c.args.turn.now.config c.in_ok-looked.looked) c.in-Waits.is c.in_ok-fate.ensures.waits).0
 
--- a question of a client holds no alias
-pub fate_of-requires-clause-own : goal.fate_of-requires-clause-own
-fate_of-requires-clause-own g c = λ missed. λ none. λ nowhere.
-    c.used.ensures
-    ∙ none_used c.args.turn.now.config c.args.turn.now.moment c.args.request.now c.args.turn.now.state
-    c.in_ok-looked.looked
-    (c.in_ok-looked.ensures.exact
-    ∙ (λ i. seen_of (look_up (c.cache_at.ensures i).config.routes (c.cache_at.ensures i).moment
-    (c.cache_at.ensures i).cache.entries most_aliases [] (c.request.view_is i).wanted)))
-    missed nowhere
-    ∙ ap (λ (x : Waiting). x.held) c.request.view_is
+pub wait-requires-clause-on : goal.wait-requires-clause-on
+wait-requires-clause-on g c =
+    (subst (IfWaits c.args.turn.now.config c.in_ok-looked.looked) c.in-Waits.is c.in_ok-fate.ensures.waits).1
 
-pub returns : goal.returns
-returns g c = record {
+pub wait-requires-clause-own : goal.wait-requires-clause-own
+wait-requires-clause-own g c =
+    let t = c.args.turn.now in
+    let exact : c.in_ok-looked.looked ≡ goes_on t.config.routes t.moment t.state.cache.entries [] c.args.request.now.wanted =
+    c.in_ok-looked.ensures.exact
+    ∙ (λ i. goes_on (c.cache_at.ensures i).config.routes (c.cache_at.ensures i).moment (c.cache_at.ensures i).cache.entries
+    (lent (c.new-none.ensures.items i)) (c.request.view_is i).wanted) in
+    own_waits t.config.routes t.moment t.state.cache.entries c.args.request.now c.in_ok-looked.looked
+    (sym (ap (λ (x : Waiting). x.held) c.request.view_is)) exact
+
+pub wait-requires-clause-aliases : goal.wait-requires-clause-aliases
+wait-requires-clause-aliases g c =
+    let t = c.args.turn.now in
+    let exact : c.in_ok-looked.looked ≡ goes_on t.config.routes t.moment t.state.cache.entries [] c.args.request.now.wanted =
+    c.in_ok-looked.ensures.exact
+    ∙ (λ i. goes_on (c.cache_at.ensures i).config.routes (c.cache_at.ensures i).moment (c.cache_at.ensures i).cache.entries
+    (lent (c.new-none.ensures.items i)) (c.request.view_is i).wanted) in
+    let earlier : AllByRecursion (IsEarlier t.moment) (chain_of c.in_ok-looked.looked) =
+    subst (λ (l : LookUp). AllByRecursion (IsEarlier t.moment) (chain_of l)) (sym exact)
+    (look_up_holds (IsEarlier t.moment) t.config.routes t.moment t.state.cache.entries
+    (subst (λ (r : Turn). AllByRecursion (IsEarlier r.moment) r.state.cache.entries) c.turn.view_is
+    (later_entries c.turn.inside.kept.now.moment c.turn.inside.moment c.turn.inside.kept.now.cache.entries c.turn.invariant.1
+    c.turn.invariant.0.accepted))
+    [] c.args.request.now.wanted tt) in
+    held_holds (IsEarlier t.moment) c.in_ok-looked.looked earlier
+
+pub returns-in-Reply : goal.returns-in-Reply
+returns-in-Reply g c = record {
   decides =
-      let exact : c.in_ok-looked.looked ≡ seen_of (look_up c.args.turn.now.config.routes c.args.turn.now.moment
-      c.args.turn.now.state.cache.entries most_aliases [] c.args.request.now.wanted) =
+      let t = c.args.turn.now in
+      let exact : c.in_ok-looked.looked ≡ goes_on t.config.routes t.moment t.state.cache.entries [] c.args.request.now.wanted =
       c.in_ok-looked.ensures.exact
-      ∙ (λ i. seen_of (look_up (c.cache_at.ensures i).config.routes (c.cache_at.ensures i).moment
-      (c.cache_at.ensures i).cache.entries most_aliases [] (c.request.view_is i).wanted)) in
-      decides_by c.decide_fate.result _ _ _ c.decide_fate.ensures.decides (λ rooms.
-      fate_row c.args.turn.now.config c.args.turn.now.moment c.args.turn.now.words c.args.request.now
-      c.args.turn.now.state _ _
+      ∙ (λ i. goes_on (c.cache_at.ensures i).config.routes (c.cache_at.ensures i).moment (c.cache_at.ensures i).cache.entries
+      (lent (c.new-none.ensures.items i)) (c.request.view_is i).wanted) in
+      decides_by c.reply.result _ _ _ c.reply.ensures.decides (λ rooms.
+      fate_row t.config t.moment t.words c.args.request.now t.state _ _
       (subst (λ (r : Turn). AllByRecursion (IsOnRoute r.config) r.state.cache.entries) c.turn.view_is
       c.turn.invariant.0.cache.on_routes)
-      (c.into_slots.ensures ∙ slots_are c.args.turn.now.config c.args.turn.now.moment c.args.request.now
-      c.args.turn.now.state c.in_ok-looked.looked exact)
-      (c.in_ok-fate.ensures.fate _ (seen_as c.args.turn.now.config c.args.turn.now.moment c.args.request.now
-      c.args.turn.now.state c.in_ok-looked.looked exact (lent c.used.result.now) c.used.ensures)));
+      (c.into_slots-in-Reply.ensures ∙ ap (λ (l : LookUp). l.used) exact)
+      (ap (fate_in c.args.request.now c.in_ok-looked.looked) (sym c.in-Reply.is) ∙ c.in_ok-fate.ensures.fate
+      ∙ ap (λ (l : LookUp). Rattle.step_table.specs.Clients.fate_of t.config t.moment c.args.request.now l) exact));
+}
+
+pub returns-in-Waits : goal.returns-in-Waits
+returns-in-Waits g c = record {
+  decides =
+      let t = c.args.turn.now in
+      let exact : c.in_ok-looked.looked ≡ goes_on t.config.routes t.moment t.state.cache.entries [] c.args.request.now.wanted =
+      c.in_ok-looked.ensures.exact
+      ∙ (λ i. goes_on (c.cache_at.ensures i).config.routes (c.cache_at.ensures i).moment (c.cache_at.ensures i).cache.entries
+      (lent (c.new-none.ensures.items i)) (c.request.view_is i).wanted) in
+      decides_by c.wait.result _ _ _ c.wait.ensures.decides (λ rooms.
+      fate_row t.config t.moment t.words c.args.request.now t.state _ _
+      (subst (λ (r : Turn). AllByRecursion (IsOnRoute r.config) r.state.cache.entries) c.turn.view_is
+      c.turn.invariant.0.cache.on_routes)
+      (ap (λ (l : LookUp). l.used) exact)
+      (ap (fate_in c.args.request.now c.in_ok-looked.looked) (sym c.in-Waits.is) ∙ c.in_ok-fate.ensures.fate
+      ∙ ap (λ (l : LookUp). Rattle.step_table.specs.Clients.fate_of t.config t.moment c.args.request.now l) exact));
 }

@@ -1,6 +1,6 @@
 use Rattle.std.proofs.Common.{◌≡◌, ◌∙◌, ◌<◌, ◌≤◌, length, ap, arith, refl}
 use Rattle.step_table.specs.State.{Turn}
-use Rattle.waiting_questions.specs.Onward.{waits_on}
+use Rattle.step_table.specs.Clients.{waits_with}
 use Rattle.step_table.specs.Steps.{with_promoted}
 use Rattle.client_decisions.proofs.Clients.{full_row, waiting_row}
 use Rattle.step_actions.proofs.CallerLemmas.{decides_by}
@@ -17,7 +17,7 @@ returns g c = record {
       c.turn.view_is in let test = c.if-len-config.false in grind (arith, count, waiting, test, limit)) in
       decides_by c.admit.result _ _ _ (rw c.in_ok-waiting.ensures at c.admit.ensures.decides) (λ rooms.
       waiting_row c.args.turn.now.config c.args.turn.now.moment c.args.turn.now.words
-      (waits_on c.args.sent_on c.args.request.now) (with_promoted c.args.used c.args.turn.now.state) _ room refl);
+      (waits_with c.args.request.now c.args.looked) (with_promoted c.args.looked.used c.args.turn.now.state) _ room refl);
 }
 
 pub returns-then-len-config : goal.returns-then-len-config
@@ -30,6 +30,6 @@ returns-then-len-config g c = record {
       (λ i. (c.config.view_is i).limits.questions) ∙ ap (λ (r : Turn). r.config.limits.questions)
       c.turn.view_is in let test = c.if-len-config.true in grind (arith, count, waiting, test, limit)) in
       decides_by c.refuse.result _ _ _ c.refuse.ensures.decides (λ rooms.
-      full_row c.args.turn.now.config c.args.turn.now.moment c.args.turn.now.words c.args.sent_on c.args.request.now
-      (with_promoted c.args.used c.args.turn.now.state) _ full refl);
+      full_row c.args.turn.now.config c.args.turn.now.moment c.args.turn.now.words c.args.request.now c.args.looked
+      (with_promoted c.args.looked.used c.args.turn.now.state) _ full refl);
 }

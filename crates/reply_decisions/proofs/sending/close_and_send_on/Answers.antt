@@ -1,6 +1,6 @@
 use Rattle.std.proofs.Common.{◌≡◌, ◌∙◌, ◌<◌, List, [], ◌∷◌, ◌++◌, length, Option, Some, sym, ap, subst}
 use Rattle.std.specs.Prelude.{map}
-use Rattle.std.specs.List.{AllByRecursion, filter_map}
+use Rattle.std.specs.List.{AllByRecursion}
 use Rattle.std.proofs.lemmas.List.{length-map}
 use Rattle.std.proofs.lemmas.Result.{err_from_is_err_and}
 use Rattle.trust_rank.specs.declared.slot.Slot.{Slot}
@@ -10,11 +10,11 @@ use Rattle.step_values.specs.Values.{Action, actions_of}
 use Rattle.waiting_questions.specs.Onward.{Onward}
 use Rattle.step_table.specs.State.{Turn}
 use Rattle.step_table.specs.Attempts.{servers_in, group_of}
-use Rattle.step_table.specs.Steps.{ask_list, asks, closes, closing_step, offering_step, with_preferred_server, with_promoted}
+use Rattle.step_table.specs.Steps.{Fate, ask_list, asks, closes, closing_step, offering_step, replies, with_preferred_server, with_promoted}
 use Rattle.step_actions.specs.declared.decision.Sending.{Sending}
 use Rattle.step_actions.specs.Decision.{AreForThose, CanSendOn, IfFollows, IsSentEarlier}
 use Rattle.alias_chains.specs.Offering.{pieces_of}
-use Rattle.reply_decisions.specs.Fates.{onward_in, reply_of}
+use Rattle.reply_decisions.specs.Fates.{onward_of}
 use Rattle.reply_decisions.proofs.Deciding.{sending_row}
 use Rattle.step_actions.proofs.CallerLemmas.{server_within}
 use Rattle.reply_decisions.proofs.SendingOn.{sent_all}
@@ -34,7 +34,7 @@ returns g c = record {
             ap (offering_step c.args.turn.now.moment rooms (pieces_of c.args.carried.items))
             (sending_row g.row.A.Denot c.args.turn.now.moment c.args.turn.now.state c.args.answered.now fate
             c.args.fates.each c.args.next c.in_ok-onward.used c.in_ok-sending.sending _ c.requires.on
-            c.in_ok-onward.ensures.sent become
+            become
             (ap (λ (v : Sending g.row.A.Denot). v.path) c.in_ok-sending.ensures.ok
             ∙ ap (λ (a : Ask). a.path) (c.ask.view_is ∙ c.ask-ask.ensures))
             (ap (λ (v : Sending g.row.A.Denot). v.preferred.route) c.in_ok-sending.ensures.ok
@@ -47,7 +47,7 @@ returns g c = record {
             (c.in_ok-put_next.ensures
             ∙ ap (λ (ys : List Action). ys ++ map asks (ask_list c.args.next))
             (c.in_ok-onward.ensures.replies
-            ∙ ap (λ (ys : List Action). ys ++ filter_map reply_of c.args.fates.each)
+            ∙ ap (λ (ys : List Action). ys ++ replies c.args.fates.each)
             (ap (λ xs. actions_of {A = g.row.A.Denot} xs) c.one-actions.ensures
             ∙ (λ i. (c.close_path.ensures ∙ ap (λ (a : Ask). closes a.path) (c.ask.view_is ∙ c.ask-ask.ensures)) i ∷ []))))
             ∙ ap (λ (slots : List Slot). closing_step c.args.turn.now.moment c.args.answered.now fate c.args.next
@@ -59,7 +59,8 @@ returns g c = record {
                 those = subst (λ (r : Option Ask). AreForThose r c.in_ok-onward.onward.items
                     c.args.turn.now.state.waiting)
                     (sym on) (ap (λ (os : List (Option Onward)). length os) c.in_ok-onward.ensures.onward
-                    ∙ length-map c.args.fates.each onward_in ∙ c.requires.count);
+                    ∙ length-map c.args.fates.each onward_of
+                    ∙ ap (λ (fs : List Fate). length fs) become.are ∙ length-map _ fate);
                 earlier = subst (AllByRecursion (IsSentEarlier c.args.turn.now.moment))
                     (sym c.in_ok-onward.ensures.onward)
                     (sent_all c.args.turn.now.moment c.args.fates.each c.requires.earlier);

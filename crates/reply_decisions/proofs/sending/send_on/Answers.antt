@@ -15,13 +15,12 @@ use Rattle.step_actions.specs.Kept.{HoldsEarlier}
 use Rattle.step_actions.specs.Decision.{IfFollows, IsRouted, IsSentEarlier}
 use Rattle.alias_chains.proofs.CallerLemmas.{walk_first, held_now}
 use Rattle.step_table.proofs.CallerLemmas.{All-filter}
-use Rattle.reply_decisions.specs.Fates.{fates_in, fate_behind, onward_in}
-use Rattle.reply_decisions.proofs.Earlier.{behind_fate_holds}
+use Rattle.reply_decisions.proofs.Earlier.{behind_holds}
 use Rattle.reply_decisions.specs.Walked.{walk_on}
 use Rattle.reply_decisions.specs.Sending.{ask_for, asked_for, closing_state, fates_then}
 use Rattle.reply_decisions.proofs.Accepting.{carried_few, carried_routed, carried_is}
 use Rattle.step_actions.proofs.CallerLemmas.{later_entries, later_held, kept_of, decides_by}
-use Rattle.reply_decisions.proofs.SendingOn.{sent_become, sent_row, sent_earlier, next_follows}
+use Rattle.reply_decisions.proofs.SendingOn.{sent_are, sent_row, sent_earlier, next_follows}
 use Rattle.reply_decisions.proofs.sending.send_on.Goals as goal
 
 pub slice_bounds-lead-end : goal.slice_bounds-lead-end
@@ -32,8 +31,8 @@ slice_bounds-lead-end g c =
     c.in_ok-held.ensures.held (ap (λ (ps : List Piece). length ps) c.as_slice-walked.ensures))
     ∙ length-map c.args.pieces (held_at c.turn.inside.moment))
 
-pub fates_behind-requires-clause-aliases : goal.fates_behind-requires-clause-aliases
-fates_behind-requires-clause-aliases g c =
+pub fates_of-requires-clause-aliases : goal.fates_of-requires-clause-aliases
+fates_of-requires-clause-aliases g c =
     subst (λ (r : Turn). AllByRecursion (IsEarlier r.moment)
     (take (length c.as_slice-walked.result.now) c.deref.result.now)) c.turn.view_is
     (subst (AllByRecursion (IsEarlier c.turn.inside.moment))
@@ -42,47 +41,42 @@ fates_behind-requires-clause-aliases g c =
     c.in_ok-held.ensures.held (ap (λ (ps : List Piece). length ps) c.as_slice-walked.ensures)))
     (held_now c.turn.inside.moment c.args.pieces))
 
-pub fates_behind-requires-clause-own : goal.fates_behind-requires-clause-own
-fates_behind-requires-clause-own g c =
-    subst (λ (r : Turn). AllByRecursion (HoldsEarlier r.moment) c.for_ask-those.result) c.turn.view_is
-    (subst (AllByRecursion (HoldsEarlier c.turn.inside.moment)) (sym c.for_ask-those.ensures)
+pub fates_of-requires-clause-own : goal.fates_of-requires-clause-own
+fates_of-requires-clause-own g c =
+    subst (λ (r : Turn). AllByRecursion (HoldsEarlier r.moment) c.for_ask-waiting.result) c.turn.view_is
+    (subst (AllByRecursion (HoldsEarlier c.turn.inside.moment)) (sym c.for_ask-waiting.ensures)
     (All-filter (HoldsEarlier c.turn.inside.moment) (waits_for c.args.answered.now.question)
     c.turn.inside.kept.now.waiting.items
     (later_held c.turn.inside.kept.now.moment c.turn.inside.moment c.turn.inside.kept.now.waiting.items c.turn.invariant.1
     c.turn.invariant.0.aliases)))
 
-pub close_and_send_on-requires-clause-count : goal.close_and_send_on-requires-clause-count
-close_and_send_on-requires-clause-count g c =
-    c.in_ok-fates-2.ensures.count ∙ ap (λ (xs : List Waiting). length xs)
-    (c.for_ask-those.ensures ∙ (λ i. filter (waits_for c.args.answered.now.question)
-    (c.turn.view_is i).state.waiting))
-
 pub close_and_send_on-requires-clause-earlier : goal.close_and_send_on-requires-clause-earlier
 close_and_send_on-requires-clause-earlier g c =
-    subst (λ (r : Turn). AllByRecursion (λ b. IsSentEarlier r.moment (onward_in b)) c.in_ok-fates-2.fates.each)
-    c.turn.view_is
-    (sent_earlier c.turn.inside.moment _
-    (behind_fate_holds (IsEarlier c.turn.inside.moment) c.turn.inside.config.now c.turn.inside.moment
-    c.turn.inside.kept.now.cache.entries _ c.args.name
+    let t = c.args.turn.now in
+    let entries : AllByRecursion (IsEarlier t.moment) t.state.cache.entries =
+    subst (λ (r : Turn). AllByRecursion (IsEarlier r.moment) r.state.cache.entries) c.turn.view_is
     (later_entries c.turn.inside.kept.now.moment c.turn.inside.moment c.turn.inside.kept.now.cache.entries c.turn.invariant.1
-    c.turn.invariant.0.accepted)
+    c.turn.invariant.0.accepted) in
+    let aliases : AllByRecursion (IsEarlier t.moment) (take (length c.as_slice-walked.result.now) c.deref.result.now) =
+    subst (λ (r : Turn). AllByRecursion (IsEarlier r.moment)
+    (take (length c.as_slice-walked.result.now) c.deref.result.now)) c.turn.view_is
     (subst (AllByRecursion (IsEarlier c.turn.inside.moment))
     (sym (ap (take (length c.as_slice-walked.result.now)) c.deref.ensures.value
     ∙ walk_first c.turn.inside.moment c.in_ok-held.held.items c.args.pieces c.args.authority _
     c.in_ok-held.ensures.held (ap (λ (ps : List Piece). length ps) c.as_slice-walked.ensures)))
-    (held_now c.turn.inside.moment c.args.pieces)))
-    c.for_ask-those.result c.in_ok-fates-2.fates.each c.in_ok-fates-2.ensures.count
-    (subst (AllByRecursion (HoldsEarlier c.turn.inside.moment)) (sym c.for_ask-those.ensures)
+    (held_now c.turn.inside.moment c.args.pieces)) in
+    let own : AllByRecursion (HoldsEarlier t.moment) c.for_ask-waiting.result =
+    subst (λ (r : Turn). AllByRecursion (HoldsEarlier r.moment) c.for_ask-waiting.result) c.turn.view_is
+    (subst (AllByRecursion (HoldsEarlier c.turn.inside.moment)) (sym c.for_ask-waiting.ensures)
     (All-filter (HoldsEarlier c.turn.inside.moment) (waits_for c.args.answered.now.question)
     c.turn.inside.kept.now.waiting.items (later_held c.turn.inside.kept.now.moment c.turn.inside.moment
-    c.turn.inside.kept.now.waiting.items c.turn.invariant.1 c.turn.invariant.0.aliases)))
-    _ c.in_ok-fates-2.next
-    (c.in_ok-fates-2.ensures.fates ∙ ap (λ (fs : List Fate). fates_then
-    (asked_for c.args.answered.now c.args.turn.now.state fs) c.in_ok-fates-2.next fs)
-    (subst (λ (r : Turn). fates_in c.for_ask-those.result c.in_ok-fates.fates.each ≡ map
-    (fate_behind r.config r.moment r.state.cache.entries
-    (take (length c.as_slice-walked.result.now) c.deref.result.now) c.args.name) c.for_ask-those.result)
-    (sym c.turn.view_is) c.in_ok-fates.ensures.fates)))
+    c.turn.inside.kept.now.waiting.items c.turn.invariant.1 c.turn.invariant.0.aliases))) in
+    sent_earlier t.moment _
+    (behind_holds (IsEarlier t.moment) t (take (length c.as_slice-walked.result.now) c.deref.result.now) c.args.name entries aliases)
+    c.for_ask-waiting.result own
+    (asked_for c.args.answered.now t.state c.in_ok-fates.fates.each) c.in_ok-fates-2.next c.in_ok-fates-2.fates.each
+    (c.in_ok-fates-2.ensures.fates ∙ ap (fates_then (asked_for c.args.answered.now t.state c.in_ok-fates.fates.each)
+    c.in_ok-fates-2.next) c.in_ok-fates.ensures.each)
 
 pub close_and_send_on-requires-clause-follows : goal.close_and_send_on-requires-clause-follows
 close_and_send_on-requires-clause-follows g c =
@@ -94,10 +88,10 @@ close_and_send_on-requires-clause-follows g c =
     c.turn.invariant.0 c.turn.invariant.1 c.turn.invariant.2
     (subst (λ (r : Turn). ask_on c.args.answered.now.path r.state.asks ≡ Some c.args.answered.now)
     (sym c.turn.view_is) c.requires.on)
-    (fates_in c.for_ask-those.result c.in_ok-fates.fates.each) c.in_ok-fates-2.next
+    c.in_ok-fates.fates.each c.in_ok-fates-2.next
     (subst (λ (r : Turn). c.in_ok-fates-2.next ≡ ask_for
     (turn r.config r.moment r.words (closing_state c.args.answered.now r.state))
-    (asked_for c.args.answered.now r.state (fates_in c.for_ask-those.result c.in_ok-fates.fates.each)))
+    (asked_for c.args.answered.now r.state c.in_ok-fates.fates.each))
     (sym c.turn.view_is) c.in_ok-fates-2.ensures.ask))
 
 pub close_and_send_on-requires-clause-few : goal.close_and_send_on-requires-clause-few
@@ -148,22 +142,18 @@ returns g c = record {
       ∙ walk_first c.turn.inside.moment c.in_ok-held.held.items c.args.pieces c.args.authority _
       c.in_ok-held.ensures.held (ap (λ (ps : List Piece). length ps) c.as_slice-walked.ensures)
       ∙ (λ i. map (held_at (c.turn.view_is i).moment) c.args.pieces) in
-      let those : c.for_ask-those.result ≡ filter (waits_for c.args.answered.now.question)
+      let those : c.for_ask-waiting.result ≡ filter (waits_for c.args.answered.now.question)
       c.args.turn.now.state.waiting =
-      c.for_ask-those.ensures ∙ (λ i. filter (waits_for c.args.answered.now.question)
+      c.for_ask-waiting.ensures ∙ (λ i. filter (waits_for c.args.answered.now.question)
       (c.turn.view_is i).state.waiting) in
-      let each : fates_in c.for_ask-those.result c.in_ok-fates.fates.each ≡ map
-      (fate_behind c.args.turn.now.config c.args.turn.now.moment c.args.turn.now.state.cache.entries
-      (take (length c.as_slice-walked.result.now) c.deref.result.now) c.args.name) c.for_ask-those.result =
-      c.in_ok-fates.ensures.fates in
       decides_by c.close_and_send_on.result _ _ _ (c.close_and_send_on.ensures.decides _
-      (sent_become c.args.turn.now.config c.args.turn.now.moment c.args.turn.now.words c.args.answered.now (walk_on c.args.pieces c.args.authority c.args.name)
-      c.args.turn.now.state c.args.name refl _ c.for_ask-those.result c.in_ok-fates.fates.each
-      c.in_ok-fates-2.next aliases those each
-      c.in_ok-fates-2.fates.each c.in_ok-fates-2.ensures.count c.in_ok-fates-2.ensures.fates)) (λ rooms.
+      (sent_are c.args.turn.now.config c.args.turn.now.moment c.args.turn.now.words c.args.answered.now (walk_on c.args.pieces c.args.authority c.args.name)
+      c.args.turn.now.state c.args.name refl _ c.for_ask-waiting.result c.in_ok-fates.fates.each
+      c.in_ok-fates-2.next aliases those c.in_ok-fates.ensures.each
+      c.in_ok-fates-2.fates.each c.in_ok-fates-2.ensures.fates)) (λ rooms.
       sent_row c.args.turn.now.config c.args.turn.now.moment c.args.turn.now.words c.args.answered.now (walk_on c.args.pieces c.args.authority c.args.name)
-      c.args.turn.now.state c.args.name refl _ c.for_ask-those.result c.in_ok-fates.fates.each
-      c.in_ok-fates-2.next aliases those each
+      c.args.turn.now.state c.args.name refl _ c.for_ask-waiting.result c.in_ok-fates.fates.each
+      c.in_ok-fates-2.next aliases those c.in_ok-fates.ensures.each
       rooms c.in_ok-fates.fates.used c.in_ok-fates-2.fates.used _ _ c.in_ok-fates-2.ensures.ask
       c.in_ok-fates.ensures.used
       c.in_ok-fates-2.ensures.used

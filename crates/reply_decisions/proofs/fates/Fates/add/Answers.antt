@@ -1,48 +1,58 @@
-use Rattle.std.proofs.Common.{◌∙◌, ◌++◌, List, ap, subst}
-use Rattle.std.specs.Prelude.{map}
+use Rattle.std.proofs.Common.{◌≡◌, ◌∙◌, ◌∷◌, ◌++◌, [], List, ap, sym, subst}
 use Rattle.std.specs.List.{AllByRecursion}
-use Rattle.std.proofs.lemmas.List.{map-append}
 use Rattle.std.proofs.lemmas.Result.{IfOk-weaker}
 use Rattle.trust_rank.specs.declared.slot.Slot.{Slot}
-use Rattle.record_cache.specs.Values.{Held}
 use Rattle.answer_builder.specs.Answers.{IsEarlier}
+use Rattle.alias_chains.specs.LookingUp.{LookUp, goes_on}
+use Rattle.alias_chains.specs.Looked.{chain_of}
 use Rattle.step_table.specs.State.{Turn}
+use Rattle.step_table.specs.Steps.{Fate}
+use Rattle.step_table.specs.Clients.{fate_of}
 use Rattle.step_actions.proofs.CallerLemmas.{later_entries}
-use Rattle.reply_decisions.specs.Fates.{IfLooksOn, LooksOn}
-use Rattle.reply_decisions.proofs.Going.{all_of_entries, few_missed, used_fate}
+use Rattle.reply_decisions.specs.Fates.{looked_on}
+use Rattle.reply_decisions.proofs.Earlier.{looked_holds}
 use Rattle.reply_decisions.proofs.fates.Fates.add.Goals as goal
 
-pub put_looked-requires-clause-used : goal.put_looked-requires-clause-used
-put_looked-requires-clause-used g c =
+pub fate_after-requires : goal.fate_after-requires
+fate_after-requires g c =
     let t = c.args.turn.now in
-    let on : LooksOn t.config t.moment t.state.cache.entries c.args.lead.now.aliases.now c.args.lead.now.name.now c.args.waiting.now c.in-Some.looked =
-    subst (IfLooksOn t.config t.moment t.state.cache.entries c.args.lead.now.aliases.now c.args.lead.now.name.now c.args.waiting.now) c.in-Some.is c.in_ok-look_on.ensures in
+    let x = c.args.waiting.now in
+    let aliases = c.args.lead.now.aliases.now in
+    let name = c.args.lead.now.name.now in
+    let exact : c.in_ok-looked.looked ≡ looked_on t aliases name x =
+    c.in_ok-looked.ensures.exact
+    ∙ (λ i. goes_on (c.cache_at.ensures i).config.routes (c.cache_at.ensures i).moment (c.cache_at.ensures i).cache.entries
+    (c.in_ok-held.ensures i) (c.question-question.ensures i)) in
     let earlier : AllByRecursion (IsEarlier t.moment) t.state.cache.entries =
     subst (λ (r : Turn). AllByRecursion (IsEarlier r.moment) r.state.cache.entries) c.turn.view_is
     (later_entries c.turn.inside.kept.now.moment c.turn.inside.moment c.turn.inside.kept.now.cache.entries c.turn.invariant.1 c.turn.invariant.0.accepted) in
-    all_of_entries (IsEarlier t.moment) t.state.cache.entries c.in-Some.looked.used earlier on.from_cache
+    subst (λ (l : LookUp). AllByRecursion (IsEarlier t.moment) (chain_of l)) (sym exact)
+    (looked_holds (IsEarlier t.moment) t aliases name x earlier c.requires.aliases c.requires.own)
 
-pub put_looked-requires-clause-few : goal.put_looked-requires-clause-few
-put_looked-requires-clause-few g c = λ met.
+pub returns-clause-each : goal.returns-clause-each
+returns-clause-each g c =
     let t = c.args.turn.now in
-    let on : LooksOn t.config t.moment t.state.cache.entries c.args.lead.now.aliases.now c.args.lead.now.name.now c.args.waiting.now c.in-Some.looked =
-    subst (IfLooksOn t.config t.moment t.state.cache.entries c.args.lead.now.aliases.now c.args.lead.now.name.now c.args.waiting.now) c.in-Some.is c.in_ok-look_on.ensures in
-    few_missed (c.args.waiting.now.held ++ c.args.lead.now.aliases.now) on.more c.in-Some.looked on.few on.count met
+    let x = c.args.waiting.now in
+    let aliases = c.args.lead.now.aliases.now in
+    let name = c.args.lead.now.name.now in
+    let exact : c.in_ok-looked.looked ≡ looked_on t aliases name x =
+    c.in_ok-looked.ensures.exact
+    ∙ (λ i. goes_on (c.cache_at.ensures i).config.routes (c.cache_at.ensures i).moment (c.cache_at.ensures i).cache.entries
+    (c.in_ok-held.ensures i) (c.question-question.ensures i)) in
+    IfOk-weaker c.put.result _ _ (λ _ e.
+    e ∙ ap (λ (f : Fate). c.args.self.now.each ++ f ∷ []) (c.in_ok-fate.ensures ∙ ap (fate_of t.config t.moment x) exact))
+    c.put.ensures.each
 
-pub returns-in-Some-clause-fate : goal.returns-in-Some-clause-fate
-returns-in-Some-clause-fate g c =
+pub returns-clause-used : goal.returns-clause-used
+returns-clause-used g c =
     let t = c.args.turn.now in
-    let on : LooksOn t.config t.moment t.state.cache.entries c.args.lead.now.aliases.now c.args.lead.now.name.now c.args.waiting.now c.in-Some.looked =
-    subst (IfLooksOn t.config t.moment t.state.cache.entries c.args.lead.now.aliases.now c.args.lead.now.name.now c.args.waiting.now) c.in-Some.is c.in_ok-look_on.ensures in
-    c.put_looked.ensures.fate t.state.cache.entries on.more on.count on.is
-
-pub returns-in-Some-clause-used : goal.returns-in-Some-clause-used
-returns-in-Some-clause-used g c =
-    let t = c.args.turn.now in
-    let on : LooksOn t.config t.moment t.state.cache.entries c.args.lead.now.aliases.now c.args.lead.now.name.now c.args.waiting.now c.in-Some.looked =
-    subst (IfLooksOn t.config t.moment t.state.cache.entries c.args.lead.now.aliases.now c.args.lead.now.name.now c.args.waiting.now) c.in-Some.is c.in_ok-look_on.ensures in
-    IfOk-weaker c.put_looked.result _ _ (λ x e.
-    ap (map (λ (h : Held). h.piece.slot)) e ∙ map-append (λ (h : Held). h.piece.slot) c.args.self.now.used c.in-Some.looked.used
-    ∙ ap (λ (ss : List Slot). map (λ (h : Held). h.piece.slot) c.args.self.now.used ++ ss)
-    (used_fate t.config t.moment c.args.waiting.now t.state.cache.entries c.args.lead.now.aliases.now c.args.lead.now.name.now on.more on.count c.in-Some.looked on.is))
-    c.put_looked.ensures.used
+    let x = c.args.waiting.now in
+    let aliases = c.args.lead.now.aliases.now in
+    let name = c.args.lead.now.name.now in
+    let exact : c.in_ok-looked.looked ≡ looked_on t aliases name x =
+    c.in_ok-looked.ensures.exact
+    ∙ (λ i. goes_on (c.cache_at.ensures i).config.routes (c.cache_at.ensures i).moment (c.cache_at.ensures i).cache.entries
+    (c.in_ok-held.ensures i) (c.question-question.ensures i)) in
+    IfOk-weaker c.put.result _ _ (λ _ e.
+    e ∙ ap (λ (ss : List Slot). c.args.self.now.used ++ ss) (c.into_slots.ensures ∙ ap (λ (l : LookUp). l.used) exact))
+    c.put.ensures.used
