@@ -37,6 +37,9 @@ module _ (c : Config) (s : Step) (past : List Step) (pieces servers : List Piece
   pub accepted_pieces : pieces ++ servers ≡ w.pieces ++ w.authority
   accepted_pieces = sym (ap (λ (x : Walk). x.pieces ++ x.authority) walk_is)
 
+  pub accepted_end : w.end ≡ a.end
+  accepted_end = ap (λ (x : Walk). x.end) walk_is
+
 -- a reply whose walk is not lame is accepted
 pub walk_accepted : (c : Config) (s : Step) (past : List Step) (ask : ShownAsk) (asked : Question) (route : ℕ)
     (octets : List ℕ) (m : Message) → AllDiffer c.routes → Matches c s past ask octets asked → Spells octets m
@@ -68,3 +71,14 @@ pub walk_accepted-asked : (c : Config) (s : Step) (past : List Step) (ask : Show
     → (walk_accepted c s past ask asked route octets m differ matches spells untruncated rcode on fine).asked ≡ asked
 unfolding walk_accepted
 walk_accepted-asked c s past ask asked route octets m differ matches spells untruncated rcode on fine = refl
+
+-- and its end is the walk's
+pub walk_accepted-end : (c : Config) (s : Step) (past : List Step) (ask : ShownAsk) (asked : Question) (route : ℕ)
+    (octets : List ℕ) (m : Message) (differ : AllDiffer c.routes) (matches : Matches c s past ask octets asked)
+    (spells : Spells octets m) (untruncated : m.header.tc ≡ false)
+    (rcode : (m.header.rcode ≡ 0) ⊎ (m.header.rcode ≡ 3)) (on : serving_route_of c asked.name ≡ Some route)
+    (fine : is_lame (walk_of c m asked route).end ≡ false)
+    → (walk_accepted c s past ask asked route octets m differ matches spells untruncated rcode on fine).end
+    ≡ (walk_of c m asked route).end
+unfolding walk_accepted
+walk_accepted-end c s past ask asked route octets m differ matches spells untruncated rcode on fine = refl

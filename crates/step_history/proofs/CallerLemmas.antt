@@ -3,5 +3,5 @@
 pub use Rattle.step_history.proofs.Moments.{moment_small, moment_later}
 pub use Rattle.step_history.proofs.Since.{then_carried-append, carried_since}
 pub use Rattle.step_history.proofs.Slots.{alias_to, target_is}
-pub use Rattle.step_history.proofs.Accepted.{accepted_fine, accepted_pieces, walk_accepted, walk_accepted-asked}
+pub use Rattle.step_history.proofs.Accepted.{accepted_fine, accepted_pieces, accepted_end, walk_accepted, walk_accepted-asked, walk_accepted-end}
 pub use Rattle.step_history.proofs.Tries.{failed_so_far_last, tries_failed_last}

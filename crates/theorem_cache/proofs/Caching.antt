@@ -31,7 +31,7 @@ use Rattle.theorem_cache.proofs.Texts.{same_sections}
 pub told_later : (m n : ℕ) (h : Held) → m ≤ n → CanBeTold m h → CanBeTold n h
 told_later m n h le k = record { formed = k.formed; writable = k.writable; earlier = let was : h.accepted ≤ m = k.earlier in omega (arith, was, le) }
 
-kept_later : (c : Config) (os : List Held) (m n : ℕ) (es : List Held) → m ≤ n → AllByRecursion (IsKept c os m) es → AllByRecursion (IsKept c os n) es
+pub kept_later : (c : Config) (os : List Held) (m n : ℕ) (es : List Held) → m ≤ n → AllByRecursion (IsKept c os m) es → AllByRecursion (IsKept c os n) es
 kept_later c os m n es le all = All-weaker (IsKept c os m) (IsKept c os n) (λ h k. record { on_route = k.on_route; earlier = (let was : h.accepted ≤ m = k.earlier in omega (arith, was, le)); has_lifetime = k.has_lifetime; not_replaced = k.not_replaced; writable = k.writable }) es all
 
 -- ---- answers from cache

@@ -67,17 +67,17 @@ IsRightFind l n q (found.no_data h) = IsRightEnd l n q h
 IsRightFind l n q (found.denied h) = IsRightEnd l n q h
 IsRightFind l n q miss = Unit {0}
 
-set_ends : (q : Question) (p : Piece) (b : Body) → are_rows b ≡ true → IsOf p q.name q.class (Some q.kind) → EndsChain q p b
+pub set_ends : (q : Question) (p : Piece) (b : Body) → are_rows b ≡ true → IsOf p q.name q.class (Some q.kind) → EndsChain q p b
 set_ends q p (rows each) set slot = slot
 set_ends q p (no_data soa) set slot = absurd (false≢true set)
 set_ends q p (denied soa) set slot = absurd (false≢true set)
 
-no_data_ends : (q : Question) (p : Piece) (b : Body) → tells_no_data b ≡ true → IsOf p q.name q.class (Some q.kind) → EndsChain q p b
+pub no_data_ends : (q : Question) (p : Piece) (b : Body) → tells_no_data b ≡ true → IsOf p q.name q.class (Some q.kind) → EndsChain q p b
 no_data_ends q p (rows each) tells slot = absurd (false≢true tells)
 no_data_ends q p (no_data soa) tells slot = slot
 no_data_ends q p (denied soa) tells slot = absurd (false≢true tells)
 
-denial_ends : (q : Question) (p : Piece) (k : Option ℕ) (b : Body) → p.slot.kind ≡ k → FitsKind k b → is_name_error p ≡ true → IsUnder q.name p.slot.key → p.slot.class ≡ q.class → EndsChain q p b
+pub denial_ends : (q : Question) (p : Piece) (k : Option ℕ) (b : Body) → p.slot.kind ≡ k → FitsKind k b → is_name_error p ≡ true → IsUnder q.name p.slot.key → p.slot.class ≡ q.class → EndsChain q p b
 denial_ends q p (Some kind) b is fits error under class = absurd (false≢true (sym (ap Rattle.std.specs.Prelude.is_none is) ∙ error))
 denial_ends q p None (rows each) is fits error under class = absurd fits
 denial_ends q p None (no_data soa) is fits error under class = absurd fits

@@ -1,7 +1,7 @@
 -- Lemmas for the proofs of crates above: the theorem, runs that go on by a step, the pieces of a
 -- delivery, and questions that are sent on.
 pub use Rattle.theorem_sound.proofs.Theorem.{row_explained, start_explained}
-pub use Rattle.theorem_sound.proofs.Deliveries.{IsHeard, heard, heard_carried, carries, offered}
+pub use Rattle.theorem_sound.proofs.Deliveries.{IsHeard, heard, heard_carried, carries, carries_asked, carries_end, offered}
 pub use Rattle.theorem_sound.proofs.Runs.{row_stays, IsExplained-start, explained_is_sound, explained_more, run_more, stays_at, handed_more}
 pub use Rattle.theorem_sound.proofs.Names.{told_same_name}
 pub use Rattle.theorem_sound.proofs.Nexts.{gave_up, asked_next, asked_again}

@@ -36,7 +36,7 @@ use Rattle.step_history.specs.Causes.{NoneAsks, AcceptsFor}
 use Rattle.step_history.specs.Draws.{drawn}
 use Rattle.step_history.specs.Asked.{IsDrawn}
 use Rattle.step_history.specs.Replies.{failure_text}
-use Rattle.step_history.proofs.CallerLemmas.{moment_small, accepted_fine, accepted_pieces, walk_accepted, walk_accepted-asked}
+use Rattle.step_history.proofs.CallerLemmas.{moment_small, accepted_fine, accepted_pieces, walk_accepted, walk_accepted-asked, walk_accepted-end}
 use Rattle.cache_laws.proofs.CallerLemmas.{serves_exactly}
 use Rattle.step_table.specs.State.{State, turn}
 use Rattle.waiting_questions.specs.Values.{Waiting, waits_for}
@@ -256,6 +256,17 @@ module _ (c : Config) (past : List Step) (w : List (List ℕ)) (s : State) (x : 
 
       pub carries : (actions : List Action) → Carries c (told actions) past (walk.pieces ++ walk.authority)
       carries actions = record { pieces = walk.pieces; servers = walk.authority; accepts = accepts actions; are = refl }
+
+      -- its question is the ask's, and its end the walk's
+      pub carries_asked : (actions : List Action) → (carries actions).accepts.asked ≡ a.question
+      unfolding carries
+      carries_asked actions = accepts_asked actions
+
+      pub carries_end : (actions : List Action) → (carries actions).accepts.end ≡ walk.end
+      unfolding carries
+      carries_end actions = walk_accepted-end c (told actions) past (shown a) a.question a.route octets m
+          x.config.differ (matches_it live parts.0 actions) spelled (ap (λ (h : Header). h.tc) (sym header_is) ∙ parts.1)
+          rcode tried_a.on_route fine
 
       shapes : HasShapes m
       shapes = spelled_message_has_shapes octets m spelled

@@ -18,9 +18,9 @@ use Rattle.step_values.specs.Values.{from_client, Request, Action, send_reply, S
 use Rattle.suffix_routes.specs.Serving.{serving_route_of}
 use Rattle.step_history.specs.History.{InEra, Sends, moment_at, NothingAccepted}
 use Rattle.step_values.specs.Requests.{is_taken}
-use Rattle.step_history.specs.Replies.{failure_text}
+use Rattle.step_history.specs.Replies.{failure_text, answer_text, cut_text, sized_for}
 use Rattle.step_history.specs.Answers.{Chain}
-use Rattle.step_history.specs.Sound.{unanswered, RightReply, Owns, FromCache, SameAsEarlierFromCache}
+use Rattle.step_history.specs.Sound.{unanswered, RightReply, Owns, Replies, FromCache, SameAsEarlierFromCache}
 use Rattle.step_table.specs.State.{State, turn}
 use Rattle.waiting_questions.specs.Values.{Waiting}
 use Rattle.alias_chains.specs.LookingUp.{LookUpEnd, ends, too_long, missed, LookUp, promoted_all}
@@ -189,10 +189,10 @@ module _ (c : Config) (past : List Step) (w : List (List ℕ)) (s : State) (x : 
     pub explained : Explains c (step d.actions ∷ past) ((length past ∷ []) ∷ w) d.state
 
   module _ (h : IsHit) where
-    abbrev y : Waiting
+    abbrev pub y : Waiting
     y = taken_now n client (header_in request) h.question
 
-    abbrev l : LookUp
+    abbrev pub l : LookUp
     l = looked c n s.cache.entries h.question
 
     -- the cache with the entries that the look-up used promoted
@@ -301,8 +301,24 @@ module _ (c : Config) (past : List Step) (w : List (List ℕ)) (s : State) (x : 
             more_is;
       }
 
+    -- an answer is written from the aliases that it took and its end
+    pub hit_text : (octets : List ℕ) → Replies (answered n y l.held h.end ∷ []) octets
+        → octets ≡ sized_for client (answer_text y.asked l.held h.end n) (cut_text y.asked l.held h.end n)
+    hit_text octets replies = by (answer_of y.asked (l.held ++ h.end ∷ []) n (transport_of client)) refl replies
+      where
+        by : (r : Result (List ℕ) Fault) → answer_of y.asked (l.held ++ h.end ∷ []) n (transport_of client) ≡ r
+            → Replies (sends Answered y r ∷ []) octets
+            → octets ≡ sized_for client (answer_text y.asked l.held h.end n) (cut_text y.asked l.held h.end n)
+        by (Ok text) told (inl (success, same)) =
+            let told_so : IsTold n client y.asked l.held h.end text =
+            answered_told n (step [] ∷ past) y (length past) (comes []) l.held h.end (can_be_told []) client text Answered (ap (sends Answered y) told) refl in
+            sym same ∙ told_so.text
+        by (Ok text) told (inr never) = absurd never
+        by (Err fault) told (inl (success, same)) = absurd cc
+        by (Err fault) told (inr never) = absurd never
+
     -- the row answers it
-    row_is : row_of_request (turn c n words s) client request ≡ reply_step n (answered n y l.held h.end) (with_promoted l.used s)
+    pub row_is : row_of_request (turn c n words s) client request ≡ reply_step n (answered n y l.held h.end) (with_promoted l.used s)
     row_is =
         cond-true (is_taken request) _ _ h.takes
         ∙ cond-true ((header_in request).opcode == 0) _ _ (eq-eqb (header_in request).opcode 0 h.opcode)

@@ -24,7 +24,7 @@ use Rattle.cache_laws.proofs.CallerLemmas.{one_slot, slot_test}
 -- ---- the first that passes a test
 
 -- the member that is found is there and passes
-found_is : (test : Held → Bool) (es : List Held) (h : Held) → find test es ≡ Some h → Among h es × (test h ≡ true)
+pub found_is : (test : Held → Bool) (es : List Held) (h : Held) → find test es ≡ Some h → Among h es × (test h ≡ true)
 found_is test [] h is = absurd (cc)
 found_is test (e ∷ es) h is = by (found_is test es h) (test e) refl is
   where
@@ -33,7 +33,7 @@ found_is test (e ∷ es) h is = by (found_is test es h) (test e) refl is
     by behind false f rest = let more = behind rest in (inr more.0, more.1)
 
 -- where nothing is found, none passes
-none_passes : (test : Held → Bool) (es : List Held) → find test es ≡ None → (h : Held) → Among h es → test h ≡ true → ⊥
+pub none_passes : (test : Held → Bool) (es : List Held) → find test es ≡ None → (h : Held) → Among h es → test h ≡ true → ⊥
 none_passes test [] none h among t = among
 none_passes test (e ∷ es) none h among t = by (λ rest later. none_passes test es rest h later t) (test e) refl none among
   where
@@ -58,7 +58,7 @@ find_alike test es st over back one = by (find test es) refl (find test st) refl
 
 -- ---- the nearest
 
-none_near : (es : List Held) → nearest es ≡ None → (h : Held) → Among h es → ⊥
+pub none_near : (es : List Held) → nearest es ≡ None → (h : Held) → Among h es → ⊥
 none_near [] none h among = among
 none_near (e ∷ es) none h among = absurd (cc)
 
@@ -93,37 +93,42 @@ nearest_is (e ∷ es) h is = by (nearest_is es) (nearest es) refl is
             far k (inl here) = let a = ap (λ (x : Held). length x.piece.slot.key) here in omega (arith, a)
             far k (inr later) = let le = ltb-false (length e.piece.slot.key) (length o.piece.slot.key) f in let more = rest.1 k later in omega (arith, le, more)
 
+-- ---- entries of one slot
+
+-- one entry has a slot
+pub entry_alone : (capacity : ℕ) (es : List Held) → AreHeld (record { capacity = capacity; entries = es }) → (h k : Held) → Among h es → Among k es → same_slot h.piece.slot k.piece.slot ≡ true → h ≡ k
+entry_alone capacity es held h k mine other same =
+    let exact : of_slot h.piece.slot k ≡ true = slots_are_the_same h.piece.slot k.piece.slot (own_key h mine) (own_key k other) ∙ same in
+    let own : of_slot h.piece.slot h ≡ true = (slots_decide h.piece.slot h.piece.slot).1 refl in
+    let both : Some h ≡ Some k = sym (entry_among h.piece.slot h es held.apart mine own) ∙ entry_among h.piece.slot k es held.apart other exact in
+    let is : h ≡ k = cc in
+    is
+  where
+    own_key : (e : Held) → Among e es → lowered e.piece.slot.key ≡ e.piece.slot.key
+    own_key e among =
+        let formed = all_among (λ x. IsPiece x.piece) e es held.formed among in
+        ap lowered formed.key ∙ lowered_again e.piece.owner ∙ sym formed.key
+
+-- two of one type are in one slot
+pub one_type : (q : Question) (kind : ℕ) (h k : Held) → is_of_type q kind h ≡ true → is_of_type q kind k ≡ true → same_slot h.piece.slot k.piece.slot ≡ true
+one_type q kind h k a b =
+    let asked : Slot = record { key = q.name; class = q.class; kind = Some kind } in
+    let one = one_slot asked h.piece.slot a in
+    let two = one_slot asked k.piece.slot b in
+    slot_test h.piece.slot k.piece.slot (record { name = sym one.name ∙ two.name; class = sym one.class ∙ two.class; kind = sym one.kind ∙ two.kind })
+
 -- ---- look-ups at one name
 
 module _ (routes : List Route) (m capacity : ℕ) (es st : List Held) (held : AreHeld (record { capacity = capacity; entries = es }))
     (over : (h : Held) → Among h es → is_alive m h ≡ true → Among h st) (back : (h : Held) → Among h st → Among h es) (q : Question) where
-  own_key : (h : Held) → Among h es → lowered h.piece.slot.key ≡ h.piece.slot.key
-  own_key h among =
-      let formed = all_among (λ x. IsPiece x.piece) h es held.formed among in
-      ap lowered formed.key ∙ lowered_again h.piece.owner ∙ sym formed.key
-
-  -- one entry has a slot
-  one_entry : (h k : Held) → Among h es → Among k es → same_slot h.piece.slot k.piece.slot ≡ true → h ≡ k
-  one_entry h k mine other same =
-      let exact : of_slot h.piece.slot k ≡ true = slots_are_the_same h.piece.slot k.piece.slot (own_key h mine) (own_key k other) ∙ same in
-      let own : of_slot h.piece.slot h ≡ true = (slots_decide h.piece.slot h.piece.slot).1 refl in
-      let both : Some h ≡ Some k = sym (entry_among h.piece.slot h es held.apart mine own) ∙ entry_among h.piece.slot k es held.apart other exact in
-      let is : h ≡ k = cc in
-      is
-
-  -- two of one type are in one slot
-  one_type : (kind : ℕ) (h k : Held) → is_of_type q kind h ≡ true → is_of_type q kind k ≡ true → same_slot h.piece.slot k.piece.slot ≡ true
-  one_type kind h k a b =
-      let asked : Slot = record { key = q.name; class = q.class; kind = Some kind } in
-      let one = one_slot asked h.piece.slot a in
-      let two = one_slot asked k.piece.slot b in
-      slot_test h.piece.slot k.piece.slot (record { name = sym one.name ∙ two.name; class = sym one.class ∙ two.class; kind = sym one.kind ∙ two.kind })
+  abbrev one_entry : (h k : Held) → Among h es → Among k es → same_slot h.piece.slot k.piece.slot ≡ true → h ≡ k
+  one_entry = entry_alone capacity es held
 
   typed_alike : (kind : ℕ) (what : Held → Bool) → find (λ h. is_of_type q kind h && (is_alive m h && what h)) es ≡ find (λ h. is_of_type q kind h && (is_alive m h && what h)) st
   typed_alike kind what = find_alike test es st
       (λ h among t. over h among (and_parts (is_alive m h) (what h) (and_parts (is_of_type q kind h) (is_alive m h && what h) t).1).0)
       (λ h among t. back h among)
-      (λ h k mine other t u. one_entry h k mine other (one_type kind h k (and_parts (is_of_type q kind h) (is_alive m h && what h) t).0 (and_parts (is_of_type q kind k) (is_alive m k && what k) u).0))
+      (λ h k mine other t u. one_entry h k mine other (one_type q kind h k (and_parts (is_of_type q kind h) (is_alive m h && what h) t).0 (and_parts (is_of_type q kind k) (is_alive m k && what k) u).0))
     where
       test : Held → Bool
       test h = is_of_type q kind h && (is_alive m h && what h)

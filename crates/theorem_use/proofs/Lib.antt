@@ -6,6 +6,13 @@ pub mod Finding
 pub mod Ending
 pub mod Rows
 pub mod AtOnce
+pub mod Order
+pub mod Bringing
+pub mod Ready
+pub mod Leading
+pub mod Silent
+pub mod Recent
+pub mod Messages
 pub mod Asked
 pub mod AskRows
 pub mod AskHistory
@@ -13,3 +20,4 @@ pub mod Theorem
 pub mod CallerLemmas
 pub mod Worked
 pub mod WorkedAsks
+pub mod WorkedRecent

@@ -46,7 +46,7 @@ among_either h (x ∷ xs) ys (inl here) = inl (inl here)
 among_either h (x ∷ xs) ys (inr later) = elim (among_either h xs ys later) [ inl front ↦ inl (inr front) | inr back ↦ inr back ]
 
 -- a promotion leaves each entry
-promoted_among : (slot : Slot) (es : List Held) (h : Held) → Among h es → Among h (promoted slot es)
+pub promoted_among : (slot : Slot) (es : List Held) (h : Held) → Among h es → Among h (promoted slot es)
 promoted_among slot es h among = by (of_slot slot h) refl
   where
     by : (b : Bool) → of_slot slot h ≡ b → Among h (promoted slot es)
@@ -90,7 +90,7 @@ offers_mirror capacity n slots rooms ps os es few each pieces held was none = (a
         → MirrorsIn capacity n slots (held_at n p ∷ before) (put capacity n room p entries) (k + count_of (ended_so n room p entries))
     one room p before entries k formed mirrors all zero =
         let so_far = mirrors all.1 (omega (arith, zero)) in
-        put_mirrors capacity n p formed before entries so_far.0 so_far.1 slots few all room (omega (arith, zero))
+        put_mirrors capacity n p formed entries so_far.0 before so_far.1 slots few all room (omega (arith, zero))
 
     after : MirrorsIn capacity n slots (then_carried n ps os) (put_all capacity n rooms ps es) (0 + unkept_of capacity n rooms ps es)
     after = offers_keep capacity n IsPiece (MirrorsIn capacity n slots) one rooms ps os es 0 pieces (λ all zero. (held, was))

@@ -1,5 +1,5 @@
 -- A row keeps `Mirrors`, and uses what stands.
-use Rattle.std.proofs.Common.{◌≡◌, ◌∙◌, ℕ, ◌^◌, ◌≤◌, List, [], ◌∷◌, ◌++◌, length, Bool, true, false, refl, sym, ap, subst, inl, inr, arith, Some, None, append_assoc}
+use Rattle.std.proofs.Common.{◌≡◌, ◌∙◌, ℕ, ◌^◌, ◌≤◌, List, [], ◌∷◌, ◌++◌, length, Bool, true, false, refl, sym, ap, subst, inl, inr, arith, Option, Some, None, append_assoc}
 use Rattle.std.specs.Prelude.{min, max, reverse}
 use Rattle.std.specs.List.{concat, AllByRecursion}
 use Rattle.std.proofs.lemmas.Bool.{true≢false}
@@ -19,11 +19,11 @@ use Rattle.trust_rank.specs.Walks.{most_aliases, walk_of}
 use Rattle.record_cache.specs.Values.{Held, Cache}
 use Rattle.record_cache.specs.Entries.{AreHeld}
 use Rattle.step_values.specs.declared.event.Client.{Client}
-use Rattle.step_values.specs.Values.{Event, from_client, delivery, path_failed, tick, restart, Request, Delivered, Handed, Outcome, Step}
-use Rattle.step_history.specs.History.{is_restart, moment_at, Carries, NothingAccepted}
+use Rattle.step_values.specs.Values.{Event, from_client, delivery, path_failed, tick, restart, request_in, Request, Delivered, Handed, Outcome, Step}
+use Rattle.step_history.specs.History.{is_restart, moment_at, Sends, Carries, NothingAccepted}
 use Rattle.step_values.specs.Requests.{is_taken}
 use Rattle.step_history.specs.Carried.{CarriedInEra, then_carried}
-use Rattle.step_history.specs.Sound.{unanswered}
+use Rattle.step_history.specs.Sound.{unanswered, AsksIn}
 use Rattle.step_table.specs.State.{State, turn}
 use Rattle.waiting_questions.specs.Values.{Waiting}
 use Rattle.alias_chains.specs.LookingUp.{LookUp, look_up, promoted_all}
@@ -40,16 +40,20 @@ use Rattle.theorem_sound.specs.Runs.{Run}
 use Rattle.theorem_sound.proofs.CallerLemmas.{row_explained, start_explained, IsHeard, heard, heard_carried, carries, offered}
 use Rattle.theorem_use.specs.Standing.{standing}
 use Rattle.theorem_use.specs.Use.{IsOneOf, HasFewSlots, FoundMemory, HasRoom, AsksToLookUp, LeadsToEnd, IsKnown, AnswersAtOnce}
-use Rattle.theorem_use.specs.Mirrors.{Mirrors, IsMirrored, FullyExplains, StaysFullyExplained}
+use Rattle.theorem_use.specs.Touched.{Touched, TouchedInEra}
+use Rattle.theorem_use.specs.Recent.{IsAnsweredByRecent}
+use Rattle.theorem_use.specs.Mirrors.{Mirrors, IsMirrored, KeepsRecent, HasRecent, FullyExplains, StaysFullyExplained}
 use Rattle.theorem_use.specs.Service.{ServesTruly, ComesTo, ServesOnTruly}
 use Rattle.theorem_use.proofs.Asked.{AreServedOn}
+use Rattle.theorem_use.proofs.Recent.{KeepsAfter, UsesThese, delivered, quiet_after as recent_quiet}
+use Rattle.theorem_use.proofs.Messages.{message_is, recent_is_hit}
 use Rattle.theorem_use.proofs.AskRows.{GivesIfHeard, event_row}
 use Rattle.theorem_use.proofs.AskHistory.{asks_for_waiting}
 use Rattle.theorem_use.proofs.AtOnce.{IsHit, is_hit, hit_is, is_hit_so, IsOwnAnswer, hit_is_owned}
 use Rattle.theorem_use.proofs.Ending.{Ends, look_up_ends}
 use Rattle.theorem_use.proofs.Finding.{finds_the_same}
 use Rattle.theorem_use.proofs.Offers.{offers_mirror, promotions_mirror, mirrors_later}
-use Rattle.theorem_use.proofs.Rows.{promoted_cache, IsQuiet, request_is, path_is, tick_is, unheard_is, heard_is, end_is}
+use Rattle.theorem_use.proofs.Rows.{promoted_cache, IsQuiet, UsesNone, UsesFor, UsesAtEnd, request_is, path_is, tick_is, unheard_is, heard_is, end_is}
 
 -- ---- pieces that were carried before a reply
 
@@ -66,6 +70,10 @@ memory_parts : (t : Step) (past : List Step) → is_restart t ≡ false → Foun
 memory_parts t past runs (inl restarts) = absurd (true≢false (sym restarts ∙ runs))
 memory_parts t past runs (inr found) = found
 
+-- without a step nothing is recent
+nothing_recent : {c : Config} → KeepsRecent c 0 [] []
+nothing_recent = record { kept = tt; order = λ o slots never alive. absurd never }
+
 -- ---- the message or the delivery of an event
 
 sent_is : (a b : Request) → Some a ≡ Some b → a ≡ b
@@ -78,7 +86,7 @@ none_came : (d : Delivered) → None ≡ Some d → ⊥
 none_came d e = absurd (cc)
 
 module _ (c : Config) (past : List Step) (w : List (List ℕ)) (s : State) (x : Explains c past w s)
-    (was : IsMirrored c past w s) (now : ℕ) (words : List ℕ) (unkept : ℕ) (more : Bool) where
+    (was : IsMirrored c past w s) (has : HasRecent c past w s) (now : ℕ) (words : List ℕ) (unkept : ℕ) (more : Bool) where
   abbrev n : ℕ
   n = effective now s
 
@@ -100,13 +108,13 @@ module _ (c : Config) (past : List Step) (w : List (List ℕ)) (s : State) (x : 
 
   -- ---- a step that accepts nothing
 
-  quiet_after : (e : Event) (d : Done) → is_restart (told e d) ≡ false → IsQuiet n s.cache d → ((ps : List Piece) → Carries c (told e d) past ps → ⊥) → MirrorsAfter e d
-  quiet_after e d runs quiet none carried (inl (restarts, is)) room = absurd (true≢false (sym restarts ∙ runs))
-  quiet_after e d runs quiet none carried (inr (inl (goes, silent, is))) room =
+  quiet_after : (Fits : List Slot → Type 0) (e : Event) (d : Done) → is_restart (told e d) ≡ false → IsQuiet Fits n s.cache d → ((ps : List Piece) → Carries c (told e d) past ps → ⊥) → MirrorsAfter e d
+  quiet_after Fits e d runs quiet none carried (inl (restarts, is)) room = absurd (true≢false (sym restarts ∙ runs))
+  quiet_after Fits e d runs quiet none carried (inr (inl (goes, silent, is))) room =
       let memory = memory_parts (told e d) past runs room.memory in
       let old = before carried is (record { slots = room.slots; memory = memory.1 }) in
       subst (λ (y : Cache × ℕ). Mirrors y.1 carried y.0.entries) (λ i. (sym quiet.cache_is i, sym quiet.moment_is i)) (promotions_mirror n quiet.used carried s.cache.entries old)
-  quiet_after e d runs quiet none carried (inr (inr (goes, ps, os, carries_it, is, all))) room = absurd (none ps carries_it)
+  quiet_after Fits e d runs quiet none carried (inr (inr (goes, ps, os, carries_it, is, all))) room = absurd (none ps carries_it)
 
   -- ---- a delivery
 
@@ -132,7 +140,7 @@ module _ (c : Config) (past : List Step) (w : List (List ℕ)) (s : State) (x : 
         accepted : d ≡ row_of_acceptance (turn c n words s) rooms h.ask walk
         accepted = is_row ∙ heard_is c n words s rooms path from octets h.ask h.message h.on h.live h.whole h.read h.fine
 
-        ended : IsQuiet n s.cache (row_of_end (turn c n words (Rattle.step_table.specs.Steps.with_preferred_server h.ask s)) h.ask walk (fate_by c n s.cache.entries h.ask walk) walk.end)
+        ended : IsQuiet (UsesAtEnd c n words s h.ask walk walk.end) n s.cache (row_of_end (turn c n words (Rattle.step_table.specs.Steps.with_preferred_server h.ask s)) h.ask walk (fate_by c n s.cache.entries h.ask walk) walk.end)
         ended = end_is c n words s h.ask walk (fate_by c n s.cache.entries h.ask walk) walk.end
 
         abbrev entries : List Held
@@ -176,10 +184,10 @@ module _ (c : Config) (past : List Step) (w : List (List ℕ)) (s : State) (x : 
       delivered_after : d.unkept ≡ unkept → MirrorsAfter event d
       delivered_after same carried (inl (restarts, is)) room = absurd (true≢false (sym restarts))
       delivered_after same carried (inr (inl (goes, silent, is))) room =
-          quiet_after event d refl quiet silent carried (inr (inl (goes, silent, is))) room
+          quiet_after UsesNone event d refl quiet silent carried (inr (inl (goes, silent, is))) room
         where
-          quiet : IsQuiet n s.cache d
-          quiet = subst (IsQuiet n s.cache) (sym is_row) (unheard_is c n words s rooms path from octets
+          quiet : IsQuiet UsesNone n s.cache d
+          quiet = subst (IsQuiet UsesNone n s.cache) (sym is_row) (unheard_is c n words s rooms path from octets
               (λ a on m live whole read fine. silent ((walk_of c m a.question a.route).pieces ++ (walk_of c m a.question a.route).authority)
               (carries c past w s x now words unkept more path from octets rooms are a on m live whole read fine d.actions)))
       delivered_after same carried (inr (inr (goes, ps, os, carries_it, is, all))) room =
@@ -246,8 +254,15 @@ module _ (c : Config) (past : List Step) (w : List (List ℕ)) (s : State) (x : 
   abbrev IsExplainedAfter : Event → Done → Type 0
   IsExplainedAfter e d = (os : List ℕ) × Explains c (told e d ∷ past) (os ∷ w) d.state
 
+  -- a question that recent pieces answer is answered
+  abbrev UsesRecentNow : Event → Done → List ℕ → Type 0
+  UsesRecentNow e d os = (ts : List Touched) → TouchedInEra c past has.used ts → (client : Client) (q : Question)
+      → (asks : AsksToLookUp c (told e d) client q)
+      → IsAnsweredByRecent c (moment_at (told e d ∷ past)) ts 8 q
+      → AnswersAtOnce c (told e d) past (concat w) os client asks.octets
+
   abbrev IsUsedAfter : Event → Done → Type 0
-  IsUsedAfter e d = (os : List ℕ) × Explains c (told e d ∷ past) (os ∷ w) d.state × UsesNow e d os
+  IsUsedAfter e d = (os : List ℕ) × Explains c (told e d ∷ past) (os ∷ w) d.state × UsesNow e d os × UsesRecentNow e d os
 
   -- a message that the cache answers owns its answer; for any other nothing is claimed
   message_after : (client : Client) (octets : List ℕ) (are : AreOctets octets) (d : Done)
@@ -257,34 +272,52 @@ module _ (c : Config) (past : List Step) (w : List (List ℕ)) (s : State) (x : 
   message_after client octets are d h more_is other true hit = (
     length past ∷ [],
     own.explained,
-    λ asker q carried asks is room known.
-        let one : Request = record { client = client; octets = octets } in
-        let other : Request = record { client = asker; octets = asks.octets } in
-        subst (λ (r : Request). AnswersAtOnce c (told (from_client client octets) d) past (concat w)
-        (length past ∷ []) r.client r.octets) (sent_is one other asks.sends)
-        (record {
-          octets = own.octets;
-          why = own.why;
-          actions = own.actions;
-          reason = own.reason;
-          owner = refl;
-          right =
-              own.right;
-        }),
+    λ asker q carried asks is room known. once asker asks.octets asks.sends,
+    λ ts era asker q asks known. once asker asks.octets asks.sends,
   )
     where
       own : IsOwnAnswer c past w s x now words unkept more client octets are d
       own = hit_is_owned c past w s x now words unkept more client octets are
           (is_hit_so c past w s x now words unkept more client octets are hit) d h more_is
+
+      once : (asker : Client) (request : List ℕ) → Sends (from_client client octets) asker request
+          → AnswersAtOnce c (told (from_client client octets) d) past (concat w) (length past ∷ []) asker request
+      once asker request sends =
+          let one : Request = record { client = client; octets = octets } in
+          let other : Request = record { client = asker; octets = request } in
+          subst (λ (r : Request). AnswersAtOnce c (told (from_client client octets) d) past (concat w)
+          (length past ∷ []) r.client r.octets) (sent_is one other sends)
+          (record {
+            octets = own.octets;
+            why = own.why;
+            actions = own.actions;
+            reason = own.reason;
+            owner = refl;
+            right = own.right;
+          })
   message_after client octets are d h more_is other false not_hit = (
     other.0,
     other.1,
-    λ asker q carried asks is room known.
-        let asker_is : asker ≡ client = ap (λ (r : Request). r.client) (sym (sent_is _ _ asks.sends)) in
-        let hit = known_is_hit client octets are d h q carried
-        (subst (λ (z : Client). AsksToLookUp c (told
-        (from_client client octets) d) z q) asker_is asks) is room known in
-        absurd (true≢false (sym (hit_is c past w s x now words unkept more client octets are hit) ∙ not_hit)),
+    λ asker q carried asks is room known. no_hit (known_is_hit client octets are d h q carried (own asker q asks) is room known),
+    λ ts era asker q asks known. no_hit (recent_is_hit c past w s x has now words unkept more client octets are d h ts era q (own asker q asks) known),
+  )
+    where
+      no_hit : {X : Type 0} → IsHit c past w s x now words unkept more client octets are → X
+      no_hit hit = absurd (true≢false (sym (hit_is c past w s x now words unkept more client octets are hit) ∙ not_hit))
+
+      -- the message is the client's
+      own : (asker : Client) (q : Question) → AsksToLookUp c (told (from_client client octets) d) asker q
+          → AsksToLookUp c (told (from_client client octets) d) client q
+      own asker q asks = subst (λ (z : Client). AsksToLookUp c (told (from_client client octets) d) z q)
+          (ap (λ (r : Request). r.client) (sym (sent_is _ _ asks.sends))) asks
+
+  -- nothing is claimed of an event that brings no question
+  no_question : (e : Event) (d : Done) → IsExplainedAfter e d → ((r : Request) → request_in e ≡ Some r → ⊥) → IsUsedAfter e d
+  no_question e d other none = (
+    other.0,
+    other.1,
+    λ client q carried asks is room known. absurd (none _ asks.sends),
+    λ ts era client q asks known. absurd (none _ asks.sends),
   )
 
   used_after : (e : Event) → HandsOctets e → (d : Done) → Happens (turn c n words s) e d
@@ -292,30 +325,23 @@ module _ (c : Config) (past : List Step) (w : List (List ℕ)) (s : State) (x : 
   used_after (from_client client octets) are d h more_is other =
       message_after client octets are d h more_is other
       (is_hit c past w s x now words unkept more client octets are) refl
-  used_after (delivery path from octets) are d h more_is other =
-      (other.0, other.1, λ client q carried asks is room known. absurd (none_sent _ asks.sends))
-  used_after (path_failed path) are d h more_is other =
-      (other.0, other.1, λ client q carried asks is room known. absurd (none_sent _ asks.sends))
-  used_after tick are d h more_is other = (
-    other.0,
-    other.1,
-    λ client q carried asks is room known. absurd (none_sent _ asks.sends),
-  )
-  used_after restart are d h more_is other =
-      (other.0, other.1, λ client q carried asks is room known. absurd (none_sent _ asks.sends))
+  used_after (delivery path from octets) are d h more_is other = no_question (delivery path from octets) d other none_sent
+  used_after (path_failed path) are d h more_is other = no_question (path_failed path) d other none_sent
+  used_after tick are d h more_is other = no_question tick d other none_sent
+  used_after restart are d h more_is other = no_question restart d other none_sent
 
   mirrored_after : (e : Event) → HandsOctets e → (d : Done) → Happens (turn c n words s) e d → d.unkept ≡ unkept
       → MirrorsAfter e d
   mirrored_after (from_client client octets) are d h same =
-      quiet_after (from_client client octets) d refl
-      (subst (IsQuiet n s.cache) (sym h) (request_is c n words s client octets))
+      quiet_after (UsesFor c n words s octets) (from_client client octets) d refl
+      (subst (IsQuiet (UsesFor c n words s octets) n s.cache) (sym h) (request_is c n words s client octets))
       (λ ps k. none_came _ k.accepts.matches.delivered)
   mirrored_after (delivery path from octets) are d h same = delivered_after path from octets h.0 are d h.1 same
   mirrored_after (path_failed path) are d h same =
-      quiet_after (path_failed path) d refl (subst (IsQuiet n s.cache) (sym h)
+      quiet_after UsesNone (path_failed path) d refl (subst (IsQuiet UsesNone n s.cache) (sym h)
       (path_is c n words s (ask_on path s.asks))) (λ ps k. none_came _ k.accepts.matches.delivered)
   mirrored_after tick are d h same =
-      quiet_after tick d refl (subst (IsQuiet n s.cache) (sym h) (tick_is c n words s))
+      quiet_after UsesNone tick d refl (subst (IsQuiet UsesNone n s.cache) (sym h) (tick_is c n words s))
       (λ ps k. none_came _ k.accepts.matches.delivered)
   mirrored_after restart are d h same = restarted d h
     where
@@ -327,6 +353,50 @@ module _ (c : Config) (past : List Step) (w : List (List ℕ)) (s : State) (x : 
       restarted d h carried (inr (inl (goes, silent, is))) room = absurd (true≢false goes)
       restarted d h carried (inr (inr (goes, ps, os, carries_it, is, all))) room = absurd (true≢false goes)
 
+  -- ---- recent pieces after each event
+
+  -- the used slots of the step, and the recent pieces that it keeps
+  record IsKeptAfter (e : Event) (d : Done) : Type 0 where
+    pub slots : List Slot
+    pub uses : UsesThese c past w s x has now words unkept more (told e d) slots
+    pub keeps : KeepsAfter c past w s x has now words unkept more (told e d) d slots
+
+  -- an event that brings neither a question nor a reply
+  kept_quietly : (e : Event) (d : Done) → is_restart (told e d) ≡ false → IsQuiet UsesNone n s.cache d → ((r : Request) → request_in e ≡ Some r → ⊥)
+      → ((ps : List Piece) → Carries c (told e d) past ps → ⊥) → IsKeptAfter e d
+  kept_quietly e d runs quiet unasked none = record {
+    slots = quiet.used;
+    uses = λ ts era. inr (inr (record { none = quiet.fits; silent = λ q text from. nobody_asks (request_in e) unasked q from.0 }));
+    keeps = recent_quiet c past w s x has now words unkept more UsesNone e d runs quiet none;
+  }
+    where
+      nobody_asks : (r : Option Request) → ((z : Request) → r ≡ Some z → ⊥) → (q : Question) → AsksIn r q → ⊥
+      nobody_asks None unasked' q asks = asks
+      nobody_asks (Some z) unasked' q asks = unasked' z refl
+
+  kept_after : (e : Event) → HandsOctets e → (d : Done) → Happens (turn c n words s) e d → d.unkept ≡ unkept → IsKeptAfter e d
+  kept_after (from_client client octets) are d h same =
+      let message = message_is c past w s x has now words unkept more client octets are d h in
+      record { slots = message.slots; uses = message.uses; keeps = message.keeps }
+  kept_after (delivery path from octets) are d h same =
+      let came = delivered c past w s x has now words unkept more path from octets h.0 are d h.1 same in
+      record { slots = came.slots; uses = came.uses; keeps = came.keeps }
+  kept_after (path_failed path) are d h same =
+      kept_quietly (path_failed path) d refl (subst (IsQuiet UsesNone n s.cache) (sym h) (path_is c n words s (ask_on path s.asks)))
+      none_sent (λ ps k. none_came _ k.accepts.matches.delivered)
+  kept_after tick are d h same =
+      kept_quietly tick d refl (subst (IsQuiet UsesNone n s.cache) (sym h) (tick_is c n words s))
+      none_sent (λ ps k. none_came _ k.accepts.matches.delivered)
+  kept_after restart are d h same = record {
+    slots = [];
+    uses = λ ts era. inr (inr (record { none = refl; silent = λ q text from. absurd from.0 }));
+    keeps = restarted d h;
+  }
+    where
+      restarted : (d : Done) → d ≡ record { actions = []; unkept = 0; state = start c } → KeepsAfter c past w s x has now words unkept more (told restart d) d []
+      restarted d h ts (inl (restarts, is)) = subst (λ (z : Done × List Touched). KeepsRecent c z.0.state.moment z.1 z.0.state.cache.entries) (λ i. (sym h i, sym is i)) nothing_recent
+      restarted d h ts (inr (goes, carried, before, carries, era, is)) = absurd (true≢false goes)
+
 -- ---- rows, and runs
 
 pub row_fully_explained : (c : Config) (past : List Step) (w : List (List ℕ)) (s : State) (h : Handed) (o : Outcome)
@@ -337,6 +407,11 @@ row_fully_explained c past w s h o s' both r = (
   record {
     explained = used.1;
     mirrored = record { mirrors = mirrors; uses = (both.mirrored.uses, used.2) };
+    recent = record {
+      used = kept.slots ∷ both.recent.used;
+      keeps = kept.keeps;
+      uses = (both.recent.uses, λ ts era. (kept.uses ts era, used.3 ts era));
+    };
     served = on.served;
     asked = (both.asked, asks_for_waiting c past w s both.explained t (used.0 ∷ w) s' used.1 on);
   },
@@ -350,11 +425,15 @@ row_fully_explained c past w s h o s' both r = (
 
     mirrors : (carried : List Held) → CarriedInEra c (t ∷ past) carried → HasRoom c (t ∷ past) carried
         → Mirrors s'.moment carried s'.cache.entries
-    mirrors = mirrored_after c past w s both.explained both.mirrored h.now h.words o.unkept o.more h.event r.octets d
+    mirrors = mirrored_after c past w s both.explained both.mirrored both.recent h.now h.words o.unkept o.more h.event r.octets d
         r.happens refl
 
-    used : IsUsedAfter c past w s both.explained both.mirrored h.now h.words o.unkept o.more h.event d
-    used = used_after c past w s both.explained both.mirrored h.now h.words o.unkept o.more h.event r.octets d r.happens
+    kept : IsKeptAfter c past w s both.explained both.mirrored both.recent h.now h.words o.unkept o.more h.event d
+    kept = kept_after c past w s both.explained both.mirrored both.recent h.now h.words o.unkept o.more h.event r.octets d
+        r.happens refl
+
+    used : IsUsedAfter c past w s both.explained both.mirrored both.recent h.now h.words o.unkept o.more h.event d
+    used = used_after c past w s both.explained both.mirrored both.recent h.now h.words o.unkept o.more h.event r.octets d r.happens
         r.more (row_explained c past w s h o s' both.explained r)
 
     -- an accepted delivery carries pieces
@@ -384,6 +463,11 @@ start_fully_explained c config = record {
   mirrored = record {
     mirrors = λ carried is room. subst (λ (z : List Held). Mirrors 0 z []) (sym is)
         (record { was_carried = λ y among. among; stands = λ m le y among alive. among; held = λ m le y among. among });
+    uses = tt;
+  };
+  recent = record {
+    used = [];
+    keeps = λ ts is. subst (λ (z : List Touched). KeepsRecent c 0 z []) (sym is) nothing_recent;
     uses = tt;
   };
   served = record { asked = tt; wanting = tt };
@@ -429,6 +513,8 @@ run_serves_truly c steps s came =
       asks = one.explained.asked_well;
       waiting = one.asked;
       uses = one.mirrored.uses;
+      used = one.recent.used;
+      recent = one.recent.uses;
     }
 
 -- ---- runs that go on

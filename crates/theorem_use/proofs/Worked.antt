@@ -1,6 +1,6 @@
 -- Pieces that stand, room for them, questions that are known, answers at once, and the headline,
 -- computed.
-use Rattle.std.proofs.Common.{◌≡◌, ℕ, ◌+◌, ◌≤◌, List, [], ◌∷◌, ◌++◌, length, true, false, refl}
+use Rattle.std.proofs.Common.{◌≡◌, ℕ, ◌+◌, ◌≤◌, List, [], ◌∷◌, ◌++◌, length, false, refl}
 use Rattle.std.proofs.Common.{subst, sym, ap, ◌∙◌, ◌⊎◌, inl, inr, arith, Option, Some, None}
 use Rattle.std.proofs.lemmas.Bool.{true≢false}
 use Rattle.std.specs.List.{AllByRecursion}
@@ -39,7 +39,7 @@ example = (101 ∷ []) ∷ []
 abbrev pub a : List (List ℕ)
 a = (97 ∷ []) ∷ example
 
-abbrev b : List (List ℕ)
+abbrev pub b : List (List ℕ)
 b = (98 ∷ []) ∷ example
 
 abbrev of : List (List ℕ) → ℕ → List (List ℕ) → ℕ → ℕ → ℕ → Held
@@ -55,14 +55,14 @@ of name kind each moment lifetime rank = record {
   accepted = moment;
 }
 
-abbrev host : List (List ℕ) → ℕ → ℕ → ℕ → Held
+abbrev pub host : List (List ℕ) → ℕ → ℕ → ℕ → Held
 host name moment lifetime rank = of name 1 ((198 ∷ 51 ∷ 100 ∷ 5 ∷ []) ∷ []) moment lifetime rank
 
 -- an alias of a that leads to b
-abbrev alias : ℕ → ℕ → Held
+abbrev pub alias : ℕ → ℕ → Held
 alias moment lifetime = of a 5 ((1 ∷ 98 ∷ 1 ∷ 101 ∷ 0 ∷ []) ∷ []) moment lifetime 3
 
-abbrev name_error : List (List ℕ) → ℕ → ℕ → Held
+abbrev pub name_error : List (List ℕ) → ℕ → ℕ → Held
 name_error name moment rank = record {
   piece = record {
     owner = name;
@@ -352,6 +352,8 @@ nothing_ran = record {
   asks = tt;
   waiting = tt;
   uses = tt;
+  used = [];
+  recent = tt;
 }
 
 -- the owners that make a run sound are those of its use: not the client's older question

@@ -1,5 +1,7 @@
 pub mod Standing
 pub mod Use
+pub mod Touched
+pub mod Recent
 pub mod Asking
 pub mod Mirrors
 pub mod Service

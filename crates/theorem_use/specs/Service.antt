@@ -1,15 +1,17 @@
 -- Everything claimed of a run, in one record.
 use Rattle.std.specs.Prelude.{List, ◌++◌, reverse}
 use Rattle.suffix_routes.specs.Values.{Config, IsConfig}
+use Rattle.trust_rank.specs.declared.slot.Slot.{Slot}
 use Rattle.step_values.specs.Values.{Step}
 use Rattle.step_history.specs.Asked.{AsksWell}
 use Rattle.step_table.specs.State.{State}
 use Rattle.step_table.specs.Steps.{start}
 use Rattle.theorem_sound.specs.Runs.{Run, IsSound}
 use Rattle.theorem_use.specs.Use.{UsesWhatStands}
+use Rattle.theorem_use.specs.Recent.{UsesWhatIsRecent}
 use Rattle.theorem_use.specs.Asking.{AsksForThoseWhoWait}
 
--- the four claims hold of these steps, the oldest first
+-- the claims hold of these steps, the oldest first
 pub record ServesTruly (c : Config) (steps : List Step) : Type 0 where
   -- For some owners, each once: each reply is right for its owner's question. A reply with an
   -- answer is of one of three kinds. Alive: each record set or denial was alive when the client
@@ -33,6 +35,11 @@ pub record ServesTruly (c : Config) (steps : List Step) : Type 0 where
   -- A question for which enough carried data stands (RFC 2181 5.4.1) is answered at once, if the
   -- cache has room: by a single reply, owned by the question, with the same owners.
   pub uses : UsesWhatStands c (reverse steps) sound.owners
+  -- A question that recent pieces answer is answered at once, whatever the era carried before: since
+  -- the last use of each of these pieces, no more different slots were carried or used than the
+  -- cache has room for. For some used slots of each step, and with the same owners.
+  pub used : List (List Slot)
+  pub recent : UsesWhatIsRecent c (reverse steps) sound.owners used
 
 -- these steps, the oldest first, lead from a new forwarder with an accepted configuration to s
 pub record ComesTo (c : Config) (steps : List Step) (s : State) : Type 0 where

@@ -11,8 +11,9 @@ pub fn rows_keep_what_fully_explains()
 {}
 
 /// A run from a new forwarder serves truly. With one list of owners the run is sound, says when
-/// more is due, asks well, and answers a question at once if enough data stands, the cache has room
-/// for everything carried in the era, and memory was found.
+/// more is due, and asks well. A question is answered at once if enough data stands, the cache has
+/// room for everything carried in the era, and memory was found; or if recent pieces answer the
+/// question.
 pub fn runs_serve_truly()
     ensures { RunsServeTruly }
 {}

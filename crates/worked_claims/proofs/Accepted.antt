@@ -61,7 +61,7 @@ says ttl = record {
   additional = [];
 }
 
-reply_is_read : message_of reply_text ≡ Ok (says 60)
+pub reply_is_read : message_of reply_text ≡ Ok (says 60)
 unfolding message_at header_of counted question_at octets_end record_at data_at octets_within parts_at shape_of
     name_within walk_in name_step
 reply_is_read = refl

@@ -2,6 +2,7 @@ mod Texts
 mod Silent
 mod Owners
 mod Accepted
+mod OnlyThis
 mod RightAnswers
 mod SameAnswers
 mod Aliases

@@ -3,13 +3,12 @@
 -- holds.
 use Rattle.std.proofs.Common.{◌≡◌, ℕ, ◌≤◌, List, [], ◌∷◌, Bool, true, false, Option, Some, None, Ok, refl, sym, ap, ◌∙◌, subst}
 use Rattle.std.proofs.Common.{inl, inr, arith}
-use Rattle.std.specs.Prelude.{suc, length, not, is_none}
+use Rattle.std.specs.Prelude.{zero, suc, length, not, is_none}
 use Rattle.std.specs.List.{concat, AllByRecursion}
 use Rattle.std.proofs.lemmas.Bool.{true≢false}
 use Rattle.dns_message.specs.Names.{step as name_step, walk_in, name_within}
 use Rattle.dns_message.specs.Data.{octets_within, parts_at, data_at}
 use Rattle.dns_message.specs.Shapes.{shape_of}
-use Rattle.dns_message.specs.declared.reading.header.Header.{Header}
 use Rattle.dns_message.specs.Header.{header_of, header_in}
 use Rattle.dns_message.specs.Records.{octets_end, question_at, record_at, counted}
 use Rattle.dns_message.specs.Messages.{message_at, message_of, first_question}
@@ -19,25 +18,34 @@ use Rattle.dns_message.specs.Writing.{◌▹◌, each, name_text, data_text, wit
 use Rattle.dns_message.proofs.CallerLemmas.{message_read_is_spelled}
 use Rattle.suffix_routes.specs.Values.{Config}
 use Rattle.suffix_routes.specs.Routes.{route_of}
+use Rattle.trust_rank.specs.declared.slot.Slot.{Slot}
+use Rattle.trust_rank.specs.Values.{Piece}
 use Rattle.record_cache.specs.Values.{Held}
+use Rattle.answer_builder.specs.Values.{asked_in}
+use Rattle.answer_builder.specs.Answers.{sections_of}
 use Rattle.outstanding.specs.declared.ask.Path.TheVariants.{Udp}
 use Rattle.step_values.specs.declared.event.Client.{Client}
-use Rattle.step_values.specs.declared.action.Why.TheVariants.{Answered}
-use Rattle.step_values.specs.Values.{Request, reply_in_action, from_client, Action, ask_udp, send_reply, Step}
-use Rattle.step_history.specs.History.{InEra, Look, ShownAsk}
+use Rattle.step_values.specs.declared.action.Why.TheVariants.{Answered, Deadline}
+use Rattle.step_values.specs.Values.{Request, request_in, reply_in_action, from_client, tick, Event, Action, ask_udp, send_reply, Step}
+use Rattle.step_history.specs.History.{InEra, Look, ShownAsk, listed, Sends}
 use Rattle.cache_laws.proofs.CallerLemmas.{serves_exactly}
-use Rattle.step_history.specs.Carried.{CarriedInEra, Justified}
+use Rattle.step_history.specs.Carried.{then_carried, CarriedInEra, Justified}
 use Rattle.step_history.specs.Answers.{Answers}
 use Rattle.step_history.specs.Asked.{AsksRight, AsksWell}
+use Rattle.step_history.specs.Draws.{drawn}
 use Rattle.step_history.specs.Accounting.{TellsMore}
+use Rattle.step_history.specs.Replies.{full_text, short_text, sized_for}
 use Rattle.step_history.specs.Sound.{RightReply, Owns, Replies, Sound, unanswered}
 use Rattle.step_table.proofs.Played.{a, address, server, config}
 use Rattle.theorem_use.specs.Asking.{AnyByRecursion, Wants, EachWants, Asks, AsksForWaiting, AsksForThoseWhoWait}
 use Rattle.theorem_use.specs.Service.{ServesTruly}
-use Rattle.theorem_use.specs.Use.{HasRoom, AsksToLookUp, IsKnown, AnswersAtOnce, UsesWhatStands}
-use Rattle.worked_claims.proofs.Texts.{question_text, client, step_of, none_listed}
+use Rattle.theorem_use.specs.Use.{FoundMemory, HasRoom, AsksToLookUp, IsKnown, AnswersAtOnce, UsesWhatStands}
+use Rattle.theorem_use.specs.Touched.{Touched, TouchedInEra, LeadsAlong, AnswersNothing, LooksUp, LooksOn, Uses}
+use Rattle.theorem_use.specs.Recent.{IsRecent, IsAnsweredByRecent, UsesWhatIsRecent}
+use Rattle.worked_claims.proofs.Texts.{question_text, client, step_of, no_delivery, none_listed}
 use Rattle.worked_claims.proofs.Silent.{nothing_heard, nothing_carried}
-use Rattle.worked_claims.proofs.Accepted.{asked, answered, answer_with, held, carried_now}
+use Rattle.worked_claims.proofs.Accepted.{asked, answered, answer_with, piece, carries, held, carried_now}
+use Rattle.worked_claims.proofs.OnlyThis.{carries_this, leads_nowhere}
 use Rattle.worked_claims.proofs.Whole.{history, it_is_sound, it_asks_well, it_tells_that_nothing_is_due}
 
 -- ---- a first step: a client asks for the address of a.e, and this is done
@@ -149,6 +157,31 @@ uses_nothing c more words actions is =
         subst (λ (z : Question × List Held). IsKnown c (first more words actions) [] z.1 z.0)
         (λ k. (sym q_is k, none k)) known
 
+-- ---- and nothing is recent
+
+none_recent : (c : Config) (n more : ℕ) (q : Question) → IsAnsweredByRecent c n [] more q → ⊥
+none_recent c n zero q (o, end) = end.ready.recent
+none_recent c n (suc more) q (inl (o, end)) = end.ready.recent
+none_recent c n (suc more) q (inr (o, name, alias, rest)) = alias.ready.recent
+
+-- a first step that answers nothing uses no slot
+uses_no_slot : (c : Config) (more : Bool) (words : List ℕ) (actions : List Action) (is : List ℕ)
+    → ((octets : List ℕ) → Replies actions octets → ⊥)
+    → UsesWhatIsRecent c (first more words actions ∷ []) (is ∷ []) ([] ∷ [])
+uses_no_slot c more words actions is silent = (
+  tt,
+  λ ts none. (
+    inr (inr (record { none = refl; silent = λ q octets from. silent octets from.1 })),
+    λ asker q asks known. absurd
+        (none_recent c 1000 8 q (subst (λ (z : List Touched). IsAnsweredByRecent c 1000 z 8 q) none known)),
+  ),
+)
+
+-- a query is no answer
+only_asks : (octets : List ℕ) → Replies asks_it octets → ⊥
+only_asks octets (inl never) = never
+only_asks octets (inr never) = never
+
 -- ---- the whole history: asked, answered, and answered again from cache
 
 abbrev again_text : List ℕ
@@ -247,15 +280,85 @@ nobody_waits = (
 handed_on : UsesWhatStands config history ((0 ∷ []) ∷ [] ∷ [])
 handed_on = (uses_nothing config false word asks_it [], λ asker q some asks is room known. absurd (not_sent asks.sends))
 
-used : UsesWhatStands config now owners
-used = (
-  handed_on,
-  λ asker q some asks is room known.
-      let own : Request = record { client = client; octets = question_text 7 1 } in
-      let other : Request = record { client = asker; octets = asks.octets } in
-      subst (λ (r : Request). AnswersAtOnce config hit history (0 ∷ []) (2 ∷ []) r.client r.octets)
-      (request_is own other asks.sends)
-      (record { octets = again_text; why = Answered; actions = refl; reason = inl refl; owner = refl; right = right 0 }),
+at_once : (asker : Client) (request : List ℕ) → Sends hit.handed.event asker request
+    → AnswersAtOnce config hit history (0 ∷ []) (2 ∷ []) asker request
+at_once asker request sends =
+    let own : Request = record { client = client; octets = question_text 7 1 } in
+    let other : Request = record { client = asker; octets = request } in
+    subst (λ (r : Request). AnswersAtOnce config hit history (0 ∷ []) (2 ∷ []) r.client r.octets)
+    (request_is own other sends)
+    (record { octets = again_text; why = Answered; actions = refl; reason = inl refl; owner = refl; right = right 0 })
+
+used_at_once : UsesWhatStands config now owners
+used_at_once = (handed_on, λ asker q some asks is room known. at_once asker asks.octets asks.sends)
+
+-- the reply used no slot, and was no question
+recent_so_far : UsesWhatIsRecent config history ((0 ∷ []) ∷ [] ∷ []) ([] ∷ [] ∷ [])
+recent_so_far = (
+  uses_no_slot config false word asks_it [] only_asks,
+  λ ts era. (
+    inr (inr (record { none = refl; silent = λ q octets from. absurd from.0 })),
+    λ asker q asks known. absurd (not_sent asks.sends),
+  ),
+)
+
+-- of all that the era touched, the piece is the newest
+abbrev BeginsSo : List Touched → Type 0
+BeginsSo ts = (before : List Touched) × (ts ≡ record { carried = held ∷ []; used = []; unkept = 0 } ∷ before)
+
+begins_so : (used : List (List Slot)) (ts : List Touched) → TouchedInEra config history ([] ∷ used) ts → BeginsSo ts
+begins_so used ts (inl (restarts, none)) = absurd (true≢false (sym restarts))
+begins_so used ts (inr (runs, carried, before, inl (silent, none), era, is)) = absurd (silent (piece ∷ []) (carries 4 0))
+begins_so used ts (inr (runs, carried, before, inr (ps, k, these), era, is)) = (
+  before,
+  is ∙ ap (λ (os : List Held). record { carried = os; used = []; unkept = 0 } ∷ before)
+      (these ∙ ap (λ (qs : List Piece). then_carried 1020 qs []) (carries_this ps k)),
+)
+
+-- the answer is written from the piece
+from_the_piece : again_text ≡ sized_for client
+    (full_text (asked_in (header_in (question_text 7 1)) (Some (address a))) (sections_of 2000 (held ∷ [])))
+    (short_text (asked_in (header_in (question_text 7 1)) (Some (address a))) (sections_of 2000 (held ∷ [])))
+unfolding written ◌▹◌ each name_text data_text with_length shape_of
+from_the_piece = refl
+
+text_is : (octets : List ℕ) → Replies hit.outcome.actions octets → again_text ≡ octets
+text_is octets (inl (success, same)) = same
+text_is octets (inr never) = absurd never
+
+-- its slot was used
+uses_it : (ts : List Touched) → BeginsSo ts → LooksUp config hit history ts (held.piece.slot ∷ [])
+unfolding first_question question_at octets_end name_within walk_in name_step route_of
+uses_it ts (before, is) = record {
+  client = client;
+  question = address a;
+  asks = record {
+    octets = question_text 7 1;
+    sends = refl;
+    taken = refl;
+    opcode = refl;
+    reads = refl;
+    served = refl;
+    route = 0;
+    on_route = refl;
+  };
+  along = record {
+    pieces = held ∷ [];
+    leads = subst (λ (z : List Touched). LeadsAlong (AnswersNothing hit) 2000 z (address a) (held ∷ [])) (sym is)
+        ((inl refl, omega arith), inl (record { name = refl; class = refl; kind = refl }, refl));
+    few = omega arith;
+    are = refl;
+  };
+  text = λ octets replies. sym (text_is octets replies) ∙ from_the_piece;
+}
+
+used_recent : UsesWhatIsRecent config now owners ((held.piece.slot ∷ []) ∷ [] ∷ [] ∷ [])
+used_recent = (
+  recent_so_far,
+  λ ts era. (
+    inl (uses_it ts (begins_so ([] ∷ []) ts era)),
+    λ asker q asks known. at_once asker asks.octets asks.sends,
+  ),
 )
 
 it_serves_truly : ServesTruly config (asked ∷ answered ∷ hit ∷ [])
@@ -268,32 +371,40 @@ it_serves_truly = record {
   };
   asks = (it_asks_well, tt, omega arith, (tt, tt));
   waiting = nobody_waits;
-  uses = used;
+  uses = used_at_once;
+  used = (held.piece.slot ∷ []) ∷ [] ∷ [] ∷ [];
+  recent = used_recent;
 }
 
--- ---- a reply that is not right: an answer without octets
+-- ---- a reply that is not right: the failure of a deadline, in a step that is no tick
 
-abbrev answers_nothing : Step
-answers_nothing = first false word (send_reply client [] Answered ∷ [])
+abbrev fails_early : Step
+fails_early = first false word (send_reply client [] Deadline ∷ [])
 
-not_sound : ServesTruly config (answers_nothing ∷ []) → ⊥
-unfolding header_of
+not_sound : ServesTruly config (fails_early ∷ []) → ⊥
 not_sound h = by h.sound.owners h.sound.sound
   where
-    no_header : {x : Header} → ◌≡◌ {A = Option Header} None (Some x) → ⊥
-    no_header is = absurd cc
+    no_tick : {octets : List ℕ} → ◌≡◌ {A = Event} (from_client client octets) tick → ⊥
+    no_tick is = absurd cc
 
-    by : (w : List (List ℕ)) → Sound config (answers_nothing ∷ []) w → ⊥
+    by : (w : List (List ℕ)) → Sound config (fails_early ∷ []) w → ⊥
     by [] s = s
     by ([] ∷ w) s = s.1
-    by ((i ∷ is) ∷ w) s = no_header s.1.0.right.answers.spells.header
+    by ((i ∷ is) ∷ w) s = let own = s.1.0 in no_tick own.right.1.passed
 
-but_for_soundness : Sound config (answers_nothing ∷ []) ((0 ∷ []) ∷ []) → ServesTruly config (answers_nothing ∷ [])
+-- it is no answer
+only_fails : (octets : List ℕ) → Replies fails_early.outcome.actions octets → ⊥
+only_fails octets (inl (is, same)) = absurd cc
+only_fails octets (inr never) = never
+
+but_for_soundness : Sound config (fails_early ∷ []) ((0 ∷ []) ∷ []) → ServesTruly config (fails_early ∷ [])
 but_for_soundness sound = record {
   sound = record { owners = (0 ∷ []) ∷ []; sound = sound; tells = (tt, refl); few = omega arith };
   asks = (tt, tt, omega arith, (tt, tt));
   waiting = (tt, record { wanted = []; each = tt; asked = tt; wanting = tt; spelled = tt });
-  uses = uses_nothing config false word (send_reply client [] Answered ∷ []) (0 ∷ []);
+  uses = uses_nothing config false word (send_reply client [] Deadline ∷ []) (0 ∷ []);
+  used = [] ∷ [];
+  recent = uses_no_slot config false word (send_reply client [] Deadline ∷ []) (0 ∷ []) only_fails;
 }
 
 -- ---- a step that reports more due, where nothing is
@@ -317,6 +428,8 @@ but_for_what_it_tells tells = record {
   asks = asks_right 1024 true;
   waiting = (tt, asked_for config true word);
   uses = uses_nothing config true word asks_it [];
+  used = [] ∷ [];
+  recent = uses_no_slot config true word asks_it [] only_asks;
 }
 
 -- ---- two questions, where one may wait
@@ -392,6 +505,38 @@ joins_unknown = (
         subst (λ (z : Question × List Held). IsKnown one_may_wait joins (first false word asks_it ∷ []) z.1 z.0)
         (λ k. (sym q_is k, none k)) known
 
+-- nothing was brought before the second either
+abbrev nothing_touched : List Touched
+nothing_touched = record { carried = []; used = []; unkept = 0 } ∷ []
+
+none_brought : (o : Held) (slots : List Slot) → IsRecent 4096 nothing_touched o slots → ⊥
+none_brought o slots (few, touches, inl brings) = brings.believed
+none_brought o slots (few, touches, inr (keeps, inl (never, before, was))) = never
+none_brought o slots (few, touches, inr (keeps, inr never)) = never
+
+none_ready : (more : ℕ) (q : Question) → IsAnsweredByRecent one_may_wait 1010 nothing_touched more q → ⊥
+none_ready zero q (o, end) = none_brought o end.ready.slots end.ready.recent
+none_ready (suc more) q (inl (o, end)) = none_brought o end.ready.slots end.ready.recent
+none_ready (suc more) q (inr (o, name, alias, rest)) = none_brought o alias.ready.slots alias.ready.recent
+
+touched_nothing : (ts : List Touched) → TouchedInEra one_may_wait (first false word asks_it ∷ []) ([] ∷ []) ts
+    → ts ≡ nothing_touched
+touched_nothing ts (inl (restarts, none)) = absurd (true≢false (sym restarts))
+touched_nothing ts (inr (runs, carried, before, inl (silent, none), era, is)) =
+    is ∙ (λ i. record { carried = none i; used = []; unkept = 0 } ∷ era i)
+touched_nothing ts (inr (runs, carried, before, inr (ps, k, these), era, is)) =
+    absurd (nothing_heard one_may_wait (first false word asks_it) [] refl ps k)
+
+joins_recent : UsesWhatIsRecent one_may_wait (joins ∷ first false word asks_it ∷ []) ([] ∷ [] ∷ []) ([] ∷ [] ∷ [])
+joins_recent = (
+  uses_no_slot one_may_wait false word asks_it [] only_asks,
+  λ ts era. (
+    inr (inr (record { none = refl; silent = λ q octets from. absurd from.1 })),
+    λ asker q asks known. absurd (none_ready 8 q
+        (subst (λ (z : List Touched). IsAnsweredByRecent one_may_wait 1010 z 8 q) (touched_nothing ts era) known)),
+  ),
+)
+
 but_for_how_many_wait : 2 ≤ 1 → ServesTruly one_may_wait (first false word asks_it ∷ joins ∷ [])
 but_for_how_many_wait few = record {
   sound = record {
@@ -403,6 +548,8 @@ but_for_how_many_wait few = record {
   asks = (asks_right 1 false, (tt, tt), omega arith, tt);
   waiting = ((tt, asked_for one_may_wait false word), both_asked_for);
   uses = joins_unknown;
+  used = [] ∷ [] ∷ [];
+  recent = joins_recent;
 }
 
 -- ---- an ask that no word gives
@@ -419,6 +566,8 @@ but_for_its_ask asks_so = record {
   asks = asks_so;
   waiting = (tt, asked_for config false []);
   uses = uses_nothing config false [] asks_it [];
+  used = [] ∷ [];
+  recent = uses_no_slot config false [] asks_it [] only_asks;
 }
 
 -- ---- a question that waits, and nothing is asked
@@ -453,9 +602,11 @@ but_for_what_is_asked waits = record {
   asks = (tt, tt, omega arith, tt);
   waiting = waits;
   uses = uses_nothing config false word [] [];
+  used = [] ∷ [];
+  recent = uses_no_slot config false word [] [] (λ octets never. never);
 }
 
--- ---- what stands is not used: the question is asked again
+-- ---- what stands, and is recent, is not used: the question is asked again
 
 abbrev asks_again : Step
 asks_again = step_of 2000 (1048592 ∷ []) (from_client client (question_text 7 1))
@@ -493,26 +644,28 @@ not_used h = by h.sound.owners h.uses
         let once = uses.1 client (address a) (held ∷ []) looks_up (carried_now 4 0) room tt in
         true≢false (sym (ap is_reply once.actions))
 
+-- it wants the address again, behind this history
+wants_again : (past : List Step) → Wants config (asks_again ∷ past) (length past) (address a)
+unfolding first_question question_at octets_end name_within walk_in name_step
+wants_again past = record {
+  asked = asks_again;
+  before = past;
+  in_era = inl refl;
+  number = refl;
+  client = client;
+  request = question_text 7 1;
+  sent = refl;
+  question = address a;
+  reads = refl;
+  aliases = [];
+  leads = record { few = omega arith; follows = refl };
+}
+
 waits_again : AsksForWaiting config asks_again history (0 ∷ [])
 unfolding first_question question_at octets_end name_within walk_in name_step
 waits_again = record {
   wanted = address a ∷ [];
-  each = (
-    record {
-      asked = asks_again;
-      before = history;
-      in_era = inl refl;
-      number = refl;
-      client = client;
-      request = question_text 7 1;
-      sent = refl;
-      question = address a;
-      reads = refl;
-      aliases = [];
-      leads = record { few = omega arith; follows = refl };
-    },
-    tt,
-  );
+  each = (wants_again history, tt);
   asked = (inl (record { question = address a; reads = refl; same = refl }), tt);
   wanting = (inl (record { question = address a; reads = refl; same = refl }), tt);
   spelled = (
@@ -525,28 +678,33 @@ waits_again = record {
   );
 }
 
-asks_again_right : AsksRight config asks_again history
-    (record { path = Udp 1040; server = server; octets = question_text 16 1 })
+asks_again_right : (past : List Step) → listed past ≡ []
+    → AsksRight config asks_again past (record { path = Udp 1040; server = server; octets = question_text 16 1 })
 unfolding written ◌▹◌ each name_text first_question question_at octets_end name_within walk_in name_step route_of
-asks_again_right = record {
+asks_again_right past none = record {
   id = 16;
   question = address a;
   text = refl;
   reads = refl;
   server = record { route = 0; group = _; place = 0; route_is = serves_exactly.only config a 0 refl; there = refl; server = refl };
-  drawn_so = refl;
+  drawn_so = subst (λ (asks : List ShownAsk). drawn asks_again.handed.words asks asks_again.outcome.actions ≡ Some (16, 1040)) (sym none) refl;
 }
 
+no_reply : (octets : List ℕ) → Replies asks_again.outcome.actions octets → ⊥
+no_reply octets (inl never) = never
+no_reply octets (inr none) = none
+
 but_for_its_use : UsesWhatStands config (asks_again ∷ history) ([] ∷ (0 ∷ []) ∷ [] ∷ [])
+    → UsesWhatIsRecent config (asks_again ∷ history) ([] ∷ (0 ∷ []) ∷ [] ∷ []) ([] ∷ [] ∷ [] ∷ [])
     → ServesTruly config (asked ∷ answered ∷ asks_again ∷ [])
-but_for_its_use uses = record {
+but_for_its_use uses recent = record {
   sound = record {
     owners = [] ∷ (0 ∷ []) ∷ [] ∷ [];
     sound = (it_is_sound, refl, λ q octets hit. absurd (no_reply octets hit.1));
     tells = (it_tells_that_nothing_is_due, refl);
     few = omega arith;
   };
-  asks = (it_asks_well, (tt, tt), omega arith, ((asks_again_right, refl), tt));
+  asks = (it_asks_well, (tt, tt), omega arith, ((asks_again_right history refl, refl), tt));
   waiting = (
     (
       (tt, asked_for config false word),
@@ -555,8 +713,151 @@ but_for_its_use uses = record {
     waits_again,
   );
   uses = uses;
+  used = [] ∷ [] ∷ [] ∷ [];
+  recent = recent;
 }
+
+-- ---- what is recent is not used, in an era that was once out of memory
+
+-- time passes, and an entry found no memory
+abbrev stumbles : Step
+stumbles = record {
+  handed = record { now = 1500; words = []; event = tick };
+  outcome = record { actions = []; unkept = 1; more = false };
+}
+
+abbrev stumbled : List Step
+stumbled = stumbles ∷ history
+
+-- a step that brings no question uses no slot, unless it accepts a reply that leads on
+uses_none : (s : Step) (past : List Step) (ts : List Touched) (slots : List Slot)
+    → ((r : Request) → request_in s.handed.event ≡ Some r → ⊥) → (LooksOn config s past ts slots → ⊥)
+    → Uses config s past ts slots → slots ≡ []
+uses_none s past ts slots unasked unled (inl looks) = absurd (unasked _ looks.asks.sends)
+uses_none s past ts slots unasked unled (inr (inl looks)) = absurd (unled looks)
+uses_none s past ts slots unasked unled (inr (inr nothing)) = nothing.none
+
+-- what the era touched so far, by the slots that its steps used
+abbrev touched : List Slot → List Slot → List Slot → List Touched
+touched first second third =
+    record { carried = []; used = third; unkept = 1 } ∷ record { carried = held ∷ []; used = second; unkept = 0 }
+    ∷ record { carried = []; used = first; unkept = 0 } ∷ []
+
+known : (first second third : List Slot) → second ≡ [] → third ≡ []
+    → IsAnsweredByRecent config 2000 (touched first second third) 8 (address a)
+unfolding route_of
+known first second third none nothing =
+    subst (λ (z : List Slot × List Slot). IsAnsweredByRecent config 2000 (touched first z.0 z.1) 8 (address a))
+    (λ i. (sym none i, sym nothing i))
+    (inl (
+      held,
+      record {
+        ready = record {
+          alive = omega arith;
+          slots = held.piece.slot ∷ [];
+          recent = (
+            omega arith,
+            record { carried = tt; used = tt },
+            inr (
+              tt,
+              inr (
+                omega arith,
+                record { carried = (inl refl, tt); used = tt },
+                inl (record { believed = inl (refl, inr (λ h never one alive. absurd never)); memory = refl }),
+              ),
+            ),
+          );
+        };
+        ends = record { name = refl; class = refl; kind = refl };
+        on_route = serves_exactly.only config a 0 refl;
+        alone = inl (_, refl);
+      },
+    ))
+
+not_recent : ServesTruly config (asked ∷ answered ∷ stumbles ∷ asks_again ∷ []) → ⊥
+not_recent h = by h.sound.owners h.used h.recent
   where
-    no_reply : (octets : List ℕ) → Replies asks_again.outcome.actions octets → ⊥
-    no_reply octets (inl never) = never
-    no_reply octets (inr none) = none
+    asked_touched : (first : List Slot) (used : List (List Slot))
+        → TouchedInEra config (asked ∷ []) (first ∷ used) (record { carried = []; used = first; unkept = 0 } ∷ [])
+    asked_touched first used = inr (refl, [], [], inl (nothing_heard config asked [] refl, refl), refl, refl)
+
+    answered_touched : (first second : List Slot) (used : List (List Slot)) → TouchedInEra config history (second ∷ first ∷ used)
+        (record { carried = held ∷ []; used = second; unkept = 0 } ∷ record { carried = []; used = first; unkept = 0 } ∷ [])
+    answered_touched first second used =
+        inr (refl, held ∷ [], _, inr (piece ∷ [], carries 4 0, refl), asked_touched first used, refl)
+
+    all_touched : (first second third : List Slot) (used : List (List Slot))
+        → TouchedInEra config stumbled (third ∷ second ∷ first ∷ used) (touched first second third)
+    all_touched first second third used =
+        inr (refl, [], _, inl (nothing_heard config stumbles history refl, refl), answered_touched first second used, refl)
+
+    by : (w : List (List ℕ)) (used : List (List Slot)) → UsesWhatIsRecent config (asks_again ∷ stumbled) w used → ⊥
+    by [] used uses = uses
+    by (is ∷ w) [] uses = uses
+    by (is ∷ []) (u ∷ used) uses = uses.0
+    by (is ∷ (js ∷ w)) (u ∷ []) uses = uses.0
+    by (is ∷ (js ∷ [])) (u ∷ (third ∷ used)) uses = uses.0.0
+    by (is ∷ (js ∷ (ks ∷ w))) (u ∷ (third ∷ [])) uses = uses.0.0
+    by (is ∷ (js ∷ (ks ∷ []))) (u ∷ (third ∷ (second ∷ used))) uses = uses.0.0.0
+    by (is ∷ (js ∷ (ks ∷ (ls ∷ w)))) (u ∷ (third ∷ (second ∷ []))) uses = uses.0.0.0
+    by (is ∷ (js ∷ (ks ∷ (ls ∷ w)))) (u ∷ (third ∷ (second ∷ (first ∷ used)))) uses =
+        let none : second ≡ [] = uses_none answered (asked ∷ []) (record { carried = []; used = first; unkept = 0 } ∷ []) second (λ r. not_sent)
+        (λ looks. leads_nowhere looks.pieces looks.servers looks.accepts looks.name looks.end) (uses.0.0.1 _ (asked_touched first used)).0 in
+        let nothing : third ≡ [] = uses_none stumbles history _ third (λ r. not_sent) (λ looks. no_delivery looks.accepts.matches.delivered)
+        (uses.0.1 _ (answered_touched first second used)).0 in
+        let once = (uses.1 (touched first second third) (all_touched first second third used)).1 client (address a) looks_up (known first second third none nothing) in
+        true≢false (sym (ap is_reply once.actions))
+
+waits_behind : AsksForWaiting config asks_again stumbled (0 ∷ [])
+unfolding first_question question_at octets_end name_within walk_in name_step
+waits_behind = record {
+  wanted = address a ∷ [];
+  each = (wants_again stumbled, tt);
+  asked = (inl (record { question = address a; reads = refl; same = refl }), tt);
+  wanting = (inl (record { question = address a; reads = refl; same = refl }), tt);
+  spelled = (
+    inr (record {
+      question = address a;
+      reads = refl;
+      from = inl (record { anew = λ closes quiet. none_listed closes.is_listed; spelled = inl refl });
+    }),
+    tt,
+  );
+}
+
+-- of that era the other claim of use says nothing
+out_of_memory : UsesWhatStands config (asks_again ∷ stumbled) ([] ∷ [] ∷ (0 ∷ []) ∷ [] ∷ [])
+out_of_memory = (
+  (handed_on, λ asker q some asks is room known. absurd (not_sent asks.sends)),
+  λ asker q some asks is room known. absurd (forgot room.memory),
+)
+  where
+    forgot : FoundMemory stumbled → ⊥
+    forgot (inl restarts) = true≢false (sym restarts)
+    forgot (inr found) = let one : 1 ≡ 0 = found.0 in omega (arith, one)
+
+but_for_what_is_recent :
+    UsesWhatIsRecent config (asks_again ∷ stumbled) ([] ∷ [] ∷ (0 ∷ []) ∷ [] ∷ []) ([] ∷ [] ∷ [] ∷ [] ∷ [])
+    → ServesTruly config (asked ∷ answered ∷ stumbles ∷ asks_again ∷ [])
+but_for_what_is_recent recent = record {
+  sound = record {
+    owners = [] ∷ [] ∷ (0 ∷ []) ∷ [] ∷ [];
+    sound = ((it_is_sound, refl, λ q octets hit. absurd hit.0), refl, λ q octets hit. absurd (no_reply octets hit.1));
+    tells = ((it_tells_that_nothing_is_due, refl), refl);
+    few = omega arith;
+  };
+  asks = ((it_asks_well, tt, omega arith, tt), (tt, tt), omega arith, ((asks_again_right stumbled refl, refl), tt));
+  waiting = (
+    (
+      (
+        (tt, asked_for config false word),
+        record { wanted = []; each = tt; asked = tt; wanting = tt; spelled = tt },
+      ),
+      record { wanted = []; each = tt; asked = tt; wanting = tt; spelled = tt },
+    ),
+    waits_behind,
+  );
+  uses = out_of_memory;
+  used = [] ∷ [] ∷ [] ∷ [] ∷ [];
+  recent = recent;
+}
