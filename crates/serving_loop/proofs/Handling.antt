@@ -8,7 +8,7 @@ use Rattle.outstanding.specs.declared.ask.Path.{Path}
 use Rattle.outstanding.specs.Values.{Ask}
 use Rattle.outstanding.specs.Lists.{on_path as ask_on}
 use Rattle.suffix_routes.specs.Values.{Config}
-use Rattle.step_values.specs.Values.{Event, from_client, delivery, path_failed, tick, restart, Outcome, Step}
+use Rattle.step_values.specs.Values.{Event, from_client, delivery, path_failed, tick, restart, Action, Outcome, Step}
 use Rattle.step_table.specs.State.{State, Running}
 use Rattle.step_table.specs.Row.{Row, is_due_at, effective}
 use Rattle.step_table.specs.Progress.{left_to_do, ServesSomething}
@@ -41,6 +41,8 @@ does_nothing x = record {
   refused_puts = adds_none _ _ refl;
   turns = refl;
   refused_arrivals = refl;
+  same_forwarder = refl;
+  same_wire = refl;
 }
 
 pub does_more : (x y z : Standing) (xs ys : List Taken) → Does x xs y → Does y ys z → Does x (xs ++ ys) z
@@ -54,6 +56,8 @@ does_more x y z xs ys first more = record {
   refused_puts = λ le. let sum = refused_append xs ys in let both = adds_more x.counts.refused_puts y.counts.refused_puts z.counts.refused_puts (refused_in xs) (refused_in ys) first.refused_puts more.refused_puts le in omega (arith, sum, both);
   turns = more.turns ∙ first.turns;
   refused_arrivals = more.refused_arrivals ∙ first.refused_arrivals;
+  same_forwarder = more.same_forwarder ∙ first.same_forwarder;
+  same_wire = more.same_wire ∙ first.same_wire;
 }
 
 -- ---- one event
@@ -98,40 +102,45 @@ tells_step o p q r now words x same_now same_words a b c =
     subst (λ (t : Told). TellsMore o t r) (λ i. record { arrivals = []; puts = sym (append-nil x.puts) i; moments = sym same_now i ∷ []; words = sym same_words i ∷ [] })
     (tells_on o q r (moment_was now then words_were words) (told_of_puts x.puts) (tells_on o p q (moment_was now) (words_were words) a b) c)
 
-pub hands_ok : (before after : Running) (o p q r : Telling) (counts counts' : Served) (now : ℕ) (words : List ℕ) (e : Event) (out : Outcome) (failed : Option Path)
-    → Row before.config before.state (record { now = now; words = words; event = e }) out after.state → after.config ≡ before.config → left before ≤ most_left before
-    → (ServesSomething before.config (effective now before.state) before.state e → left_to_do before.config after.state < left before)
-    → TellsMore o (moment_was now) p → TellsMore p (words_were words) q → Puts None out.actions failed q r counts counts'
-    → Hands e failed out.more (record { running = before; told = o; counts = counts }) (record { running = after; told = r; counts = counts' })
-hands_ok before after o p q r counts counts' now words e out failed row config bounded less a b puts =
-    let x : Taken = record { handed = record { now = now; words = words; event = e }; answer = Some out; puts = puts.puts } in
+pub hands_ok : (x y z : Standing) (p : Telling) (now : ℕ) (words : List ℕ) (e : Event) (out : Outcome) (failed : Option Path) (actions : List Action) (more : Bool) → actions ≡ out.actions → more ≡ out.more
+    → Row x.running.config x.running.state (record { now = now; words = words; event = e }) out y.running.state → y.running.config ≡ x.running.config → left x.running ≤ most_left x.running
+    → (ServesSomething x.running.config (effective now x.running.state) x.running.state e → left_to_do x.running.config y.running.state < left x.running)
+    → TellsMore x.told (moment_was now) p → TellsMore p (words_were words) y.told → y.counts ≡ x.counts → y.of_forwarder ≡ x.of_forwarder → y.of_wire ≡ x.of_wire
+    → Puts None actions failed y z → Hands e failed more x z
+hands_ok x y z p now words e out failed actions more is_put is_more row config bounded less a b counts forwarder wire puts =
+    let taken : Taken = record { handed = record { now = now; words = words; event = e }; answer = Some out; puts = puts.puts } in
+    let refused = ap (λ (v : Served). v.refused_puts) counts in
+    let put = puts.actions_are ∙ is_put in
     record {
-      taken = x;
+      taken = taken;
       event_is = refl;
       failed_is = puts.failed_is;
-      more_is = refl;
+      more_is = is_more;
       does = record {
-        config = config;
-        run = (after.state, row, refl);
-        puts = (puts.actions_are, tt);
-        told = tells_step o p q r now words x refl refl a b puts.tells;
-        lost = adds_none _ _ puts.lost;
-        refused_puts = λ le. let sum = puts.refused le in omega (arith, sum);
-        turns = puts.turns;
-        refused_arrivals = puts.arrivals;
+        config = ap (λ (r : Running). r.config) puts.running ∙ config;
+        run = (y.running.state, row, ap (λ (r : Running). r.state) puts.running);
+        puts = (put, tt);
+        told = tells_step x.told p y.told z.told now words taken refl refl a b puts.tells;
+        lost = adds_none _ _ (puts.lost ∙ ap (λ (v : Served). v.lost) counts);
+        refused_puts = λ le. let sum = puts.refused (omega (arith, refused, le)) in omega (arith, refused, sum);
+        turns = puts.turns ∙ ap (λ (v : Served). v.turns) counts;
+        refused_arrivals = puts.arrivals ∙ ap (λ (v : Served). v.refused_arrivals) counts;
+        same_forwarder = puts.same_forwarder ∙ forwarder;
+        same_wire = puts.same_wire ∙ wire;
       };
       bounded = bounded;
-      falls = own_falls before.config after.config before.state after.state now words e out failed puts.puts row config (λ serves. let fewer = less serves in let same = ap (λ (k : Config). left_to_do k after.state) config in omega (arith, fewer, same)) puts.failed_is puts.actions_are;
+      falls = λ own. subst (λ (m : Bool). StepsDown x.running z.running e failed m) (sym is_more) (subst (λ (r : Running). StepsDown x.running r e failed out.more) (sym puts.running)
+          (own_falls x.running.config y.running.config x.running.state y.running.state now words e out failed puts.puts row config (λ serves. let fewer = less serves in let same = ap (λ (k : Config). left_to_do k y.running.state) config in omega (arith, fewer, same)) puts.failed_is put own));
     }
 
-pub hands_err : (before after : Running) (o p q : Telling) (counts counts' : Served) (now : ℕ) (words : List ℕ) (e : Event)
-    → after ≡ before → left before ≤ most_left before → TellsMore o (moment_was now) p → TellsMore p (words_were words) q
-    → Adds counts.lost 1 counts'.lost → counts'.refused_puts ≡ counts.refused_puts → counts'.turns ≡ counts.turns → counts'.refused_arrivals ≡ counts.refused_arrivals
-    → Hands e None false (record { running = before; told = o; counts = counts }) (record { running = after; told = q; counts = counts' })
-hands_err before after o p q counts counts' now words e same bounded a b lost refused turns arrivals =
-    let x : Taken = record { handed = record { now = now; words = words; event = e }; answer = None; puts = [] } in
+pub hands_err : (x z : Standing) (p : Telling) (now : ℕ) (words : List ℕ) (e : Event)
+    → z.running ≡ x.running → left x.running ≤ most_left x.running → TellsMore x.told (moment_was now) p → TellsMore p (words_were words) z.told
+    → Adds x.counts.lost 1 z.counts.lost → z.counts.refused_puts ≡ x.counts.refused_puts → z.counts.turns ≡ x.counts.turns → z.counts.refused_arrivals ≡ x.counts.refused_arrivals → z.of_forwarder ≡ x.of_forwarder → z.of_wire ≡ x.of_wire
+    → Hands e None false x z
+hands_err x z p now words e same bounded a b lost refused turns arrivals forwarder wire =
+    let taken : Taken = record { handed = record { now = now; words = words; event = e }; answer = None; puts = [] } in
     record {
-      taken = x;
+      taken = taken;
       event_is = refl;
       failed_is = refl;
       more_is = refl;
@@ -139,11 +148,13 @@ hands_err before after o p q counts counts' now words e same bounded a b lost re
         config = ap (λ (r : Running). r.config) same;
         run = ap (λ (r : Running). r.state) same;
         puts = (refl, tt);
-        told = tells_step o p q q now words x refl refl a b (tells_nothing q);
+        told = tells_step x.told p z.told z.told now words taken refl refl a b (tells_nothing z.told);
         lost = λ le. let one = lost le in omega (arith, one);
         refused_puts = adds_none _ _ refused;
         turns = turns;
         refused_arrivals = arrivals;
+        same_forwarder = forwarder;
+        same_wire = wire;
       };
       bounded = bounded;
       falls = λ own. inr (refl, ap left same, λ _. refl);

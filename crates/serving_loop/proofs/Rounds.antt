@@ -4,7 +4,7 @@ use Rattle.std.specs.Prelude.{map, ◌==◌, unwrap_or}
 use Rattle.std.specs.Map.{lookup}
 use Rattle.std.specs.BTreeMap.{is_at}
 use Rattle.std.specs.Ordering.{nat_cmp}
-use Rattle.std.specs.List.{filter_map, AllByRecursion}
+use Rattle.std.specs.List.{AllByRecursion}
 use Rattle.std.specs.declared.alloc.AllocError.{AllocError}
 use Rattle.std.proofs.lemmas.List.{length-append, map-append}
 use Rattle.std.proofs.lemmas.List.Elements.{filter_map-append}
@@ -22,7 +22,7 @@ use Rattle.wires.specs.Wire.{Arrival, nothing, client_datagram, client_stream, c
 use Rattle.serving_loop.specs.Events.{Taken, PutsItsActions, step_in, steps_in, joined, AreChains, Round, taken_in_round, taken_in, client_message, server_message, client_octets, server_octets, client_octets_with, server_octets_with, completed, events_of, IsRound, IsCutShort, AreRounds}
 use Rattle.serving_loop.specs.Serving.{Standing, Does, Adds, capped, told_of_all, told_in_round, told_in, lost_in, refused_in, missed_by, missed_in, Serves}
 use Rattle.serving_loop.specs.Handing.{Ticks}
-use Rattle.serving_loop.specs.Streams.{left_on, events_by, client_left_with, server_left_with, Follows, Tracks, Arrives, TakesArrival, TakesRound}
+use Rattle.serving_loop.specs.Streams.{left_on, events_by, client_left_with, server_left_with, Follows, Tracks, Arrives, TakesArrival, TakesRound, TakesRounds}
 use Rattle.serving_loop.proofs.Telling.{then_then, then_silence, tells_nothing, tells_on, adds_none, adds_more, lost_append, refused_append}
 use Rattle.serving_loop.proofs.Handling.{run_append, all_append, does_more}
 
@@ -140,6 +140,8 @@ pub record DoesRounds (before : Standing) (rounds : List Round) (after : Standin
   pub refused_puts : Adds before.counts.refused_puts (refused_in (taken_in rounds)) after.counts.refused_puts
   pub turns : after.counts.turns ≡ before.counts.turns
   pub refused_arrivals : Adds before.counts.refused_arrivals (missed_in rounds) after.counts.refused_arrivals
+  pub same_forwarder : after.of_forwarder ≡ before.of_forwarder
+  pub same_wire : after.of_wire ≡ before.of_wire
 
 taken_more : (rounds : List Round) (t : Round) → taken_in (rounds ++ t ∷ []) ≡ taken_in rounds ++ taken_in_round t
 taken_more [] t = append-nil (taken_in_round t)
@@ -154,7 +156,7 @@ missed_more [] t = omega arith
 missed_more (u ∷ rounds) t = let rest = missed_more rounds t in omega (arith, rest)
 
 pub does_no_rounds : (x : Standing) → DoesRounds x [] x
-does_no_rounds x = record { config = refl; run = refl; puts = tt; told = tells_nothing x.told; lost = adds_none _ _ refl; refused_puts = adds_none _ _ refl; turns = refl; refused_arrivals = adds_none _ _ refl }
+does_no_rounds x = record { config = refl; run = refl; puts = tt; told = tells_nothing x.told; lost = adds_none _ _ refl; refused_puts = adds_none _ _ refl; turns = refl; refused_arrivals = adds_none _ _ refl; same_forwarder = refl; same_wire = refl }
 
 pub does_round : (x y m z : Standing) (rounds : List Round) (t : Round) → DoesRounds x rounds y → Arrives y t.arrival m → Does m (taken_in_round t) z → DoesRounds x (rounds ++ t ∷ []) z
 does_round x y m z rounds t so_far arrives does =
@@ -183,6 +185,8 @@ does_round x y m z rounds t so_far arrives does =
           let same = does.refused_arrivals in
           let both = adds_more x.counts.refused_arrivals y.counts.refused_arrivals m.counts.refused_arrivals (missed_in rounds) (missed_by t.arrival) so_far.refused_arrivals arrives.refused_arrivals le in
           omega (arith, sum, same, both);
+      same_forwarder = does.same_forwarder ∙ arrives.same_forwarder ∙ so_far.same_forwarder;
+      same_wire = does.same_wire ∙ arrives.same_wire ∙ so_far.same_wire;
     }
 
 are_more : (c : Config) (past : List (Option Arrival)) (rounds : List Round) (t : Round) → AreRounds c past rounds → IsRound c (past ++ map (λ (u : Round). u.arrival) rounds) t → AreRounds c past (rounds ++ t ∷ [])
@@ -227,42 +231,50 @@ rounds_more law count s s' x y z so_far h =
       does = does_round x y h.mid z so_far.rounds h.round so_far.does h.arrives h.does;
     }
 
-pub rounds_end : {A : Type 0} (wanted : ℕ) (s : Streams A) (x y : Standing) → x.counts ≡ record { turns = wanted; lost = 0; refused_puts = 0; refused_arrivals = 0 } → RoundsSoFar wanted s x y → Serves x.running x.told wanted (Ok y.counts) y.running y.told
-rounds_end wanted s x y zeros so_far = record {
-  rounds = so_far.rounds;
-  ends = (so_far.long, so_far.are, counts);
-  config = so_far.does.config;
-  run = so_far.does.run;
-  truly = run_serves_on x.running.config x.running.state y.running.state
-      (steps_in (taken_in so_far.rounds)) so_far.does.run;
-  puts = so_far.does.puts;
-  told = so_far.does.told;
-}
-  where
-    lost : y.counts.lost ≡ capped (lost_in (taken_in so_far.rounds))
-    lost = let none = ap (λ (v : Served). v.lost) zeros in let adds = so_far.does.lost (omega (arith, none)) in omega (arith, none, adds)
+module _ {A : Type 0} (wanted : ℕ) (s : Streams A) (x y : Standing) (so_far : RoundsSoFar wanted s x y) where
+  all_served : x.counts ≡ record { turns = wanted; lost = 0; refused_puts = 0; refused_arrivals = 0 } → Serves x.running x.told wanted (Ok y.counts) y.running y.told
+  all_served zeros = record {
+    rounds = so_far.rounds;
+    ends = (so_far.long, so_far.are, counts);
+    config = so_far.does.config;
+    run = so_far.does.run;
+    truly = run_serves_on x.running.config x.running.state y.running.state
+        (steps_in (taken_in so_far.rounds)) so_far.does.run;
+    puts = so_far.does.puts;
+    told = so_far.does.told;
+  }
+    where
+      lost : y.counts.lost ≡ capped (lost_in (taken_in so_far.rounds))
+      lost = let none = ap (λ (v : Served). v.lost) zeros in let adds = so_far.does.lost (omega (arith, none)) in omega (arith, none, adds)
 
-    refused : y.counts.refused_puts ≡ capped (refused_in (taken_in so_far.rounds))
-    refused = let none = ap (λ (v : Served). v.refused_puts) zeros in let adds = so_far.does.refused_puts (omega (arith, none)) in omega (arith, none, adds)
+      refused : y.counts.refused_puts ≡ capped (refused_in (taken_in so_far.rounds))
+      refused = let none = ap (λ (v : Served). v.refused_puts) zeros in let adds = so_far.does.refused_puts (omega (arith, none)) in omega (arith, none, adds)
 
-    missed : y.counts.refused_arrivals ≡ capped (missed_in so_far.rounds)
-    missed = let none = ap (λ (v : Served). v.refused_arrivals) zeros in let adds = so_far.does.refused_arrivals (omega (arith, none)) in omega (arith, none, adds)
+      missed : y.counts.refused_arrivals ≡ capped (missed_in so_far.rounds)
+      missed = let none = ap (λ (v : Served). v.refused_arrivals) zeros in let adds = so_far.does.refused_arrivals (omega (arith, none)) in omega (arith, none, adds)
 
-    counts : y.counts ≡ record { turns = wanted; lost = capped (lost_in (taken_in so_far.rounds)); refused_puts = capped (refused_in (taken_in so_far.rounds)); refused_arrivals = capped (missed_in so_far.rounds) }
-    counts i = record { turns = (so_far.does.turns ∙ ap (λ (v : Served). v.turns) zeros) i; lost = lost i; refused_puts = refused i; refused_arrivals = missed i }
+      counts : y.counts ≡ record { turns = wanted; lost = capped (lost_in (taken_in so_far.rounds)); refused_puts = capped (refused_in (taken_in so_far.rounds)); refused_arrivals = capped (missed_in so_far.rounds) }
+      counts i = record { turns = (so_far.does.turns ∙ ap (λ (v : Served). v.turns) zeros) i; lost = lost i; refused_puts = refused i; refused_arrivals = missed i }
 
-pub rounds_cut : PiecesContinue → {A : Type 0} (wanted count : ℕ) (s s' : Streams A) (e : AllocError) (x y z : Standing) → count < wanted → RoundsSoFar count s x y → TakesRound s (Err e) s' y z → Serves x.running x.told wanted (Err e) z.running z.told
+  pub rounds_end : TakesRounds wanted (Ok y.counts) x y
+  rounds_end = record { serves = all_served; same_forwarder = so_far.does.same_forwarder; same_wire = so_far.does.same_wire }
+
+pub rounds_cut : PiecesContinue → {A : Type 0} (wanted count : ℕ) (s s' : Streams A) (e : AllocError) (x y z : Standing) → count < wanted → RoundsSoFar count s x y → TakesRound s (Err e) s' y z → TakesRounds wanted (Err e) x z
 rounds_cut law wanted count s s' e x y z below so_far h =
     let past = map (λ (t : Round). t.arrival) so_far.rounds in
     let does = does_round x y h.mid z so_far.rounds h.round so_far.does h.arrives h.does in
     let cut : IsCutShort past h.round = record { piece = h.err.piece; done = h.err.done; left = h.err.missed; events = sym (same_events law past h.round.arrival s so_far.tracks) ∙ h.err.events_are; served = h.err.served; ticks = h.err.ticks } in
     record {
-      rounds = so_far.rounds ++ h.round ∷ [];
-      ends = (so_far.rounds, (h.round, refl, (let sum = length-append so_far.rounds (h.round ∷ []) in let long = so_far.long in omega (arith, sum, long, below)), so_far.are, cut));
-      config = does.config;
-      run = does.run;
-      truly = run_serves_on x.running.config x.running.state z.running.state
-          (steps_in (taken_in (so_far.rounds ++ h.round ∷ []))) does.run;
-      puts = does.puts;
-      told = does.told;
+      serves = λ _. record {
+        rounds = so_far.rounds ++ h.round ∷ [];
+        ends = (so_far.rounds, (h.round, refl, (let sum = length-append so_far.rounds (h.round ∷ []) in let long = so_far.long in omega (arith, sum, long, below)), so_far.are, cut));
+        config = does.config;
+        run = does.run;
+        truly = run_serves_on x.running.config x.running.state z.running.state
+            (steps_in (taken_in (so_far.rounds ++ h.round ∷ []))) does.run;
+        puts = does.puts;
+        told = does.told;
+      };
+      same_forwarder = does.same_forwarder;
+      same_wire = does.same_wire;
     }

@@ -4,10 +4,9 @@ use Rattle.std.specs.Prelude.{option_map, map, slice_get}
 use Rattle.std.proofs.lemmas.List.{map-append}
 use Rattle.outstanding.specs.declared.ask.Path.{Path}
 use Rattle.step_values.specs.Values.{SentAsk, Action}
-use Rattle.serving_loop.specs.declared.counts.Served.{Served}
 use Rattle.wires.specs.Wire.{Told, Telling, Put, silence, ◌then◌, told_more, TellsMore}
 use Rattle.serving_loop.specs.Events.{Taken, later, refused_path, failed_of}
-use Rattle.serving_loop.specs.Serving.{Adds, told_of, told_of_all, lost_in, refused_by, refused_of, refused_in}
+use Rattle.serving_loop.specs.Serving.{Standing, Adds, told_of, told_of_all, lost_in, refused_by, refused_of, refused_in}
 use Rattle.serving_loop.specs.Handing.{told_of_puts, Puts}
 
 -- ---- reports
@@ -97,17 +96,20 @@ failed_append : (last : Option Path) (xs ys : List Put) → failed_of last (xs +
 failed_append last [] ys = refl
 failed_append last (x ∷ xs) ys = failed_append (later last (refused_path x)) xs ys
 
-pub puts_none : (o : Telling) (counts : Served) → Puts None [] None o o counts counts
-puts_none o counts = record { puts = []; actions_are = refl; failed_is = refl; tells = tells_nothing o; refused = adds_none _ _ refl; turns = refl; lost = refl; arrivals = refl }
+pub puts_none : (x : Standing) → Puts None [] None x x
+puts_none x = record { puts = []; actions_are = refl; failed_is = refl; running = refl; tells = tells_nothing x.told; refused = adds_none _ _ refl; turns = refl; lost = refl; arrivals = refl; same_forwarder = refl; same_wire = refl }
 
-pub puts_more : (last mid end : Option Path) (xs ys : List Action) (o p q : Telling) (a b c : Served) → Puts last xs mid o p a b → Puts mid ys end p q b c → Puts last (xs ++ ys) end o q a c
-puts_more last mid end xs ys o p q a b c first more = record {
+pub puts_more : (last mid end : Option Path) (xs ys : List Action) (x y z : Standing) → Puts last xs mid x y → Puts mid ys end y z → Puts last (xs ++ ys) end x z
+puts_more last mid end xs ys x y z first more = record {
   puts = first.puts ++ more.puts;
-  actions_are = map-append (λ (x : Put). x.action) first.puts more.puts ∙ ap (λ (zs : List Action). zs ++ map (λ (x : Put). x.action) more.puts) first.actions_are ∙ ap (λ (zs : List Action). xs ++ zs) more.actions_are;
-  failed_is = more.failed_is ∙ ap (λ (z : Option Path). failed_of z more.puts) first.failed_is ∙ sym (failed_append last first.puts more.puts);
-  tells = tells_on o p q (told_of_puts first.puts) (told_of_puts more.puts) first.tells more.tells;
-  refused = λ le. let sum = refused_of_append first.puts more.puts in let both = adds_more a.refused_puts b.refused_puts c.refused_puts (refused_of first.puts) (refused_of more.puts) first.refused more.refused le in omega (arith, sum, both);
+  actions_are = map-append (λ (p : Put). p.action) first.puts more.puts ∙ ap (λ (zs : List Action). zs ++ map (λ (p : Put). p.action) more.puts) first.actions_are ∙ ap (λ (zs : List Action). xs ++ zs) more.actions_are;
+  failed_is = more.failed_is ∙ ap (λ (o : Option Path). failed_of o more.puts) first.failed_is ∙ sym (failed_append last first.puts more.puts);
+  running = more.running ∙ first.running;
+  tells = tells_on x.told y.told z.told (told_of_puts first.puts) (told_of_puts more.puts) first.tells more.tells;
+  refused = λ le. let sum = refused_of_append first.puts more.puts in let both = adds_more x.counts.refused_puts y.counts.refused_puts z.counts.refused_puts (refused_of first.puts) (refused_of more.puts) first.refused more.refused le in omega (arith, sum, both);
   turns = more.turns ∙ first.turns;
   lost = more.lost ∙ first.lost;
   arrivals = more.arrivals ∙ first.arrivals;
+  same_forwarder = more.same_forwarder ∙ first.same_forwarder;
+  same_wire = more.same_wire ∙ first.same_wire;
 }

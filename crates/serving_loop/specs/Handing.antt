@@ -4,8 +4,7 @@ use Rattle.std.specs.Prelude.{Option, Some, None}
 use Rattle.outstanding.specs.declared.ask.Path.{Path}
 use Rattle.step_values.specs.Values.{Event, from_client, delivery, path_failed, tick, restart, Action}
 use Rattle.step_table.specs.State.{Running}
-use Rattle.serving_loop.specs.declared.counts.Served.{Served}
-use Rattle.wires.specs.Wire.{Put, Told, Telling, silence, TellsMore}
+use Rattle.wires.specs.Wire.{Put, Told, silence, TellsMore}
 use Rattle.serving_loop.specs.Events.{Taken, failed_of, more_in, tells_more, joined, IsChain, AreTicks}
 use Rattle.serving_loop.specs.Serving.{Standing, Does, Adds, refused_of, left}
 
@@ -15,16 +14,19 @@ told_of_puts puts = record silence { puts = puts }
 
 -- These actions were put in order. `last` is the last failed path before, `failed` the last failed
 -- path after.
-pub record Puts (last : Option Path) (actions : List Action) (failed : Option Path) (told told_after : Telling)
-    (counts counts_after : Served) : Type 0 where
+pub record Puts (last : Option Path) (actions : List Action) (failed : Option Path) (before after : Standing)
+    : Type 0 where
   pub puts : List Put
   pub actions_are : map (λ (p : Put). p.action) puts ≡ actions
   pub failed_is : failed ≡ failed_of last puts
-  pub tells : TellsMore told (told_of_puts puts) told_after
-  pub refused : Adds counts.refused_puts (refused_of puts) counts_after.refused_puts
-  pub turns : counts_after.turns ≡ counts.turns
-  pub lost : counts_after.lost ≡ counts.lost
-  pub arrivals : counts_after.refused_arrivals ≡ counts.refused_arrivals
+  pub running : after.running ≡ before.running
+  pub tells : TellsMore before.told (told_of_puts puts) after.told
+  pub refused : Adds before.counts.refused_puts (refused_of puts) after.counts.refused_puts
+  pub turns : after.counts.turns ≡ before.counts.turns
+  pub lost : after.counts.lost ≡ before.counts.lost
+  pub arrivals : after.counts.refused_arrivals ≡ before.counts.refused_arrivals
+  pub same_forwarder : after.of_forwarder ≡ before.of_forwarder
+  pub same_wire : after.of_wire ≡ before.of_wire
 
 -- the most work left to a forwarder
 abbrev pub most_left : Running → ℕ

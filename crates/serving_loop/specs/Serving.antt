@@ -9,7 +9,8 @@ use Rattle.step_table.specs.Progress.{left_to_do}
 use Rattle.theorem_sound.specs.Runs.{Run}
 use Rattle.theorem_use.specs.Service.{ServesOnTruly}
 use Rattle.serving_loop.specs.declared.counts.Served.{Served}
-use Rattle.wires.specs.Wire.{Arrival, Put, Told, Telling, silence, ◌then◌, TellsMore, arrived}
+use Rattle.serving_loop.specs.declared.looping.Loop.{Loop}
+use Rattle.wires.specs.Wire.{Arrival, Put, Told, Telling, telling, silence, ◌then◌, TellsMore, arrived}
 use Rattle.serving_loop.specs.Events.{Taken, PutsItsActions, steps_in, Round, taken_in_round, taken_in, AreRounds}
 use Rattle.serving_loop.specs.Events.{IsCutShort}
 
@@ -81,15 +82,24 @@ Adds before n after = before ≤ 2 ^ 64 - 1 → after ≡ capped (before + n)
 
 -- ---- what is done
 
--- the state of the loop: the forwarder, the wire's report with its faults, and the counts
+-- the state of the loop: the forwarder, the wire's report with its faults, and the counts; and by the
+-- names of their references, which forwarder and which wire these are
 pub record Standing : Type 0 where
   pub running : Running
   pub told : Telling
   pub counts : Served
+  pub of_forwarder : ℕ
+  pub of_wire : ℕ
 
--- this state of the loop: the forwarder, the wire's report, and the counts
-abbrev pub standing : Running → Telling → Served → Standing
-standing running told counts = record { running = running; told = told; counts = counts }
+-- the state of a loop, by the report of its wire and the wire's count of faults
+abbrev pub standing : {H A W Hasher : Type 0} → (W → Option Told) → (W → ℕ) → Loop H A W Hasher → Standing
+standing told faults l = record {
+  running = l.forwarder.now;
+  told = telling (told l.wire.now) (faults l.wire.now);
+  counts = l.counts;
+  of_forwarder = l.forwarder.ghost_name;
+  of_wire = l.wire.ghost_name;
+}
 
 -- Between two states the forwarder took these events: the steps are a run, and all their actions
 -- were put.
@@ -102,6 +112,8 @@ pub record Does (before : Standing) (taken : List Taken) (after : Standing) : Ty
   pub refused_puts : Adds before.counts.refused_puts (refused_in taken) after.counts.refused_puts
   pub turns : after.counts.turns ≡ before.counts.turns
   pub refused_arrivals : after.counts.refused_arrivals ≡ before.counts.refused_arrivals
+  pub same_forwarder : after.of_forwarder ≡ before.of_forwarder
+  pub same_wire : after.of_wire ≡ before.of_wire
 
 -- the work left to a forwarder
 abbrev pub left : Running → ℕ

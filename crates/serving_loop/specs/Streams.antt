@@ -8,6 +8,7 @@ use Rattle.tcp_frames.specs.Frames.{frames_of, unfinished_of}
 use Rattle.outstanding.specs.declared.ask.Path.TheVariants.{Udp, Tcp}
 use Rattle.step_values.specs.declared.event.Client.TheVariants as client
 use Rattle.step_values.specs.Values.{Event, from_client, delivery, path_failed}
+use Rattle.serving_loop.specs.declared.counts.Served.{Served}
 use Rattle.serving_loop.specs.declared.streams.Streams.{Streams}
 use Rattle.serving_loop.specs.declared.streams.Sender.{Sender}
 use Rattle.serving_loop.specs.declared.streams.Sender.TheVariants.{FromClient, FromServer}
@@ -15,7 +16,7 @@ use Rattle.wires.specs.Wire.{Arrival, nothing, client_datagram, client_stream, c
 use Rattle.wires.specs.Wire.{server_stream, path_gone, TellsMore, arrived}
 use Rattle.serving_loop.specs.Events.{Taken, joined, client_message, server_message, client_octets, server_octets}
 use Rattle.serving_loop.specs.Events.{AreChains, AreTicks, Round, taken_in_round, IsPiece}
-use Rattle.serving_loop.specs.Serving.{Standing, Does, Adds, missed_by}
+use Rattle.serving_loop.specs.Serving.{Standing, Does, Adds, Serves, missed_by}
 use Rattle.serving_loop.specs.Handing.{most_left}
 
 -- the octets of a connection after its last whole frame
@@ -105,6 +106,8 @@ pub record Arrives (before : Standing) (a : Option Arrival) (after : Standing) :
   pub refused_puts : after.counts.refused_puts ≡ before.counts.refused_puts
   pub turns : after.counts.turns ≡ before.counts.turns
   pub refused_arrivals : Adds before.counts.refused_arrivals (missed_by a) after.counts.refused_arrivals
+  pub same_forwarder : after.of_forwarder ≡ before.of_forwarder
+  pub same_wire : after.of_wire ≡ before.of_wire
 
 -- An arrival came and its events were served.
 pub record TakesArrival {A : Type 0} (s : Streams A) (result : Result (Unit {0}) AllocError) (s' : Streams A)
@@ -141,3 +144,10 @@ pub record TakesRound {A : Type 0} (s : Streams A) (result : Result (Unit {0}) A
   pub does : Does mid (taken_in_round round) after
   pub ok : OnOk result (MakesRound s round s' before)
   pub err : OnErr result (StopsShort s round)
+
+-- Rounds were taken, with nothing counted before: the effect of a call of `serve`.
+pub record TakesRounds (wanted : ℕ) (result : Result Served AllocError) (before after : Standing) : Type 0 where
+  pub serves : before.counts ≡ record { turns = wanted; lost = 0; refused_puts = 0; refused_arrivals = 0 }
+      → Serves before.running before.told wanted result after.running after.told
+  pub same_forwarder : after.of_forwarder ≡ before.of_forwarder
+  pub same_wire : after.of_wire ≡ before.of_wire

@@ -3,6 +3,7 @@
 
 mod counts;
 mod handing;
+mod looping;
 mod serving;
 mod streams;
 

@@ -5,11 +5,11 @@ ghost use Rattle.wires.specs.Wire.{telling, arrival_of, path_gone};
 ghost use Rattle.serving_loop.specs.Events.{IsPiece};
 ghost use Rattle.serving_loop.specs.Serving.{standing, Serves};
 ghost use Rattle.serving_loop.specs.Streams.{events_by, Follows, ServesEvents, TakesArrival};
-ghost use Rattle.serving_loop.specs.Streams.{TakesRound};
+ghost use Rattle.serving_loop.specs.Streams.{TakesRound, TakesRounds};
 
 use crate::counts::Served;
-use crate::handing::{hand_datagram, hand_on, tick_on};
-use crate::streams::{Piece, Sender, Streams, put_in, serve_piece, take_out};
+use crate::looping::Loop;
+use crate::streams::{Piece, Sender, Streams, put_in, take_out};
 use forwarder_core::Forwarder;
 use std::alloc::{AllocError, Allocator};
 use std::collections::BTreeMap;
@@ -37,112 +37,107 @@ pub fn serve<H: BuildHasher + Drop, A: Allocator + Copy, W: Wire<A>>(
     ensures { Serves forwarder.old (telling (W.told wire.old) (W.fault_count wire.old)) turns
         result forwarder.new (telling (W.told wire.new) (W.fault_count wire.new)) }
 {
-    let mut counts = Served {
+    let counts = Served {
         turns,
         lost: 0,
         refused_puts: 0,
         refused_arrivals: 0,
     };
-    let mut streams = Streams {
-        alloc,
-        clients: BTreeMap::new(alloc),
-        servers: BTreeMap::new(alloc),
+    let mut serving = Loop {
+        wire,
+        forwarder,
+        counts,
     };
-    for _round in 0..turns {
-        take_round(wire, forwarder, &mut counts, &mut streams)?;
-    }
-    Ok(counts)
+    serving.take_rounds(alloc, turns)
 }
 
-/// Takes a round: an arrival with its events, then ticks.
-fn take_round<H: BuildHasher + Drop, A: Allocator + Copy, W: Wire<A>>(
-    wire: &mut W,
-    forwarder: &mut Forwarder<H, A>,
-    counts: &mut Served,
-    streams: &mut Streams<A>,
-) -> Result<(), AllocError>
-    ensures { TakesRound streams.old result streams.new
-        (standing forwarder.old (telling (W.told wire.old) (W.fault_count wire.old)) counts.old)
-        (standing forwarder.new (telling (W.told wire.new) (W.fault_count wire.new)) counts.new) }
-{
-    take_arrival(wire, forwarder, counts, streams)?;
-    tick_on(wire, forwarder, counts);
-    Ok(())
-}
+impl<H: BuildHasher + Drop, A: Allocator + Copy, W: Wire<A>> Loop<'_, '_, H, A, W> {
+    /// Takes `turns` rounds, of which the first begins without streams. Returns the counts.
+    fn take_rounds(&mut self, alloc: A, turns: u64) -> Result<Served, AllocError>
+        ensures { TakesRounds turns result (standing W.told W.fault_count self.old)
+            (standing W.told W.fault_count self.new) }
+    {
+        let mut streams = Streams {
+            alloc,
+            clients: BTreeMap::new(alloc),
+            servers: BTreeMap::new(alloc),
+        };
+        for _round in 0..turns {
+            self.take_round(&mut streams)?;
+        }
+        Ok(self.counts)
+    }
 
-/// Takes an arrival and serves its events; a refused arrival is counted.
-fn take_arrival<H: BuildHasher + Drop, A: Allocator + Copy, W: Wire<A>>(
-    wire: &mut W,
-    forwarder: &mut Forwarder<H, A>,
-    counts: &mut Served,
-    streams: &mut Streams<A>,
-) -> Result<(), AllocError>
-    ensures { TakesArrival streams.old result streams.new
-        (standing forwarder.old (telling (W.told wire.old) (W.fault_count wire.old)) counts.old)
-        (standing forwarder.new (telling (W.told wire.new) (W.fault_count wire.new)) counts.new) }
-{
-    match wire.arrival() {
-        Ok(arrival) => serve_arrival(wire, forwarder, counts, streams, arrival),
-        Err(_) => {
-            counts.refused_arrivals = counts.refused_arrivals.saturating_add(1);
-            Ok(())
+    /// Takes a round: an arrival with its events, then ticks.
+    fn take_round(&mut self, streams: &mut Streams<A>) -> Result<(), AllocError>
+        ensures { TakesRound streams.old result streams.new (standing W.told W.fault_count self.old)
+            (standing W.told W.fault_count self.new) }
+    {
+        self.take_arrival(streams)?;
+        self.tick_on();
+        Ok(())
+    }
+
+    /// Takes an arrival and serves its events; a refused arrival is counted.
+    fn take_arrival(&mut self, streams: &mut Streams<A>) -> Result<(), AllocError>
+        ensures { TakesArrival streams.old result streams.new (standing W.told W.fault_count self.old)
+            (standing W.told W.fault_count self.new) }
+    {
+        match self.wire.arrival() {
+            Ok(arrival) => self.serve_arrival(streams, arrival),
+            Err(_) => {
+                self.counts.refused_arrivals = self.counts.refused_arrivals.saturating_add(1);
+                Ok(())
+            }
         }
     }
-}
 
-/// Serves the events of an arrival. `Err` if memory ran out for a frame reader, its octets or a
-/// frame.
-fn serve_arrival<H: BuildHasher + Drop, A: Allocator + Copy, W: Wire<A>>(
-    wire: &mut W,
-    forwarder: &mut Forwarder<H, A>,
-    counts: &mut Served,
-    streams: &mut Streams<A>,
-    arrival: Arrival<A>,
-) -> Result<(), AllocError>
-    ensures serves { ServesEvents (events_by streams.old (Some (arrival_of arrival))) result
-        (standing forwarder.old (telling (W.told wire.old) (W.fault_count wire.old)) counts.old)
-        (standing forwarder.new (telling (W.told wire.new) (W.fault_count wire.new)) counts.new) }
-    ensures follows { OnOk result (Follows streams.old (Some (arrival_of arrival)) streams.new) }
-    ensures piece { OnErr result (IsPiece (Some (arrival_of arrival))) }
-{
-    match arrival {
-        Arrival::Nothing => {}
-        Arrival::ClientDatagram { from, bytes } => {
-            let client = Client::Udp(from);
-            hand_datagram(wire, forwarder, counts, Event::Client { client, bytes });
+    /// Serves the events of an arrival. `Err` if memory ran out for a frame reader, its octets or a
+    /// frame.
+    fn serve_arrival(
+        &mut self,
+        streams: &mut Streams<A>,
+        arrival: Arrival<A>,
+    ) -> Result<(), AllocError>
+        ensures serves { ServesEvents (events_by streams.old (Some (arrival_of arrival))) result
+            (standing W.told W.fault_count self.old) (standing W.told W.fault_count self.new) }
+        ensures follows { OnOk result (Follows streams.old (Some (arrival_of arrival)) streams.new) }
+        ensures piece { OnErr result (IsPiece (Some (arrival_of arrival))) }
+    {
+        match arrival {
+            Arrival::Nothing => {}
+            Arrival::ClientDatagram { from, bytes } => {
+                let client = Client::Udp(from);
+                self.hand_datagram(Event::Client { client, bytes });
+            }
+            Arrival::ClientStream { conn, bytes } => {
+                let mut reader = take_out(streams.alloc, &mut streams.clients, conn);
+                let sender = Sender::FromClient(conn);
+                let piece = Piece { sender, bytes };
+                self.serve_piece(&mut reader, piece)?;
+                put_in(&mut streams.clients, conn, reader)?;
+            }
+            Arrival::ClientClosed { conn } => {
+                take_out(streams.alloc, &mut streams.clients, conn);
+            }
+            Arrival::ServerDatagram { port, from, bytes } => {
+                let path = Path::Udp(port);
+                self.hand_datagram(Event::Delivery { path, from, bytes });
+            }
+            Arrival::ServerStream { conn, from, bytes } => {
+                let mut reader = take_out(streams.alloc, &mut streams.servers, conn);
+                let sender = Sender::FromServer(conn, from);
+                let piece = Piece { sender, bytes };
+                self.serve_piece(&mut reader, piece)?;
+                put_in(&mut streams.servers, conn, reader)?;
+            }
+            Arrival::PathGone { path } => {
+                forget_path(streams, path);
+                self.hand_on(&Event::PathFailed { path });
+            }
         }
-        Arrival::ClientStream { conn, bytes } => {
-            let mut reader = take_out(streams.alloc, &mut streams.clients, conn);
-            let sender = Sender::FromClient(conn);
-            let piece = Piece { sender, bytes };
-            serve_piece(wire, forwarder, counts, &mut reader, piece)?;
-            put_in(&mut streams.clients, conn, reader)?;
-        }
-        Arrival::ClientClosed { conn } => {
-            take_out(streams.alloc, &mut streams.clients, conn);
-        }
-        Arrival::ServerDatagram { port, from, bytes } => {
-            let path = Path::Udp(port);
-            hand_datagram(
-                wire,
-                forwarder,
-                counts,
-                Event::Delivery { path, from, bytes },
-            );
-        }
-        Arrival::ServerStream { conn, from, bytes } => {
-            let mut reader = take_out(streams.alloc, &mut streams.servers, conn);
-            let sender = Sender::FromServer(conn, from);
-            let piece = Piece { sender, bytes };
-            serve_piece(wire, forwarder, counts, &mut reader, piece)?;
-            put_in(&mut streams.servers, conn, reader)?;
-        }
-        Arrival::PathGone { path } => {
-            forget_path(streams, path);
-            hand_on(wire, forwarder, counts, &Event::PathFailed { path });
-        }
+        Ok(())
     }
-    Ok(())
 }
 
 /// Forgets the rest of the stream on an ended path.

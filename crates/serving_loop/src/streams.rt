@@ -3,13 +3,10 @@
 ghost use Rattle.std.specs.Prelude.{◌≡◌, ◌==◌, ◌++◌, ℕ, [], if◌then◌else◌, map, OnOk};
 ghost use Rattle.tcp_frames.specs.Frames.{frames_of, unfinished_of};
 ghost use Rattle.step_values.specs.Values.{event_of};
-ghost use Rattle.wires.specs.Wire.{telling};
 ghost use Rattle.serving_loop.specs.Serving.{standing};
 ghost use Rattle.serving_loop.specs.Streams.{left_on, message_from, ServesFrames, ServesEvents};
 
-use crate::counts::Served;
-use crate::handing::hand_on;
-use forwarder_core::Forwarder;
+use crate::looping::Loop;
 use plain_values::Octets;
 use std::alloc::{AllocError, Allocator};
 use std::collections::BTreeMap;
@@ -91,39 +88,34 @@ pub(crate) fn put_in<A: Allocator + Copy>(
     Ok(())
 }
 
-/// Takes a piece of a stream: serves each frame that ends in the piece. `Err` if memory ran out for
-/// the octets of the reader or for a frame.
-pub(crate) fn serve_piece<H: BuildHasher + Drop, A: Allocator + Copy, W: Wire<A>>(
-    wire: &mut W,
-    forwarder: &mut Forwarder<H, A>,
-    counts: &mut Served,
-    reader: &mut FrameReader<A>,
-    piece: Piece<A>,
-) -> Result<(), AllocError>
-    ensures serves { ServesEvents (map (message_from piece.sender) (frames_of (reader.old ++ piece.bytes)))
-        result
-        (standing forwarder.old (telling (W.told wire.old) (W.fault_count wire.old)) counts.old)
-        (standing forwarder.new (telling (W.told wire.new) (W.fault_count wire.new)) counts.new) }
-    ensures reader { OnOk result (reader.new ≡ unfinished_of (reader.old ++ piece.bytes)) }
-{
-    reader.feed(piece.bytes.as_slice())?;
-    serve_frames(wire, forwarder, counts, reader, piece.sender)
-}
-
-/// Serves each whole frame in the reader. `Err` if memory for a message ran out.
-fn serve_frames<H: BuildHasher + Drop, A: Allocator + Copy, W: Wire<A>>(
-    wire: &mut W,
-    forwarder: &mut Forwarder<H, A>,
-    counts: &mut Served,
-    reader: &mut FrameReader<A>,
-    sender: Sender,
-) -> Result<(), AllocError>
-    ensures { ServesFrames sender reader.old result reader.new
-        (standing forwarder.old (telling (W.told wire.old) (W.fault_count wire.old)) counts.old)
-        (standing forwarder.new (telling (W.told wire.new) (W.fault_count wire.new)) counts.new) }
-{
-    while let Some(message) = reader.take()? {
-        hand_on(wire, forwarder, counts, &sender.event(message));
+impl<H: BuildHasher + Drop, A: Allocator + Copy, W: Wire<A>> Loop<'_, '_, H, A, W> {
+    /// Takes a piece of a stream: serves each frame that ends in the piece. `Err` if memory ran out
+    /// for the octets of the reader or for a frame.
+    pub(crate) fn serve_piece(
+        &mut self,
+        reader: &mut FrameReader<A>,
+        piece: Piece<A>,
+    ) -> Result<(), AllocError>
+        ensures serves { ServesEvents (map (message_from piece.sender) (frames_of (reader.old ++ piece.bytes)))
+            result (standing W.told W.fault_count self.old) (standing W.told W.fault_count self.new) }
+        ensures reader { OnOk result (reader.new ≡ unfinished_of (reader.old ++ piece.bytes)) }
+    {
+        reader.feed(piece.bytes.as_slice())?;
+        self.serve_frames(reader, piece.sender)
     }
-    Ok(())
+
+    /// Serves each whole frame in the reader. `Err` if memory for a message ran out.
+    fn serve_frames(
+        &mut self,
+        reader: &mut FrameReader<A>,
+        sender: Sender,
+    ) -> Result<(), AllocError>
+        ensures { ServesFrames sender reader.old result reader.new (standing W.told W.fault_count self.old)
+            (standing W.told W.fault_count self.new) }
+    {
+        while let Some(message) = reader.take()? {
+            self.hand_on(&sender.event(message));
+        }
+        Ok(())
+    }
 }

@@ -1,5 +1,5 @@
 use Rattle.serving_loop.proofs.Handling.{ticks_again, ticks_end, ticks_none}
-use Rattle.serving_loop.proofs.handing.tick_on.Goals as goal
+use Rattle.serving_loop.proofs.looping.Loop.tick_on.Goals as goal
 
 pub loop-init : goal.loop-init
 loop-init g c = ticks_none _

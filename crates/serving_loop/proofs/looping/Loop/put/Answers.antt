@@ -2,18 +2,21 @@ use Rattle.std.proofs.Common.{◌∷◌, [], refl, ap, true, false, arith}
 use Rattle.step_values.specs.Values.{action_of, ask_in}
 use Rattle.serving_loop.specs.Events.{later}
 use Rattle.serving_loop.proofs.Telling.{adds_none, refused_ask, refused_other}
-use Rattle.serving_loop.proofs.handing.put.Goals as goal
+use Rattle.serving_loop.proofs.looping.Loop.put.Goals as goal
 
 pub returns-in-Ok : goal.returns-in-Ok
 returns-in-Ok g c = record {
   puts = record { action = action_of c.args.action.now; sent = true } ∷ [];
   actions_are = refl;
   failed_is = refl;
+  running = refl;
   tells = c.in-Ok.ensures.tells;
   refused = adds_none _ _ refl;
   turns = refl;
   lost = refl;
   arrivals = refl;
+  same_forwarder = refl;
+  same_wire = refl;
 }
 
 pub returns-in-Some : goal.returns-in-Some
@@ -21,11 +24,14 @@ returns-in-Some g c = record {
   puts = record { action = action_of c.args.action.now; sent = false } ∷ [];
   actions_are = refl;
   failed_is = ap (later c.args.failed) c.in-Some.ensures;
+  running = refl;
   tells = c.in-Err.ensures.tells;
   refused = λ le. let none = refused_ask (ask_in (action_of c.args.action.now)) c.in-Some.path c.in-Some.ensures in omega (arith, none, le);
   turns = refl;
   lost = refl;
   arrivals = refl;
+  same_forwarder = refl;
+  same_wire = refl;
 }
 
 pub returns-in-None : goal.returns-in-None
@@ -33,9 +39,12 @@ returns-in-None g c = record {
   puts = record { action = action_of c.args.action.now; sent = false } ∷ [];
   actions_are = refl;
   failed_is = ap (later c.args.failed) c.in-None.ensures;
+  running = refl;
   tells = c.in-Err.ensures.tells;
-  refused = λ le. let one = refused_other (ask_in (action_of c.args.action.now)) c.in-None.ensures in let sum = c.saturating_add-counts.ensures in omega (arith, one, le, sum);
+  refused = λ le. let one = refused_other (ask_in (action_of c.args.action.now)) c.in-None.ensures in let sum = c.saturating_add-self.ensures in omega (arith, one, le, sum);
   turns = refl;
   lost = refl;
   arrivals = refl;
+  same_forwarder = refl;
+  same_wire = refl;
 }

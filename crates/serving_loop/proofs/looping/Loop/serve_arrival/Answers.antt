@@ -1,5 +1,5 @@
 use Rattle.serving_loop.proofs.Framing.{events_nothing, events_one}
-use Rattle.serving_loop.proofs.serving.serve_arrival.Goals as goal
+use Rattle.serving_loop.proofs.looping.Loop.serve_arrival.Goals as goal
 
 pub returns-in-Nothing-clause-serves : goal.returns-in-Nothing-clause-serves
 returns-in-Nothing-clause-serves g c = rw c.in-Nothing.is (events_nothing _)

@@ -1,6 +1,6 @@
 use Rattle.std.proofs.lemmas.Result.{err_from_is_err_and}
 use Rattle.serving_loop.proofs.Rounds.{round_whole, round_cut}
-use Rattle.serving_loop.proofs.serving.take_round.Goals as goal
+use Rattle.serving_loop.proofs.looping.Loop.take_round.Goals as goal
 
 pub returns : goal.returns
 returns g c = round_whole _ _ _ _ _ c.in_ok-take_arrival.ensures c.tick_on.ensures

@@ -3,7 +3,7 @@ use Rattle.std.specs.declared.alloc.AllocError.{AllocError}
 use Rattle.tcp_frames.proofs.CallerLemmas.{all_frames_are_taken, cut_does_not_matter}
 use Rattle.tcp_frames.specs.Frames.{Takes}
 use Rattle.serving_loop.proofs.Framing.{frames_none, frames_more, frames_end}
-use Rattle.serving_loop.proofs.streams.serve_frames.Goals as goal
+use Rattle.serving_loop.proofs.looping.Loop.serve_frames.Goals as goal
 
 pub loop-message-init : goal.loop-message-init
 loop-message-init g c = frames_none _ _ _

@@ -1,6 +1,6 @@
 use Rattle.std.proofs.Common.{refl, None}
 use Rattle.serving_loop.proofs.Framing.{events_nothing}
-use Rattle.serving_loop.proofs.serving.take_arrival.Goals as goal
+use Rattle.serving_loop.proofs.looping.Loop.take_arrival.Goals as goal
 
 pub returns-in-Err : goal.returns-in-Err
 returns-in-Err g c = record {
@@ -12,7 +12,9 @@ returns-in-Err g c = record {
     lost = refl;
     refused_puts = refl;
     turns = refl;
-    refused_arrivals = λ le. c.saturating_add-counts.ensures;
+    refused_arrivals = λ le. c.saturating_add-self.ensures;
+    same_forwarder = refl;
+    same_wire = refl;
   };
   serves = events_nothing _;
   follows = record { clients = λ conn. refl; servers = λ conn. refl };

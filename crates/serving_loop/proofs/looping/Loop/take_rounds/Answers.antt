@@ -1,11 +1,9 @@
-use Rattle.std.proofs.Common.{◌≡◌, ℕ, arith, refl, subst}
+use Rattle.std.proofs.Common.{◌≡◌, ℕ, arith, subst}
 use Rattle.std.proofs.lemmas.Result.{err_from_is_err_and}
-use Rattle.wires.specs.Wire.{telling}
 use Rattle.tcp_frames.proofs.CallerLemmas.{pieces_continue}
-use Rattle.serving_loop.specs.declared.counts.Served.{Served}
 use Rattle.serving_loop.specs.Serving.{standing}
 use Rattle.serving_loop.proofs.Rounds.{RoundsSoFar, rounds_none, rounds_more, rounds_end, rounds_cut}
-use Rattle.serving_loop.proofs.serving.serve.Goals as goal
+use Rattle.serving_loop.proofs.looping.Loop.take_rounds.Goals as goal
 
 pub loop-round-init : goal.loop-round-init
 loop-round-init g c = rounds_none _ _ c.new.ensures.empty c.new-2.ensures.empty
@@ -21,8 +19,7 @@ returns g c =
     let far = c.loop-round.auto._round-end in
     let test = c.loop-round-test.false in
     let all : c.loop-round._round ≡ c.args.turns = omega (arith, far, test) in
-    let none : Served = record { turns = c.args.turns; lost = 0; refused_puts = 0; refused_arrivals = 0 } in
-    let x = standing c.args.forwarder.now (telling (g.W.Wire.told c.args.wire.now) (g.W.Wire.fault_count c.args.wire.now)) none in
-    let y = standing c.loop-round.forwarder (telling (g.W.Wire.told c.loop-round.wire) (g.W.Wire.fault_count c.loop-round.wire)) c.loop-round.counts in
-    rounds_end c.args.turns c.loop-round.streams x y refl
+    let x = standing g.W.Wire.told g.W.Wire.fault_count c.args.self.now in
+    let y = standing g.W.Wire.told g.W.Wire.fault_count c.loop-round.self in
+    rounds_end c.args.turns c.loop-round.streams x y
     (subst (λ (n : ℕ). RoundsSoFar n c.loop-round.streams x y) all c.loop-round.invariant)
