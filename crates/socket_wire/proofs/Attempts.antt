@@ -6,15 +6,15 @@ use Rattle.std.specs.declared.alloc.AllocError.{AllocError}
 use Rattle.wires.specs.declared.wire.Arrival.{Arrival}
 use Rattle.ready_sockets.specs.declared.origin.Origin.{Origin}
 use Rattle.ready_sockets.specs.Seen.{SeenReadiness}
-use Rattle.socket_wire.specs.declared.sockets.Sockets.{Sockets}
+use Rattle.socket_wire.specs.Seen.{SeenSockets}
 use Rattle.socket_wire.specs.declared.sockets.taking.Tried.{Tried}
 use Rattle.socket_wire.specs.declared.sockets.taking.Tried.TheVariants.{Nothing}
 use Rattle.socket_wire.specs.Attempting.{Attempts, ComesOf, Drops, GivesNext, TriesNext, TriesReady}
 use Rattle.ready_sockets.specs.Rounds.{Dropped, Finds}
 
-module _ {R A Streams Listeners : Type 0} where
+module _ {A : Type 0} where
   -- Only what may be ready changes where the next of it is given, or one is noted no longer.
-  pub gives_next : (given : Option Origin) (before : Sockets R A Streams Listeners)
+  pub gives_next : (given : Option Origin) (before : SeenSockets A)
       (readiness : SeenReadiness A)
       → Finds 4 given before.readiness.turn readiness.turn before.readiness.ready readiness.ready
       → readiness ≡ record before.readiness { turn = readiness.turn; ready = readiness.ready }
@@ -26,7 +26,7 @@ module _ {R A Streams Listeners : Type 0} where
             rest;
       }
 
-  pub drops_one : (origin : Origin) (before : Sockets R A Streams Listeners)
+  pub drops_one : (origin : Origin) (before : SeenSockets A)
       (readiness : SeenReadiness A)
       → Dropped origin before.readiness.ready readiness.ready
       → readiness ≡ record before.readiness { ready = readiness.ready }
@@ -39,13 +39,13 @@ module _ {R A Streams Listeners : Type 0} where
       }
 
   -- The attempts that are left after `tried` of them yield what all of them yield.
-  pub record ReadyAll (most tried now : ℕ) (begun ready : Sockets R A Streams Listeners) : Type 0
+  pub record ReadyAll (most tried now : ℕ) (begun ready : SeenSockets A) : Type 0
     where
       pub all : (result : Result (Option (Arrival A)) AllocError)
-          (after : Sockets R A Streams Listeners)
+          (after : SeenSockets A)
           → TriesReady (most - tried) now result ready after → TriesReady most now result begun after
 
-  pub ready_begun : (most now : ℕ) (begun : Sockets R A Streams Listeners)
+  pub ready_begun : (most now : ℕ) (begun : SeenSockets A)
       → ReadyAll most 0 now begun begun
   ready_begun most now begun =
       let all : most - 0 ≡ most = omega arith in
@@ -56,7 +56,7 @@ module _ {R A Streams Listeners : Type 0} where
 
   -- The next one, tried.
   pub ready_next : (most tried now : ℕ) (result : Result (Option (Arrival A)) AllocError)
-      (begun ready after : Sockets R A Streams Listeners) → tried < most
+      (begun ready after : SeenSockets A) → tried < most
       → ReadyAll most tried now begun ready
       → TriesNext now result (λ left. TriesReady (most - (tried + 1)) now result left after) ready
       after
@@ -67,7 +67,7 @@ module _ {R A Streams Listeners : Type 0} where
       let with_next : TriesReady (suc (most - (tried + 1))) now result ready after = next in
       so_far.all result after (subst (λ n. TriesReady n now result ready after) left with_next)
 
-  pub ready_none : (most tried now : ℕ) (begun ready after : Sockets R A Streams Listeners)
+  pub ready_none : (most tried now : ℕ) (begun ready after : SeenSockets A)
       → tried < most
       → ReadyAll most tried now begun ready → GivesNext None ready after
       → TriesReady most now (Ok None) begun after
@@ -77,7 +77,7 @@ module _ {R A Streams Listeners : Type 0} where
 
   pub ready_given : (most tried now : ℕ) (origin : Origin) (came : Result (Tried A) AllocError)
       (result : Result (Option (Arrival A)) AllocError)
-      (begun ready between behind after : Sockets R A Streams Listeners)
+      (begun ready between behind after : SeenSockets A)
       → tried < most → ReadyAll most tried now begun ready → GivesNext (Some origin) ready between
       → Attempts origin now came between behind
       → ComesOf came origin result (λ left. TriesReady (most - (tried + 1)) now result left after)
@@ -94,7 +94,7 @@ module _ {R A Streams Listeners : Type 0} where
 
   -- Where nothing was there the next is tried.
   pub ready_more : (most tried now : ℕ) (origin : Origin)
-      (begun ready between behind left : Sockets R A Streams Listeners)
+      (begun ready between behind left : SeenSockets A)
       → tried < most → ReadyAll most tried now begun ready → GivesNext (Some origin) ready between
       → Attempts origin now (Ok Nothing) between behind → Drops origin behind left
       → ReadyAll most (tried + 1) now begun left
@@ -106,7 +106,7 @@ module _ {R A Streams Listeners : Type 0} where
             (record { left = left; drops = drops; later = tries });
       }
 
-  pub ready_over : (most now : ℕ) (begun after : Sockets R A Streams Listeners)
+  pub ready_over : (most now : ℕ) (begun after : SeenSockets A)
       → ReadyAll most most now begun after
       → TriesReady most now (Ok None) begun after
   unfolding TriesReady

@@ -1,13 +1,13 @@
 -- The laws of walks, for sockets as tries change them: a socket that stays listed is tried, and one
 -- that stays noted is given.
-use Rattle.std.proofs.Common.{◌≡◌, refl, ap, sym, ◌∙◌, subst, ℕ, zero, suc, ◌+◌, ◌-◌, ◌^◌, ◌<◌, ◌≤◌}
+use Rattle.std.proofs.Common.{◌≡◌, ap, sym, ◌∙◌, subst, ℕ, zero, suc, ◌+◌, ◌-◌, ◌^◌, ◌<◌, ◌≤◌}
 use Rattle.std.proofs.Common.{inl, inr}
-use Rattle.std.proofs.Common.{List, length, Bool, Option, Some, None, arith, ◌*◌}
+use Rattle.std.proofs.Common.{List, length, Bool, Option, Some, arith, ◌*◌}
 use Rattle.std.specs.Map.{keys_of}
 use Rattle.std.specs.Prelude.{unwrap_or}
 use Rattle.ready_sockets.specs.declared.origin.Origin.{Origin}
 use Rattle.ready_sockets.specs.declared.readiness.Round.{Round}
-use Rattle.socket_wire.specs.declared.sockets.Sockets.{Sockets}
+use Rattle.socket_wire.specs.Seen.{SeenSockets}
 use Rattle.socket_wire.specs.InTurn.{IsGivenWithin, IsTriedWithin, StaysListed}
 use Rattle.stream_connections.specs.Listed.{first_number}
 use Rattle.ready_sockets.specs.Rounds.{Gives, next_token}
@@ -49,25 +49,25 @@ given_at (suc turns) token tokens last goes (inr later) =
     in
     (found.0 + 1, (omega arith, found.1.1))
 
-module _ {R A Streams Listeners : Type 0} where
+module _ {A : Type 0} where
   -- The port of an ask that stays listed is tried within one try more than ports are ever listed
   -- meanwhile.
   pub ask_is_tried : (tries port : ℕ) (ever : List ℕ) (found : ℕ → Bool)
-      (before after : ℕ → Sockets R A Streams Listeners)
+      (before after : ℕ → SeenSockets A)
       → ((try : ℕ) → TriesAsk (found try) (before try) (after try))
       → ((try : ℕ) → (before (try + 1)).next_ask ≡ (after try).next_ask)
-      → ((try : ℕ) → StaysListed (2 ^ 16) port ever (keys_of (before try).asks.entries))
+      → ((try : ℕ) → StaysListed (2 ^ 16) port ever (keys_of (before try).asks))
       → length ever + 1 ≤ tries
       → (try : ℕ) × ((try < tries) × (ask_in_turn (before try) ≡ Some port))
   ask_is_tried tries port ever found before after one next listed enough =
-      tried_at tries (2 ^ 16) port (λ try. (before try).asks.entries) (λ try. (before try).next_ask)
+      tried_at tries (2 ^ 16) port (λ try. (before try).asks) (λ try. (before try).next_ask)
       (λ try. next try ∙ (one try).next)
-      (tried_within tries (2 ^ 16) port (before 0).next_ask ever (λ try. (before try).asks.entries)
+      (tried_within tries (2 ^ 16) port (before 0).next_ask ever (λ try. (before try).asks)
       listed enough)
 
   -- The same of a connection of an ask.
   pub server_is_tried : (tries conn : ℕ) (ever : List ℕ) (found : ℕ → Bool)
-      (before after : ℕ → Sockets R A Streams Listeners)
+      (before after : ℕ → SeenSockets A)
       → ((try : ℕ) → TriesServer (found try) (before try) (after try))
       → ((try : ℕ) → (before (try + 1)).next_server ≡ (after try).next_server)
       → ((try : ℕ) → StaysListed (2 ^ 64) conn ever (keys_of (before try).connections.servers))
@@ -83,7 +83,7 @@ module _ {R A Streams Listeners : Type 0} where
 
   -- The same of a client.
   pub client_is_tried : (tries conn : ℕ) (ever : List ℕ) (found : ℕ → Bool)
-      (before after : ℕ → Sockets R A Streams Listeners)
+      (before after : ℕ → SeenSockets A)
       → ((try : ℕ) → TriesClient (found try) (before try) (after try))
       → ((try : ℕ) → (before (try + 1)).next_client ≡ (after try).next_client)
       → ((try : ℕ) → StaysListed (2 ^ 64) conn ever (keys_of (before try).connections.clients))
@@ -99,42 +99,42 @@ module _ {R A Streams Listeners : Type 0} where
 
   -- ---- in rounds of twenty tries
 
-  asks_stay : (done : ℕ) (before at : Sockets R A Streams Listeners)
+  asks_stay : (done : ℕ) (before at : SeenSockets A)
       → TriesTo TriesAsk done before at
-      → keys_of at.asks.entries ≡ keys_of before.asks.entries
+      → keys_of at.asks ≡ keys_of before.asks
   unfolding TriesTo
-  asks_stay zero before at same = ap (λ (s : Sockets R A Streams Listeners). keys_of s.asks.entries)
+  asks_stay zero before at same = ap (λ (s : SeenSockets A). keys_of s.asks)
       same
   asks_stay (suc done) before at later =
       asks_stay done later.0 at later.1.1
-      ∙ ap (λ (s : Sockets R A Streams Listeners). keys_of s.asks.entries) later.1.0.rest
+      ∙ ap (λ (s : SeenSockets A). keys_of s.asks) later.1.0.rest
 
-  servers_stay : (done : ℕ) (before at : Sockets R A Streams Listeners)
+  servers_stay : (done : ℕ) (before at : SeenSockets A)
       → TriesTo TriesServer done before at
       → keys_of at.connections.servers ≡ keys_of before.connections.servers
   unfolding TriesTo
   servers_stay zero before at same = ap
-      (λ (s : Sockets R A Streams Listeners). keys_of s.connections.servers) same
+      (λ (s : SeenSockets A). keys_of s.connections.servers) same
   servers_stay (suc done) before at later =
       servers_stay done later.0 at later.1.1
-      ∙ ap (λ (s : Sockets R A Streams Listeners). keys_of s.connections.servers) later.1.0.rest
+      ∙ ap (λ (s : SeenSockets A). keys_of s.connections.servers) later.1.0.rest
 
-  clients_stay : (done : ℕ) (before at : Sockets R A Streams Listeners)
+  clients_stay : (done : ℕ) (before at : SeenSockets A)
       → TriesTo TriesClient done before at
       → keys_of at.connections.clients ≡ keys_of before.connections.clients
   unfolding TriesTo
   clients_stay zero before at same = ap
-      (λ (s : Sockets R A Streams Listeners). keys_of s.connections.clients) same
+      (λ (s : SeenSockets A). keys_of s.connections.clients) same
   clients_stay (suc done) before at later =
       clients_stay done later.0 at later.1.1
-      ∙ ap (λ (s : Sockets R A Streams Listeners). keys_of s.connections.clients) later.1.0.rest
+      ∙ ap (λ (s : SeenSockets A). keys_of s.connections.clients) later.1.0.rest
 
   -- The port is found in a round of twenty tries.
-  abbrev pub FindsAsk : (port : ℕ) → (ever : List ℕ) → Sockets R A Streams Listeners → Type 0
-  FindsAsk port ever before = FindsIn TriesAsk (2 ^ 16) port (λ s. s.next_ask) (λ s. s.asks.entries)
+  abbrev pub FindsAsk : (port : ℕ) → (ever : List ℕ) → SeenSockets A → Type 0
+  FindsAsk port ever before = FindsIn TriesAsk (2 ^ 16) port (λ s. s.next_ask) (λ s. s.asks)
       ever 20 before
 
-  abbrev pub FindsServer : (conn : ℕ) → (ever : List ℕ) → Sockets R A Streams Listeners → Type 0
+  abbrev pub FindsServer : (conn : ℕ) → (ever : List ℕ) → SeenSockets A → Type 0
   FindsServer conn ever before =
       FindsIn TriesServer (2 ^ 64) conn (λ s. s.next_server) (λ s. s.connections.servers) ever 20
       before
@@ -142,14 +142,14 @@ module _ {R A Streams Listeners : Type 0} where
   -- The port of an ask that stays listed is tried within the rounds that give a try to each port
   -- that is ever listed meanwhile, and one round more.
   pub ask_is_tried_in_rounds : (rounds port : ℕ) (ever : List ℕ)
-      (before after : ℕ → Sockets R A Streams Listeners)
+      (before after : ℕ → SeenSockets A)
       → ((round : ℕ) → TriesUpTo TriesAsk 20 (before round) (after round))
       → ((round : ℕ) → (before (round + 1)).next_ask ≡ (after round).next_ask)
-      → ((round : ℕ) → StaysListed (2 ^ 16) port ever (keys_of (before round).asks.entries))
+      → ((round : ℕ) → StaysListed (2 ^ 16) port ever (keys_of (before round).asks))
       → length ever + 20 ≤ 20 * rounds
       → (round : ℕ) × ((round < rounds) × FindsAsk port ever (before round))
   ask_is_tried_in_rounds rounds port ever before after one between listed enough =
-      found_in_rounds TriesAsk (2 ^ 16) port (λ s. s.next_ask) (λ s. s.asks.entries) ever rounds 20
+      found_in_rounds TriesAsk (2 ^ 16) port (λ s. s.next_ask) (λ s. s.asks) ever rounds 20
       before after
       (record { told = λ found s s' try. try.one; next = λ found s s' try. try.next }) one between
       (λ round done at reached.
@@ -159,7 +159,7 @@ module _ {R A Streams Listeners : Type 0} where
 
   -- The same of a connection of an ask.
   pub server_is_tried_in_rounds : (rounds conn : ℕ) (ever : List ℕ)
-      (before after : ℕ → Sockets R A Streams Listeners)
+      (before after : ℕ → SeenSockets A)
       → ((round : ℕ) → TriesUpTo TriesServer 20 (before round) (after round))
       → ((round : ℕ) → (before (round + 1)).next_server ≡ (after round).next_server)
       → ((round : ℕ) → StaysListed (2 ^ 64) conn ever (keys_of (before round).connections.servers))
@@ -175,14 +175,14 @@ module _ {R A Streams Listeners : Type 0} where
       (listed round))
       enough
 
-  abbrev pub FindsClient : (conn : ℕ) → (ever : List ℕ) → Sockets R A Streams Listeners → Type 0
+  abbrev pub FindsClient : (conn : ℕ) → (ever : List ℕ) → SeenSockets A → Type 0
   FindsClient conn ever before =
       FindsIn TriesClient (2 ^ 64) conn (λ s. s.next_client) (λ s. s.connections.clients) ever 20
       before
 
   -- The same of a client.
   pub client_is_tried_in_rounds : (rounds conn : ℕ) (ever : List ℕ)
-      (before after : ℕ → Sockets R A Streams Listeners)
+      (before after : ℕ → SeenSockets A)
       → ((round : ℕ) → TriesUpTo TriesClient 20 (before round) (after round))
       → ((round : ℕ) → (before (round + 1)).next_client ≡ (after round).next_client)
       → ((round : ℕ) → StaysListed (2 ^ 64) conn ever (keys_of (before round).connections.clients))

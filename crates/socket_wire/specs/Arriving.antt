@@ -13,7 +13,7 @@ use Rattle.stream_connections.specs.declared.answers.Refusal.TheVariants.{WouldB
 use Rattle.stream_connections.specs.declared.answers.Refusal.TheVariants.{NoDescriptor, Failed}
 use Rattle.stream_connections.specs.declared.connections.Closed.{Closed}
 use Rattle.stream_connections.specs.declared.connections.Closed.TheVariants.{Client, Server}
-use Rattle.socket_wire.specs.declared.sockets.Sockets.{Sockets}
+use Rattle.socket_wire.specs.Seen.{SeenSockets}
 use Rattle.socket_wire.specs.declared.sockets.taking.Tried.{Tried}
 use Rattle.socket_wire.specs.declared.sockets.taking.Tried.TheVariants.{Arrived, Served, Nothing}
 use Rattle.stream_connections.specs.Listed.{Admits, first_idle, first_resting}
@@ -47,8 +47,7 @@ Comes number now before next after = IsTakenIn number now before next after
 
 -- A client's connection joins the sockets. If there are 1,024 and each waits for something, nothing
 -- changes.
-pub record TakesIn {R A Streams Listeners : Type 0} (now : ℕ)
-    (before after : Sockets R A Streams Listeners) : Type 0 where
+pub record TakesIn {A : Type 0} (now : ℕ) (before after : SeenSockets A) : Type 0 where
   pub full : 1024 ≤ length before.connections.clients → first_idle before.connections.clients ≡ None
       → after ≡ before
   pub comes : Comes before.numbers.next now (with_place before.connections) after.numbers.next
@@ -56,25 +55,23 @@ pub record TakesIn {R A Streams Listeners : Type 0} (now : ℕ)
   pub rest : after ≡ record before { connections = after.connections; numbers = after.numbers }
 
 -- The oldest client that has waited for nothing for a while is closed; nothing else changes.
-pub record ClosesResting {R A Streams Listeners : Type 0} (now : ℕ)
-    (before after : Sockets R A Streams Listeners)
-    : Type 0 where
+pub record ClosesResting {A : Type 0} (now : ℕ) (before after : SeenSockets A) : Type 0 where
   pub one : is_some (first_resting now before.connections.clients) ≡ true
   pub closed : after ≡ record before {
     connections = without_first (first_resting now before.connections.clients) before.connections;
   }
 
 -- A resting client may be closed if no descriptor is left; otherwise nothing changes.
-abbrev pub MayCloseResting : {R A Streams Listeners : Type 0} → (now : ℕ) → (is_closed : Bool)
-    → (before after : Sockets R A Streams Listeners) → Type 0
+abbrev pub MayCloseResting : {A : Type 0} → (now : ℕ) → (is_closed : Bool)
+    → (before after : SeenSockets A) → Type 0
 MayCloseResting now true before after = ClosesResting now before after
 MayCloseResting now false before after = after ≡ before
 
 -- The consequence of a refused call. If no descriptor is left, the oldest client that has waited
 -- for nothing for a while is closed, if any. For any other reason, such as a taken port or an
 -- unreachable network, nothing changes.
-abbrev pub FreesFor : {R A Streams Listeners : Type 0} → Refusal → (now : ℕ) → (is_closed : Bool)
-    → (before after : Sockets R A Streams Listeners) → Type 0
+abbrev pub FreesFor : {A : Type 0} → Refusal → (now : ℕ) → (is_closed : Bool)
+    → (before after : SeenSockets A) → Type 0
 FreesFor NoDescriptor now is_closed before after =
     (is_closed ≡ is_some (first_resting now before.connections.clients)) × (after ≡ record before {
       connections = without_first (first_resting now before.connections.clients) before.connections;
@@ -84,9 +81,8 @@ FreesFor Interrupted now is_closed before after = (is_closed ≡ false) × (afte
 FreesFor Failed now is_closed before after = (is_closed ≡ false) × (after ≡ before)
 
 -- The consequence of a call, by its answer: none, unless refused.
-abbrev pub FreesBy : {R A Streams Listeners T : Type 0} → Result T Error → (now : ℕ)
-    → (is_closed : Bool)
-    → (before after : Sockets R A Streams Listeners) → Type 0
+abbrev pub FreesBy : {A T : Type 0} → Result T Error → (now : ℕ) → (is_closed : Bool)
+    → (before after : SeenSockets A) → Type 0
 FreesBy (Ok value) now is_closed before after = (is_closed ≡ false) × (after ≡ before)
 FreesBy (Err error) now is_closed before after = FreesFor (refusal_of error) now is_closed before
     after
@@ -99,8 +95,8 @@ tried_if false = Nothing
 
 -- Trying the listener, by its answer: a connection is accepted. Or the listener refuses, and a
 -- descriptor is freed only if none is left.
-abbrev pub AcceptsBy : {R A Streams Listeners T : Type 0} → Result T Error → (now : ℕ) → Tried A
-    → (before after : Sockets R A Streams Listeners) → Type 0
+abbrev pub AcceptsBy : {A T : Type 0} → Result T Error → (now : ℕ) → Tried A
+    → (before after : SeenSockets A) → Type 0
 AcceptsBy (Ok accepted) now tried before after = (tried ≡ Served) × TakesIn now before after
 AcceptsBy (Err error) now tried before after =
     (is_closed : Bool) × (tried ≡ tried_if is_closed)
@@ -108,18 +104,17 @@ AcceptsBy (Err error) now tried before after =
 
 -- Trying the listener: a connection is accepted, or the descriptor of another is freed for it;
 -- otherwise nothing changes.
-abbrev pub TakesConnection : {R A Streams Listeners : Type 0} → (now : ℕ) → Tried A
-    → (before after : Sockets R A Streams Listeners) → Type 0
+abbrev pub TakesConnection : {A : Type 0} → (now : ℕ) → Tried A → (before after : SeenSockets A)
+    → Type 0
 TakesConnection now (Arrived arrival) before after = ⊥
 TakesConnection now Served before after = TakesIn now before after ⊎ ClosesResting now before after
 TakesConnection now Nothing before after = after ≡ before
 
 -- New sockets: the two for clients alone, and no number was given.
-pub record AreNew {R A Streams Listeners : Type 0} (sockets : Sockets R A Streams Listeners) : Type
-    0 where
+pub record AreNew {A : Type 0} (sockets : SeenSockets A) : Type 0 where
   pub ready : IsBegun sockets.readiness.ready
   pub connections : AreNone sockets.connections
-  pub asks : sockets.asks.entries ≡ []
+  pub asks : sockets.asks ≡ []
   pub numbers : sockets.numbers.next ≡ 0
 
 -- the arrival that reports the end of a connection
@@ -128,8 +123,8 @@ told (Client conn) = ClientClosed conn
 told (Server conn) = PathGone (path.Tcp conn)
 
 -- The next end to report arrives, if any; nothing else changes then.
-pub record TellsEnd {R A Streams Listeners : Type 0} (result : Result (Arrival A) AllocError)
-    (before after : Sockets R A Streams Listeners) : Type 0 where
+pub record TellsEnd {A : Type 0} (result : Result (Arrival A) AllocError)
+    (before after : SeenSockets A) : Type 0 where
   pub tells : (ended : Closed) → slice_get before.connections.closed 0 ≡ Some ended
       → result ≡ Ok (told ended)
   pub once : 0 < length before.connections.closed

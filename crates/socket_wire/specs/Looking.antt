@@ -2,45 +2,38 @@
 use Rattle.std.specs.Prelude.{◌≡◌, ℕ, ◌-◌, ◌<◌, ◌≤◌, ◌||◌, Bool, true, false, length, nat_lt}
 use Rattle.std.specs.Prelude.{Option, Some, None, Result, Ok, Err}
 use Rattle.std.specs.declared.alloc.AllocError.{AllocError}
-use Rattle.std.specs.BTreeMap.{btree_map_len}
 use Rattle.std.specs.BTreeSet.{btree_set_len}
 use Rattle.wires.specs.declared.wire.Arrival.{Arrival}
 use Rattle.wires.specs.declared.wire.Arrival.TheVariants.{Nothing}
-use Rattle.socket_wire.specs.declared.sockets.Sockets.{Sockets}
+use Rattle.socket_wire.specs.Seen.{SeenSockets}
 use Rattle.socket_wire.specs.Attempting.{TriesReady}
 use Rattle.ready_sockets.specs.Rounds.{IsNothing, NotedStay}
 use Rattle.socket_wire.specs.Trying.{TriesOthers}
 
 -- Events are taken: more may be ready, and nothing else has changed, nor whose turn it is.
-pub record TakesEvents {R A Streams Listeners : Type 0}
-    (before after : Sockets R A Streams Listeners) : Type 0 where
+pub record TakesEvents {A : Type 0} (before after : SeenSockets A) : Type 0 where
   pub stay : NotedStay before.readiness.ready after.readiness.ready
   pub turn : after.readiness.turn ≡ before.readiness.turn
   pub rest : after ≡ record before { readiness = after.readiness }
 
 -- They are taken where something may be ready; otherwise nothing has changed.
-pub record TakesEventsIfReady {R A Streams Listeners : Type 0}
-    (before after : Sockets R A Streams Listeners)
-    : Type 0 where
+pub record TakesEventsIfReady {A : Type 0} (before after : SeenSockets A) : Type 0 where
   pub some : (IsNothing before.readiness.ready → ⊥) → TakesEvents before after
   pub none : IsNothing before.readiness.ready → after ≡ before
 
 -- A round of unreported sockets is due: they are tried after the reported ones.
-pub record LooksAtAll {R A Streams Listeners : Type 0} (now : ℕ)
-    (before after : Sockets R A Streams Listeners)
-    : Type 0 where
-  pub between : Sockets R A Streams Listeners
+pub record LooksAtAll {A : Type 0} (now : ℕ) (before after : SeenSockets A) : Type 0 where
+  pub between : SeenSockets A
   pub events : TakesEventsIfReady (record before { tried = now }) between
   pub others : TriesOthers between after
 
 -- whether a socket or a connection of an ask is open
-abbrev pub has_asks : {R A Streams Listeners : Type 0} → Sockets R A Streams Listeners → Bool
-has_asks sockets = nat_lt 0 (btree_map_len sockets.asks) || nat_lt 0
-    (length sockets.connections.servers)
+abbrev pub has_asks : {A : Type 0} → SeenSockets A → Bool
+has_asks sockets = nat_lt 0 (length sockets.asks)
+    || nat_lt 0 (length sockets.connections.servers)
 
 -- If something may be ready, events are taken only if asks are open and none of them may be ready.
-pub record LooksForAsks {R A Streams Listeners : Type 0}
-    (before after : Sockets R A Streams Listeners) : Type 0 where
+pub record LooksForAsks {A : Type 0} (before after : SeenSockets A) : Type 0 where
   pub asks : btree_set_len before.readiness.ready.servers.tokens ≡ 0 → has_asks before ≡ true
       → TakesEvents before after
   pub no_asks : has_asks before ≡ false → after ≡ before
@@ -48,24 +41,20 @@ pub record LooksForAsks {R A Streams Listeners : Type 0}
 
 -- Looking for ready sockets, without a wait. If no round is due (every 5 ms), and nothing may be
 -- ready, nothing has changed.
-pub record Looks {R A Streams Listeners : Type 0} (now : ℕ)
-    (before after : Sockets R A Streams Listeners) : Type 0 where
+pub record Looks {A : Type 0} (now : ℕ) (before after : SeenSockets A) : Type 0 where
   pub due : 5 ≤ now - before.tried → LooksAtAll now before after
   pub none : now - before.tried < 5 → IsNothing before.readiness.ready → after ≡ before
   pub goes_on : now - before.tried < 5 → (IsNothing before.readiness.ready → ⊥)
       → LooksForAsks before after
 
 -- The end of a turn without an arrival: the wire waits if nothing may be ready any more.
-pub record EndsTurn {R A Streams Listeners : Type 0}
-    (before after : Sockets R A Streams Listeners) : Type 0 where
+pub record EndsTurn {A : Type 0} (before after : SeenSockets A) : Type 0 where
   pub more : (IsNothing before.readiness.ready → ⊥) → after ≡ before
   pub none : IsNothing before.readiness.ready → TakesEvents before after
 
 -- A turn gives its arrival or refusal, or ends without an arrival.
-abbrev pub GivesOrEnds : {R A Streams Listeners : Type 0}
-    → (came : Result (Option (Arrival A)) AllocError)
-    → (result : Result (Arrival A) AllocError)
-    → (before after : Sockets R A Streams Listeners) → Type 0
+abbrev pub GivesOrEnds : {A : Type 0} → (came : Result (Option (Arrival A)) AllocError)
+    → (result : Result (Arrival A) AllocError) → (before after : SeenSockets A) → Type 0
 GivesOrEnds (Ok (Some arrival)) result before after = (result ≡ Ok arrival) × (after ≡ before)
 GivesOrEnds (Ok None) result before after = (result ≡ Ok Nothing) × EndsTurn before after
 GivesOrEnds (Err refusal) result before after = (result ≡ Err refusal) × (after ≡ before)
@@ -78,30 +67,27 @@ given_of (Ok None) = Ok Nothing
 given_of (Err refusal) = Err refusal
 
 -- Trying what the events of a wait reported, without a wait.
-pub record TriesReported {R A Streams Listeners : Type 0} (now : ℕ)
-    (result : Result (Arrival A) AllocError)
-    (before after : Sockets R A Streams Listeners) : Type 0 where
+pub record TriesReported {A : Type 0} (now : ℕ) (result : Result (Arrival A) AllocError)
+    (before after : SeenSockets A) : Type 0 where
   pub came : Result (Option (Arrival A)) AllocError
   pub tries : TriesReady 64 now came before after
   pub gives : result ≡ given_of came
 
 -- A turn looks for ready sockets, and then tries them. The wait is at its end alone, so arrivals
 -- during the wait are tried at a later moment.
-pub record TakesTurn {R A Streams Listeners : Type 0} (now : ℕ)
-    (result : Result (Arrival A) AllocError)
-    (before after : Sockets R A Streams Listeners) : Type 0 where
+pub record TakesTurn {A : Type 0} (now : ℕ) (result : Result (Arrival A) AllocError)
+    (before after : SeenSockets A) : Type 0 where
   pub came : Result (Option (Arrival A)) AllocError
-  pub looked : Sockets R A Streams Listeners
-  pub behind : Sockets R A Streams Listeners
+  pub looked : SeenSockets A
+  pub behind : SeenSockets A
   pub looks : Looks now before looked
   pub tries : TriesReady 64 now came looked behind
   pub ends : GivesOrEnds came result behind after
 
 -- If no end is to be reported, a turn is taken.
-pub record TakesTurnAtOnce {R A Streams Listeners : Type 0} (now : ℕ)
-    (result : Result (Arrival A) AllocError)
-    (before after : Sockets R A Streams Listeners) : Type 0 where
-  pub begun : Sockets R A Streams Listeners
+pub record TakesTurnAtOnce {A : Type 0} (now : ℕ) (result : Result (Arrival A) AllocError)
+    (before after : SeenSockets A) : Type 0 where
+  pub begun : SeenSockets A
   pub begins : begun ≡ record before {
     connections = record before.connections { has_room = begun.connections.has_room };
   }

@@ -12,7 +12,7 @@ use Rattle.step_values.specs.declared.action.Action.TheVariants.{Reply}
 use Rattle.step_values.specs.declared.event.Client.TheVariants.{Udp, Tcp}
 use Rattle.stream_connections.specs.declared.client_stream.ClientStream.{ClientStream}
 use Rattle.stream_connections.specs.declared.servers.ServerStream.{ServerStream}
-use Rattle.socket_wire.specs.declared.sockets.Sockets.{Sockets}
+use Rattle.socket_wire.specs.Seen.{SeenSockets}
 use Rattle.stream_connections.specs.declared.lost.Lost.{Lost}
 use Rattle.stream_connections.specs.Listed.{RepliesOn, first_resting}
 use Rattle.stream_connections.specs.Open.{Connections, without_client, without_first}
@@ -103,10 +103,9 @@ Puts (Reply (Tcp conn) reply _) now is_done asks asks' before after =
     (asks' ≡ asks) × AnswersOn conn reply now is_done before after
 
 -- Putting an action.
-pub record PutsAction {R A Streams Listeners : Type 0} (action : Action A) (now : ℕ)
-    (is_done : Bool)
-    (before after : Sockets R A Streams Listeners) : Type 0 where
-  pub puts : Puts action now is_done before.asks.entries after.asks.entries before.connections
+pub record PutsAction {A : Type 0} (action : Action A) (now : ℕ) (is_done : Bool)
+    (before after : SeenSockets A) : Type 0 where
+  pub puts : Puts action now is_done before.asks after.asks before.connections
       after.connections
   pub rest : after ≡ record before {
     asks = after.asks;
@@ -115,9 +114,8 @@ pub record PutsAction {R A Streams Listeners : Type 0} (action : Action A) (now 
   }
 
 -- Putting a query over TCP.
-pub record PutsQuery {R A Streams Listeners : Type 0} (conn : ℕ) (server : Peer) (query : List ℕ)
-    (now : ℕ)
-    (is_done : Bool) (before after : Sockets R A Streams Listeners) : Type 0 where
+pub record PutsQuery {A : Type 0} (conn : ℕ) (server : Peer) (query : List ℕ) (now : ℕ)
+    (is_done : Bool) (before after : SeenSockets A) : Type 0 where
   pub lists : ListsServer conn server query now is_done before.connections after.connections
   pub rest : after ≡ record before {
     connections = after.connections;
@@ -125,8 +123,7 @@ pub record PutsQuery {R A Streams Listeners : Type 0} (conn : ℕ) (server : Pee
   }
 
 -- the sockets once the random words in an action are spent: those of an ask
-abbrev pub with_spent : {R A Streams Listeners : Type 0} → Action A → Sockets R A Streams Listeners
-    → Sockets R A Streams Listeners
+abbrev pub with_spent : {A : Type 0} → Action A → SeenSockets A → SeenSockets A
 with_spent (AskUdp _ _ _) sockets = record sockets
     { words = record sockets.words { is_spent = true } }
 with_spent (AskTcp _ _ _) sockets = record sockets

@@ -1,4 +1,4 @@
--- The wire as contracts see it.
+-- The wire and its sockets, as contracts see them.
 use Rattle.std.specs.Prelude.{ℕ, Bool, List, [], Option, Some, None, Result, Ok, Err, map}
 use Rattle.std.specs.declared.alloc.AllocError.{AllocError}
 use Rattle.step_values.specs.declared.action.Action.{Action}
@@ -6,6 +6,32 @@ use Rattle.step_values.specs.Values.{action_of}
 use Rattle.wires.specs.declared.wire.Arrival.{Arrival as OwnedArrival}
 use Rattle.wires.specs.declared.wire.Arrival.TheVariants.{Nothing}
 use Rattle.wires.specs.Wire.{Arrival, Put, Told, ◌then◌, arrival_of, arrived}
+use Rattle.mio.specs.declared.net.listener.TcpListener.{TcpListener}
+use Rattle.mio.specs.declared.net.udp.UdpSocket.{UdpSocket}
+use Rattle.ready_sockets.specs.Seen.{SeenReadiness}
+use Rattle.stream_connections.specs.Open.{Connections}
+use Rattle.socket_wire.specs.declared.numbers.Numbers.{Numbers}
+use Rattle.socket_wire.specs.declared.words.Words.{Words}
+
+-- What may be ready; the sockets of datagrams and for new connections; the connections and the
+-- numbers given to them; the sockets of asks, by port; what was read last; the words; the time, in
+-- ms, for which a question may wait; the moment of the last round and the number of rounds; and where
+-- the turns of clients, asks and servers go on.
+pub record SeenSockets (A : Type 0) : Type 0 where
+  pub readiness : SeenReadiness A
+  pub datagrams : UdpSocket
+  pub listener : TcpListener
+  pub connections : Connections A
+  pub numbers : Numbers
+  pub asks : List (ℕ × UdpSocket)
+  pub buffer : List ℕ
+  pub words : Words
+  pub deadline : ℕ
+  pub tried : ℕ
+  pub rounds : ℕ
+  pub next_client : ℕ
+  pub next_ask : ℕ
+  pub next_server : ℕ
 
 -- The arrivals, puts, moments and words that it gave and took so far; the number of faults that it
 -- counted; and the time, in ms, for which a question on a connection may wait for its reply.

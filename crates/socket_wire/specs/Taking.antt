@@ -7,7 +7,7 @@ use Rattle.std.specs.Ordering.{nat_cmp}
 use Rattle.std.specs.Map.{remove_entry}
 use Rattle.std.specs.BTreeMap.{is_at}
 use Rattle.step_values.specs.declared.Path.TheVariants as path
-use Rattle.socket_wire.specs.declared.sockets.Sockets.{Sockets}
+use Rattle.socket_wire.specs.Seen.{SeenSockets}
 use Rattle.std.specs.declared.io.Error.{Error}
 use Rattle.suffix_routes.specs.declared.peer.Peer.{Peer}
 use Rattle.wires.specs.declared.wire.Arrival.{Arrival}
@@ -65,9 +65,9 @@ HearsDatagram (Ok (count, from)) buffer result = IsReceived count (peer_at from)
 HearsDatagram (Err error) buffer result = result ≡ Ok Nothing
 
 -- Reading the socket for datagrams. No connection, no ask and no number changes.
-pub record TakesDatagram {R A Streams Listeners : Type 0} (result : Result (Tried A) AllocError)
-    (before after : Sockets R A Streams Listeners) : Type 0 where
-  pub arrives : IfOk result (IsDatagram after.buffer.value)
+pub record TakesDatagram {A : Type 0} (result : Result (Tried A) AllocError)
+    (before after : SeenSockets A) : Type 0 where
+  pub arrives : IfOk result (IsDatagram after.buffer)
   pub rest : after ≡ record before { buffer = after.buffer }
 
 -- The arrival of the client with this number: the octets that were heard, unless memory ran out.
@@ -103,15 +103,14 @@ closed_if is_to_be close connections = if is_to_be then close connections else c
 
 -- Reading the client with this number. A client silent for too long even so is closed. No other
 -- client changes.
-pub record TakesClient {R A Streams Listeners : Type 0} (conn now : ℕ)
-    (result : Result (Tried A) AllocError)
-    (before after : Sockets R A Streams Listeners) : Type 0 where
+pub record TakesClient {A : Type 0} (conn now : ℕ) (result : Result (Tried A) AllocError)
+    (before after : SeenSockets A) : Type 0 where
   pub heard : Option Heard
   pub clients : List (ℕ × ClientStream A)
   pub late : Bool
-  pub serves : ServesOn conn heard now after.buffer.value before.connections.clients clients
+  pub serves : ServesOn conn heard now after.buffer before.connections.clients clients
   pub is_late : late ≡ is_late_on conn now before.deadline clients
-  pub arrives : ArrivesUnless late conn after.buffer.value heard result
+  pub arrives : ArrivesUnless late conn after.buffer heard result
   pub closes : after.connections ≡ closed_if (late || is_closed_then heard (is_ok result))
       (without_client conn)
       (record before.connections { clients = clients })
@@ -138,13 +137,12 @@ is_closed_by (Ok Nothing) = false
 is_closed_by (Err _) = true
 
 -- Reading the server on the connection with this number. No other changes.
-pub record TakesServer {R A Streams Listeners : Type 0} (conn : ℕ)
-    (result : Result (Tried A) AllocError)
-    (before after : Sockets R A Streams Listeners) : Type 0 where
+pub record TakesServer {A : Type 0} (conn : ℕ) (result : Result (Tried A) AllocError)
+    (before after : SeenSockets A) : Type 0 where
   pub served : Option (Peer × Heard)
   pub servers : List (ℕ × ServerConnection A)
-  pub serves : ServesServer conn served after.buffer.value before.connections.servers servers
-  pub arrives : ArrivesOf conn after.buffer.value served result
+  pub serves : ServesServer conn served after.buffer before.connections.servers servers
+  pub arrives : ArrivesOf conn after.buffer served result
   pub closes : after.connections ≡ closed_if (is_closed_by result) (without_server conn)
       (record before.connections { servers = servers })
   pub rest : after ≡ record before { connections = after.connections; buffer = after.buffer }
@@ -190,9 +188,8 @@ HearsAsk port (Err error) buffer (Ok tried) before after = LosesAsk port (refusa
 HearsAsk port (Err error) buffer (Err _) before after = ⊥
 
 -- Reading the socket of the ask at this port.
-pub record TakesAsk {R A Streams Listeners : Type 0} (port : ℕ)
-    (result : Result (Tried A) AllocError)
-    (before after : Sockets R A Streams Listeners) : Type 0 where
-  pub asks : after.asks.entries ≡ left_by port result before.asks.entries
-  pub arrives : IfOk result (IsOfAsk port after.buffer.value)
+pub record TakesAsk {A : Type 0} (port : ℕ) (result : Result (Tried A) AllocError)
+    (before after : SeenSockets A) : Type 0 where
+  pub asks : after.asks ≡ left_by port result before.asks
+  pub arrives : IfOk result (IsOfAsk port after.buffer)
   pub rest : after ≡ record before { asks = after.asks; buffer = after.buffer }

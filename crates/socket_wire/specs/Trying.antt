@@ -5,7 +5,7 @@ use Rattle.ready_sockets.specs.declared.origin.Origin.{Origin}
 use Rattle.ready_sockets.specs.declared.origin.Origin.TheVariants.{Datagrams, Client, Ask, Server}
 use Rattle.ready_sockets.specs.declared.origin.Origin.TheVariants.{Connections as Listener}
 use Rattle.ready_sockets.specs.declared.readiness.Ready.{Ready}
-use Rattle.socket_wire.specs.declared.sockets.Sockets.{Sockets}
+use Rattle.socket_wire.specs.Seen.{SeenSockets}
 use Rattle.stream_connections.specs.Listed.{first_number}
 use Rattle.ready_sockets.specs.Rounds.{Noted}
 
@@ -20,22 +20,19 @@ NotesFirst origin (Some number) before after = Noted (origin number) before afte
 NotesFirst origin None before after = after ≡ before
 
 -- the client whose turn it is
-abbrev pub client_in_turn : {R A Streams Listeners : Type 0} → Sockets R A Streams Listeners
-    → Option ℕ
+abbrev pub client_in_turn : {A : Type 0} → SeenSockets A → Option ℕ
 client_in_turn sockets = first_number sockets.next_client sockets.connections.clients
 
 -- the port of the ask whose turn it is
-abbrev pub ask_in_turn : {R A Streams Listeners : Type 0} → Sockets R A Streams Listeners → Option ℕ
-ask_in_turn sockets = first_number sockets.next_ask sockets.asks.entries
+abbrev pub ask_in_turn : {A : Type 0} → SeenSockets A → Option ℕ
+ask_in_turn sockets = first_number sockets.next_ask sockets.asks
 
 -- the connection to a server whose turn it is
-abbrev pub server_in_turn : {R A Streams Listeners : Type 0} → Sockets R A Streams Listeners
-    → Option ℕ
+abbrev pub server_in_turn : {A : Type 0} → SeenSockets A → Option ℕ
 server_in_turn sockets = first_number sockets.next_server sockets.connections.servers
 
 -- Trying the next client.
-pub record TriesClient {R A Streams Listeners : Type 0} (tried : Bool)
-    (before after : Sockets R A Streams Listeners) : Type 0 where
+pub record TriesClient {A : Type 0} (tried : Bool) (before after : SeenSockets A) : Type 0 where
   pub one : tried ≡ is_some (client_in_turn before)
   pub next : after.next_client ≡ next_from (2 ^ 64) (client_in_turn before)
   pub tries : NotesFirst Client (client_in_turn before) before.readiness.ready after.readiness.ready
@@ -45,8 +42,7 @@ pub record TriesClient {R A Streams Listeners : Type 0} (tried : Bool)
   }
 
 -- Trying the socket of the next ask.
-pub record TriesAsk {R A Streams Listeners : Type 0} (tried : Bool)
-    (before after : Sockets R A Streams Listeners) : Type 0 where
+pub record TriesAsk {A : Type 0} (tried : Bool) (before after : SeenSockets A) : Type 0 where
   pub one : tried ≡ is_some (ask_in_turn before)
   pub next : after.next_ask ≡ next_from (2 ^ 16) (ask_in_turn before)
   pub tries : NotesFirst Ask (ask_in_turn before) before.readiness.ready after.readiness.ready
@@ -56,8 +52,7 @@ pub record TriesAsk {R A Streams Listeners : Type 0} (tried : Bool)
   }
 
 -- Trying the connection of the next ask.
-pub record TriesServer {R A Streams Listeners : Type 0} (tried : Bool)
-    (before after : Sockets R A Streams Listeners) : Type 0 where
+pub record TriesServer {A : Type 0} (tried : Bool) (before after : SeenSockets A) : Type 0 where
   pub one : tried ≡ is_some (server_in_turn before)
   pub next : after.next_server ≡ next_from (2 ^ 64) (server_in_turn before)
   pub tries : NotesFirst Server (server_in_turn before) before.readiness.ready after.readiness.ready
@@ -76,8 +71,7 @@ TriesUpTo {S} Tries (suc more) before after =
 
 -- A round counts itself, and has the socket for datagrams tried, and in an eighth round the
 -- listener.
-pub record BeginsRound {R A Streams Listeners : Type 0}
-    (before after : Sockets R A Streams Listeners) : Type 0 where
+pub record BeginsRound {A : Type 0} (before after : SeenSockets A) : Type 0 where
   pub between : Ready A
   pub datagrams : Noted Datagrams before.readiness.ready between
   pub eighth : after.rounds % 8 ≡ 0 → Noted Listener between after.readiness.ready
@@ -89,11 +83,10 @@ pub record BeginsRound {R A Streams Listeners : Type 0}
 
 -- A round: then up to twenty clients, twenty sockets of asks and twenty connections of asks are
 -- tried.
-pub record TriesOthers {R A Streams Listeners : Type 0}
-    (before after : Sockets R A Streams Listeners) : Type 0 where
-  pub begun : Sockets R A Streams Listeners
-  pub behind_clients : Sockets R A Streams Listeners
-  pub behind_asks : Sockets R A Streams Listeners
+pub record TriesOthers {A : Type 0} (before after : SeenSockets A) : Type 0 where
+  pub begun : SeenSockets A
+  pub behind_clients : SeenSockets A
+  pub behind_asks : SeenSockets A
   pub begins : BeginsRound before begun
   pub clients : TriesUpTo TriesClient 20 begun behind_clients
   pub asks : TriesUpTo TriesAsk 20 behind_clients behind_asks

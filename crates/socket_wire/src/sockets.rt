@@ -21,6 +21,7 @@ use ready_sockets::Readiness;
 use std::alloc::{AllocError, Allocator};
 use std::collections::BTreeMap;
 use std::io;
+use std::marker::Model;
 use std::net::Net;
 use step_values::Path;
 use stream_connections::{Closed, Connections};
@@ -37,7 +38,7 @@ const PAUSE: u64 = 5;
 /// The most sockets that a turn tries.
 const TRIES: u8 = 64;
 
-/// The sockets of a wire.
+/// The sockets of a wire. Contracts see all but the runtime, the allocator and the spare memory.
 #[derive(Drop)]
 pub(crate) struct Sockets<'a, R: Net, A: Allocator> {
     rt: &'a R,
@@ -61,6 +62,29 @@ pub(crate) struct Sockets<'a, R: Net, A: Allocator> {
     next_client: u64,
     next_ask: u16,
     next_server: u64,
+}
+
+impl<'a, R: Net, A: Allocator> Model for Sockets<'a, R, A> {
+    ghost use Rattle.socket_wire.specs.Seen.{SeenSockets};
+
+    ghost Value = { SeenSockets A };
+
+    ghost view = { λ s. record {
+      readiness = s.readiness;
+      datagrams = s.datagrams;
+      listener = s.listener;
+      connections = s.connections;
+      numbers = s.numbers;
+      asks = s.asks.entries;
+      buffer = s.buffer.value;
+      words = s.words;
+      deadline = s.deadline;
+      tried = s.tried;
+      rounds = s.rounds;
+      next_client = s.next_client;
+      next_ask = s.next_ask;
+      next_server = s.next_server;
+    } };
 }
 
 impl<'a, R: Net, A: Allocator + Copy> Sockets<'a, R, A> {

@@ -69,7 +69,7 @@ impl<R: Net, A: Allocator + Copy> Sockets<'_, R, A> {
     /// Sends a query from this port. If no descriptor is left, the oldest connection of a client
     /// that has waited for nothing for a while is closed.
     fn ask_udp(&mut self, port: u16, server: Peer, query: &[u8], now: u64) -> io::Result<()>
-        ensures lists { ListsPort port (is_ok result) self.old.asks.entries self.new.asks.entries }
+        ensures lists { ListsPort port (is_ok result) self.old.asks self.new.asks }
         ensures room { MayMakeRoom now self.old.connections self.new.connections }
         ensures rest { self.new ≡ record self.old {
           asks = self.new.asks;
@@ -94,9 +94,9 @@ impl<R: Net, A: Allocator + Copy> Sockets<'_, R, A> {
         answer: io::Result<usize>,
     ) -> io::Result<()>
         ensures sent { OnOk answer (ListsThis port socket (is_ok result)
-            self.old.asks.entries self.new.asks.entries) }
+            self.old.asks self.new.asks) }
         ensures refused { IfErr answer (λ error. (result ≡ Err error) × (self.new ≡ self.old)) }
-        ensures lists { ListsPort port (is_ok result) self.old.asks.entries self.new.asks.entries }
+        ensures lists { ListsPort port (is_ok result) self.old.asks self.new.asks }
         ensures rest { self.new ≡ record self.old { asks = self.new.asks } }
     {
         sent(answer)?;

@@ -59,8 +59,8 @@ impl<R: Net, A: Allocator + Copy> Sockets<'_, R, A> {
         &mut self,
         answer: io::Result<(usize, SocketAddr)>,
     ) -> Result<Tried<A>, AllocError>
-        requires within { IfOk answer (λ received. IsPrefixLen received.0 self.old.buffer.value) }
-        ensures hears { HearsDatagram answer self.old.buffer.value result }
+        requires within { IfOk answer (λ received. IsPrefixLen received.0 self.old.buffer) }
+        ensures hears { HearsDatagram answer self.old.buffer result }
         ensures takes { TakesDatagram result self.old self.new }
         ensures same { self.new ≡ self.old }
     {
@@ -200,9 +200,9 @@ impl<R: Net, A: Allocator + Copy> Sockets<'_, R, A> {
         port: u16,
         answer: io::Result<(usize, SocketAddr)>,
     ) -> Result<Tried<A>, AllocError>
-        requires within { IfOk answer (λ received. IsPrefixLen received.0 self.old.buffer.value) }
-        ensures hears { HearsAsk port answer self.old.buffer.value result
-            self.old.asks.entries self.new.asks.entries }
+        requires within { IfOk answer (λ received. IsPrefixLen received.0 self.old.buffer) }
+        ensures hears { HearsAsk port answer self.old.buffer result
+            self.old.asks self.new.asks }
         ensures takes { TakesAsk port result self.old self.new }
     {
         match answer {
@@ -220,7 +220,7 @@ impl<R: Net, A: Allocator + Copy> Sockets<'_, R, A> {
     /// The result for the socket of an ask that refused a read: nothing if the read would block.
     /// For any other reason the socket is dropped, and its end reported.
     fn lose_ask(&mut self, port: u16, refusal: Refusal) -> Tried<A>
-        ensures loses { LosesAsk port refusal result self.old.asks.entries self.new.asks.entries }
+        ensures loses { LosesAsk port refusal result self.old.asks self.new.asks }
         ensures takes { TakesAsk port (Ok result) self.old self.new }
     {
         match refusal {
