@@ -14,24 +14,6 @@ use std::alloc::{AllocError, Allocator};
 use std::hash::BuildHasher;
 use trust_rank::Piece;
 
-/// Puts pieces last, as they are held from this moment on.
-fn push_held<A: Allocator + Copy>(
-    held: &mut Vec<Held<A>, A>,
-    pieces: PlainList<Piece<A>, A>,
-    moment: u64,
-) -> Result<(), AllocError>
-    ensures { IfOk result (λ _. held.new.items ≡ held.old.items ++ map (held_at moment) pieces) }
-{
-    held.reserve(pieces.as_slice().len())?;
-    for piece in pieces.into_vec() {
-        held.push(Held {
-            piece,
-            accepted: moment,
-        })?;
-    }
-    Ok(())
-}
-
 /// The pieces of a reply, as held from this moment on, in milliseconds: those of its walk, then the
 /// name servers of its authority section.
 pub fn held_from<A: Allocator + Copy>(
@@ -47,29 +29,6 @@ pub fn held_from<A: Allocator + Copy>(
     push_held(&mut held, pieces, moment)?;
     push_held(&mut held, authority, moment)?;
     Ok(held)
-}
-
-/// Removes the name errors that a piece shows to be wrong. Only a set or NODATA does (RFC 8020 2).
-fn show<H: BuildHasher + Drop, A: Allocator + Copy>(cache: &mut Cache<H, A>, piece: &Piece<A>)
-    ensures { cache.new ≡ record cache.old { entries = shown_by piece.now cache.old.entries } }
-{
-    if piece.kind.is_some() {
-        shown(cache, &piece.owner, piece.class);
-    }
-}
-
-/// Offers a piece, at this moment in milliseconds. True if it found no memory.
-fn offer<H: BuildHasher + Drop, A: Allocator + Copy>(
-    cache: &mut Cache<H, A>,
-    piece: Piece<A>,
-    moment: u64,
-) -> bool
-    ensures { (room : Bool) × (cache.new
-        ≡ record cache.old { entries = put cache.old.capacity moment room piece cache.old.entries })
-        × ((if result then 1 else 0) ≡ count_of (ended_so moment room piece cache.old.entries)) }
-{
-    show(cache, &piece);
-    matches!(cache.offer(piece, moment), Offered::Unkept)
 }
 
 /// Offers the pieces of entries in order, at this moment in milliseconds. Returns how many of them
@@ -92,4 +51,45 @@ pub fn offer_all<H: BuildHasher + Drop, A: Allocator + Copy>(
         unkept += u32::from(offer(cache, entry.piece, moment));
     }
     unkept
+}
+
+/// Puts pieces last, as they are held from this moment on.
+fn push_held<A: Allocator + Copy>(
+    held: &mut Vec<Held<A>, A>,
+    pieces: PlainList<Piece<A>, A>,
+    moment: u64,
+) -> Result<(), AllocError>
+    ensures { IfOk result (λ _. held.new.items ≡ held.old.items ++ map (held_at moment) pieces) }
+{
+    held.reserve(pieces.as_slice().len())?;
+    for piece in pieces.into_vec() {
+        held.push(Held {
+            piece,
+            accepted: moment,
+        })?;
+    }
+    Ok(())
+}
+
+/// Offers a piece, at this moment in milliseconds. True if it found no memory.
+fn offer<H: BuildHasher + Drop, A: Allocator + Copy>(
+    cache: &mut Cache<H, A>,
+    piece: Piece<A>,
+    moment: u64,
+) -> bool
+    ensures { (room : Bool) × (cache.new
+        ≡ record cache.old { entries = put cache.old.capacity moment room piece cache.old.entries })
+        × ((if result then 1 else 0) ≡ count_of (ended_so moment room piece cache.old.entries)) }
+{
+    show(cache, &piece);
+    matches!(cache.offer(piece, moment), Offered::Unkept)
+}
+
+/// Removes the name errors that a piece shows to be wrong. Only a set or NODATA does (RFC 8020 2).
+fn show<H: BuildHasher + Drop, A: Allocator + Copy>(cache: &mut Cache<H, A>, piece: &Piece<A>)
+    ensures { cache.new ≡ record cache.old { entries = shown_by piece.now cache.old.entries } }
+{
+    if piece.kind.is_some() {
+        shown(cache, &piece.owner, piece.class);
+    }
 }

@@ -18,24 +18,6 @@ use record_cache::{Held, LookUpSlot};
 use std::alloc::{AllocError, Allocator};
 use std::hash::BuildHasher;
 
-/// Looks a question up among living and stale entries, at the name of these octets in place of its
-/// own.
-fn stale_at<'a, H: BuildHasher + Drop, A: Allocator + Copy>(
-    at: &CacheAt<'a, H, A>,
-    slot: &mut LookUpSlot,
-    question: &QuestionRef<'_>,
-    name: &[u8],
-    window: u64,
-) -> Found<'a, A>
-    requires laid { IsLaidOut name.now }
-    requires window { window ≤ 86400 }
-    ensures { found_of result
-        ≡ stale window at.now.moment at.now.cache.entries (asked_at question.now (labels_of name.now)) }
-{
-    let wanted = QuestionRef::from_octets(name, question.kind(), question.class());
-    at.find_stale(slot, &wanted, window)
-}
-
 /// The entries that lead a question to a set: the aliases, at most `most`, and the set. Each is
 /// alive or expired fewer than `window` seconds ago, at most 86,400 (RFC 8767 5). `None` if there
 /// is no such set. No denial is used, and nothing is promoted. All found entries lie in the cache.
@@ -74,4 +56,22 @@ pub fn look_up_past<'a, H: BuildHasher + Drop, A: Allocator + Copy>(
             Found::Local | Found::NoData(_) | Found::Denied(_) | Found::Miss => return Ok(None),
         }
     }
+}
+
+/// Looks a question up among living and stale entries, at the name of these octets in place of its
+/// own.
+fn stale_at<'a, H: BuildHasher + Drop, A: Allocator + Copy>(
+    at: &CacheAt<'a, H, A>,
+    slot: &mut LookUpSlot,
+    question: &QuestionRef<'_>,
+    name: &[u8],
+    window: u64,
+) -> Found<'a, A>
+    requires laid { IsLaidOut name.now }
+    requires window { window ≤ 86400 }
+    ensures { found_of result
+        ≡ stale window at.now.moment at.now.cache.entries (asked_at question.now (labels_of name.now)) }
+{
+    let wanted = QuestionRef::from_octets(name, question.kind(), question.class());
+    at.find_stale(slot, &wanted, window)
 }

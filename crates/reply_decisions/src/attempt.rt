@@ -36,74 +36,6 @@ pub(crate) fn give_up<'s, H: BuildHasher + Drop, A: Allocator + Copy>(
     Ok(Decision::without_cache(turn.alloc, actions, change))
 }
 
-/// Closes the ask, whose question has no try left; those that wait for it get their last
-/// reply.
-fn run_out<'s, H: BuildHasher + Drop, A: Allocator + Copy>(
-    turn: &TurnRef<'_, H, A>,
-    ask: &KeyedAsk<A>,
-) -> Result<Decision<'s, A>, AllocError>
-    requires on { ask_on ask.now.path turn.now.state.asks ≡ Some ask.now }
-    ensures decides { IfOk result (MeetsStep turn.now (closing_step turn.now.moment ask.now
-        (runs_out turn.now.config turn.now.moment turn.now.state.cache.entries ask.now.question) None
-        turn.now.state)) }
-{
-    let asked = ask.ask();
-    let actions = last_replies(turn, ask)?;
-    let change = Change::Close(asked.path, None);
-    Ok(Decision::without_cache(turn.alloc, actions, change))
-}
-
-/// Closes the ask, and sends the next one.
-fn ask_again<'s, H: BuildHasher + Drop, A: Allocator + Copy>(
-    turn: &TurnRef<'_, H, A>,
-    ask: &KeyedAsk<A>,
-    next: Ask<A>,
-) -> Result<Decision<'s, A>, AllocError>
-    requires on { ask_on ask.now.path turn.now.state.asks ≡ Some ask.now }
-    requires follows { CanFollow turn.now.config turn.now.moment turn.now.state
-        (without_path ask.now.path turn.now.state.asks) next }
-    ensures decides { IfOk result (MeetsStep turn.now (row_of_attempt turn.now.moment ask.now turn.now.state
-        (Some next))) }
-{
-    let asked = ask.ask();
-    let mut actions = Actions::one(turn.alloc, close_path(asked.path));
-    let action = ask_action(turn.alloc, &next)?;
-    actions.push(action)?;
-    let next = Box::new(turn.alloc, next)?;
-    let change = Change::AskAgain(asked.path, next);
-    Ok(Decision::without_cache(turn.alloc, actions, change))
-}
-
-/// Closes the ask, and asks another server over the drawn path. Without one those that
-/// wait fail.
-fn retry<'s, H: BuildHasher + Drop, A: Allocator + Copy>(
-    turn: &TurnRef<'_, H, A>,
-    ask: &KeyedAsk<A>,
-    server: u8,
-    drawn: Option<(u16, Path)>,
-) -> Result<Decision<'s, A>, AllocError>
-    requires on { ask_on ask.now.path turn.now.state.asks ≡ Some ask.now }
-    requires tries { ask.now.used < 255 }
-    requires follows { (next : AskValue) → ask_by turn.now.moment ask.now.question ask.now.route server
-        (ask.now.used + 1) (peer_at turn.now.config ask.now.route server) drawn ≡ Some next
-        → CanFollow turn.now.config turn.now.moment turn.now.state
-        (without_path ask.now.path turn.now.state.asks) next }
-    ensures decides { IfOk result (MeetsStep turn.now (row_of_attempt turn.now.moment ask.now turn.now.state
-        (ask_by turn.now.moment ask.now.question ask.now.route server (ask.now.used + 1)
-        (peer_at turn.now.config ask.now.route server) drawn))) }
-{
-    let asked = ask.ask();
-    let attempt = Attempt {
-        route: asked.route,
-        server: usize::from(server),
-        used: asked.used + 1,
-    };
-    match new_ask(turn, &asked.question, attempt, drawn)? {
-        Some(next) => ask_again(turn, ask, next),
-        None => give_up(turn, ask, Why::NoPort),
-    }
-}
-
 /// Closes the ask of a failed attempt; then the next ask goes out, or the questions waiting for it
 /// get the reason.
 pub(crate) fn fail<'s, H: BuildHasher + Drop, A: Allocator + Copy>(
@@ -142,4 +74,72 @@ pub fn on_failed_path<'s, H: BuildHasher + Drop, A: Allocator + Copy>(
         Some(ask) => fail(turn, ask, Failure::Broken),
         None => Ok(nothing(turn)),
     }
+}
+
+/// Closes the ask, whose question has no try left; those that wait for it get their last
+/// reply.
+fn run_out<'s, H: BuildHasher + Drop, A: Allocator + Copy>(
+    turn: &TurnRef<'_, H, A>,
+    ask: &KeyedAsk<A>,
+) -> Result<Decision<'s, A>, AllocError>
+    requires on { ask_on ask.now.path turn.now.state.asks ≡ Some ask.now }
+    ensures decides { IfOk result (MeetsStep turn.now (closing_step turn.now.moment ask.now
+        (runs_out turn.now.config turn.now.moment turn.now.state.cache.entries ask.now.question) None
+        turn.now.state)) }
+{
+    let asked = ask.ask();
+    let actions = last_replies(turn, ask)?;
+    let change = Change::Close(asked.path, None);
+    Ok(Decision::without_cache(turn.alloc, actions, change))
+}
+
+/// Closes the ask, and asks another server over the drawn path. Without one those that
+/// wait fail.
+fn retry<'s, H: BuildHasher + Drop, A: Allocator + Copy>(
+    turn: &TurnRef<'_, H, A>,
+    ask: &KeyedAsk<A>,
+    server: u8,
+    drawn: Option<(u16, Path)>,
+) -> Result<Decision<'s, A>, AllocError>
+    requires on { ask_on ask.now.path turn.now.state.asks ≡ Some ask.now }
+    requires tries { ask.now.used < 255 }
+    requires follows { (next : AskValue) → ask_by turn.now.moment ask.now.question ask.now.route server
+        (ask.now.used + 1) (peer_at turn.now.config ask.now.route server) drawn ≡ Some next
+        → CanFollow turn.now.config turn.now.moment turn.now.state
+        (without_path ask.now.path turn.now.state.asks) next }
+    ensures decides { IfOk result (MeetsStep turn.now (row_of_attempt turn.now.moment ask.now turn.now.state
+        (ask_by turn.now.moment ask.now.question ask.now.route server (ask.now.used + 1)
+        (peer_at turn.now.config ask.now.route server) drawn))) }
+{
+    let asked = ask.ask();
+    let attempt = Attempt {
+        route: asked.route,
+        server: usize::from(server),
+        used: asked.used + 1,
+    };
+    match new_ask(turn, &asked.question, attempt, drawn)? {
+        Some(next) => ask_again(turn, ask, next),
+        None => give_up(turn, ask, Why::NoPort),
+    }
+}
+
+/// Closes the ask, and sends the next one.
+fn ask_again<'s, H: BuildHasher + Drop, A: Allocator + Copy>(
+    turn: &TurnRef<'_, H, A>,
+    ask: &KeyedAsk<A>,
+    next: Ask<A>,
+) -> Result<Decision<'s, A>, AllocError>
+    requires on { ask_on ask.now.path turn.now.state.asks ≡ Some ask.now }
+    requires follows { CanFollow turn.now.config turn.now.moment turn.now.state
+        (without_path ask.now.path turn.now.state.asks) next }
+    ensures decides { IfOk result (MeetsStep turn.now (row_of_attempt turn.now.moment ask.now turn.now.state
+        (Some next))) }
+{
+    let asked = ask.ask();
+    let mut actions = Actions::one(turn.alloc, close_path(asked.path));
+    let action = ask_action(turn.alloc, &next)?;
+    actions.push(action)?;
+    let next = Box::new(turn.alloc, next)?;
+    let change = Change::AskAgain(asked.path, next);
+    Ok(Decision::without_cache(turn.alloc, actions, change))
 }

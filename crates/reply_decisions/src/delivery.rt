@@ -37,34 +37,71 @@ use step_actions::{Change, Decision, Preferred, TurnRef, answers_to, is_live, no
 use suffix_routes::Peer;
 use trust_rank::{End, Piece, Walk, pieces};
 
-/// Accepts a reply that answers, with these pieces: all that wait for it are answered, and its
-/// pieces are kept.
-fn accept<'s, H: BuildHasher + Drop, A: Allocator + Copy>(
+/// Decides a delivery on a path to a server. Nothing if no ask on the path is live, or the octets
+/// are not its reply. Out of line: inlined, its frame would be on the stack of each client's
+/// question.
+#[inline(never)]
+pub fn on_delivery<'s, H: BuildHasher + Drop, A: Allocator + Copy>(
+    turn: &TurnRef<'_, H, A>,
+    path: Path,
+    from: Peer,
+    bytes: &[u8],
+) -> Result<Decision<'s, A>, AllocError>
+    ensures decides { IfOk result (MeetsRow turn.now (λ rooms. row_of_delivery turn.now rooms from bytes.now
+        (ask_on path turn.now.state.asks))) }
+    ensures unmatched { verdict_on turn.now.config turn.now.moment from bytes.now
+        (ask_on path turn.now.state.asks) ≡ Verdict.Stranger → IsQuiet result }
+{
+    let Some(ask) = turn.kept.inquiries.by_path(path) else {
+        return Ok(nothing(turn));
+    };
+    let asked = ask.ask();
+    if !is_live(turn.config, turn.moment, asked) {
+        return Ok(nothing(turn));
+    }
+    let judged = judge(asked, from, bytes);
+    on_verdict(turn, ask, judged)
+}
+
+/// Decides a judged delivery. Nothing for a stranger's octets.
+fn on_verdict<'s, H: BuildHasher + Drop, A: Allocator + Copy>(
     turn: &TurnRef<'_, H, A>,
     ask: &KeyedAsk<A>,
-    pieces: PlainList<Piece<A>, A>,
-    authority: PlainList<Piece<A>, A>,
+    judged: Judged<'_>,
 ) -> Result<Decision<'s, A>, AllocError>
     requires on { ask_on ask.now.path turn.now.state.asks ≡ Some ask.now }
-    ensures decides { (e : EndValue) → has_last e ≡ true → IsWalkFor turn.now.config ask.now (walk_to pieces authority e)
-        → IfOk result (MeetsRow turn.now (λ rooms. row_of_acceptance turn.now rooms ask.now
-        (walk_to pieces authority e))) }
+    requires octets { ShowsOctets judged }
+    ensures decides { (octets : List ℕ) → IsViewOf octets judged.entry
+        → IfOk result (MeetsRow turn.now (λ rooms. row_of_verdict turn.now rooms ask.now octets
+        (verdict_of judged.entry))) }
+    ensures unmatched { verdict_of judged.entry ≡ Verdict.Stranger → IsQuiet result }
 {
-    let walked = pieces.as_slice().len();
-    let held = held_from(turn.alloc, pieces, authority, turn.moment)?;
-    let waiting = &turn.kept.waiting;
-    let actions = answers_to(turn.alloc, ask, &held[..walked], turn.moment, waiting)?;
-    let answered = ask.ask();
-    let preferred = Preferred {
-        route: answered.route,
-        server: answered.server,
-    };
-    Ok(Decision {
-        actions,
-        used: Slots::none(turn.alloc),
-        change: Change::Close(answered.path, Some(preferred)),
-        carried: held,
-    })
+    match judged {
+        Judged::Stranger => Ok(nothing(turn)),
+        Judged::Truncated => fail(turn, ask, Failure::Truncated),
+        Judged::Failed(_) => fail(turn, ask, Failure::Rcode),
+        Judged::Malformed => fail(turn, ask, Failure::Malformed),
+        Judged::Whole(view) => on_whole(turn, ask, &view),
+    }
+}
+
+/// Reads a whole message that matches the ask, and decides it. An unreadable message is a failed
+/// attempt; `Err` only if memory ran out.
+fn on_whole<'s, H: BuildHasher + Drop, A: Allocator + Copy>(
+    turn: &TurnRef<'_, H, A>,
+    ask: &KeyedAsk<A>,
+    view: &MessageRef<'_>,
+) -> Result<Decision<'s, A>, AllocError>
+    requires on { ask_on ask.now.path turn.now.state.asks ≡ Some ask.now }
+    requires octets { AreOctets view.now }
+    ensures decides { IfOk result (MeetsRow turn.now (λ rooms. row_of_message turn.now rooms ask.now
+        (message_of view.now))) }
+{
+    match view.read_whole(turn.alloc) {
+        Ok(message) => on_message(turn, ask, &message),
+        Err(fault) if wants_memory(fault) => Err(AllocError),
+        Err(_) => fail(turn, ask, Failure::Malformed),
+    }
 }
 
 /// Decides a message that matches the ask. A lame server is a failed attempt.
@@ -97,76 +134,39 @@ fn on_message<'s, H: BuildHasher + Drop, A: Allocator + Copy>(
     }
 }
 
+/// Accepts a reply that answers, with these pieces: all that wait for it are answered, and its
+/// pieces are kept.
+fn accept<'s, H: BuildHasher + Drop, A: Allocator + Copy>(
+    turn: &TurnRef<'_, H, A>,
+    ask: &KeyedAsk<A>,
+    pieces: PlainList<Piece<A>, A>,
+    authority: PlainList<Piece<A>, A>,
+) -> Result<Decision<'s, A>, AllocError>
+    requires on { ask_on ask.now.path turn.now.state.asks ≡ Some ask.now }
+    ensures decides { (e : EndValue) → has_last e ≡ true → IsWalkFor turn.now.config ask.now (walk_to pieces authority e)
+        → IfOk result (MeetsRow turn.now (λ rooms. row_of_acceptance turn.now rooms ask.now
+        (walk_to pieces authority e))) }
+{
+    let walked = pieces.as_slice().len();
+    let held = held_from(turn.alloc, pieces, authority, turn.moment)?;
+    let waiting = &turn.kept.waiting;
+    let actions = answers_to(turn.alloc, ask, &held[..walked], turn.moment, waiting)?;
+    let answered = ask.ask();
+    let preferred = Preferred {
+        route: answered.route,
+        server: answered.server,
+    };
+    Ok(Decision {
+        actions,
+        used: Slots::none(turn.alloc),
+        change: Change::Close(answered.path, Some(preferred)),
+        carried: held,
+    })
+}
+
 /// Whether the fault is not in the octets: memory ran out.
 fn wants_memory(fault: Fault) -> bool
     ensures { result ≡ wants_memory fault }
 {
     matches!(fault, Fault::Memory)
-}
-
-/// Reads a whole message that matches the ask, and decides it. An unreadable message is a failed
-/// attempt; `Err` only if memory ran out.
-fn on_whole<'s, H: BuildHasher + Drop, A: Allocator + Copy>(
-    turn: &TurnRef<'_, H, A>,
-    ask: &KeyedAsk<A>,
-    view: &MessageRef<'_>,
-) -> Result<Decision<'s, A>, AllocError>
-    requires on { ask_on ask.now.path turn.now.state.asks ≡ Some ask.now }
-    requires octets { AreOctets view.now }
-    ensures decides { IfOk result (MeetsRow turn.now (λ rooms. row_of_message turn.now rooms ask.now
-        (message_of view.now))) }
-{
-    match view.read_whole(turn.alloc) {
-        Ok(message) => on_message(turn, ask, &message),
-        Err(fault) if wants_memory(fault) => Err(AllocError),
-        Err(_) => fail(turn, ask, Failure::Malformed),
-    }
-}
-
-/// Decides a judged delivery. Nothing for a stranger's octets.
-fn on_verdict<'s, H: BuildHasher + Drop, A: Allocator + Copy>(
-    turn: &TurnRef<'_, H, A>,
-    ask: &KeyedAsk<A>,
-    judged: Judged<'_>,
-) -> Result<Decision<'s, A>, AllocError>
-    requires on { ask_on ask.now.path turn.now.state.asks ≡ Some ask.now }
-    requires octets { ShowsOctets judged }
-    ensures decides { (octets : List ℕ) → IsViewOf octets judged.entry
-        → IfOk result (MeetsRow turn.now (λ rooms. row_of_verdict turn.now rooms ask.now octets
-        (verdict_of judged.entry))) }
-    ensures unmatched { verdict_of judged.entry ≡ Verdict.Stranger → IsQuiet result }
-{
-    match judged {
-        Judged::Stranger => Ok(nothing(turn)),
-        Judged::Truncated => fail(turn, ask, Failure::Truncated),
-        Judged::Failed(_) => fail(turn, ask, Failure::Rcode),
-        Judged::Malformed => fail(turn, ask, Failure::Malformed),
-        Judged::Whole(view) => on_whole(turn, ask, &view),
-    }
-}
-
-/// Decides a delivery on a path to a server. Nothing if no ask on the path is live, or the octets
-/// are not its reply. Out of line: inlined, its frame would be on the stack of each client's
-/// question.
-#[inline(never)]
-pub fn on_delivery<'s, H: BuildHasher + Drop, A: Allocator + Copy>(
-    turn: &TurnRef<'_, H, A>,
-    path: Path,
-    from: Peer,
-    bytes: &[u8],
-) -> Result<Decision<'s, A>, AllocError>
-    ensures decides { IfOk result (MeetsRow turn.now (λ rooms. row_of_delivery turn.now rooms from bytes.now
-        (ask_on path turn.now.state.asks))) }
-    ensures unmatched { verdict_on turn.now.config turn.now.moment from bytes.now
-        (ask_on path turn.now.state.asks) ≡ Verdict.Stranger → IsQuiet result }
-{
-    let Some(ask) = turn.kept.inquiries.by_path(path) else {
-        return Ok(nothing(turn));
-    };
-    let asked = ask.ask();
-    if !is_live(turn.config, turn.moment, asked) {
-        return Ok(nothing(turn));
-    }
-    let judged = judge(asked, from, bytes);
-    on_verdict(turn, ask, judged)
 }

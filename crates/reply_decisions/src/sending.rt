@@ -42,43 +42,73 @@ use step_values::Actions;
 use suffix_routes::{RouteId, Routing};
 use trust_rank::Piece;
 
-/// Puts the ask last, if any.
-fn put_next<A: Allocator + Copy>(
-    alloc: A,
-    actions: &mut Actions<A>,
-    next: &Option<Ask<A>>,
-) -> Result<(), AllocError>
-    ensures { IfOk result (λ _. actions_of actions.new ≡ actions_of actions.old ++ map asks (ask_list next.now)) }
+/// Accepts a reply with these pieces that leads on to a name. Each question that waits for it is
+/// looked up there, and gets its reply or waits on. The pieces are kept.
+pub(crate) fn send_on<'s, H: BuildHasher + Drop, A: Allocator + Copy>(
+    turn: &TurnRef<'_, H, A>,
+    answered: &KeyedAsk<A>,
+    pieces: PlainList<Piece<A>, A>,
+    authority: PlainList<Piece<A>, A>,
+    name: Name<A>,
+) -> Result<Decision<'s, A>, AllocError>
+    requires on { ask_on answered.now.path turn.now.state.asks ≡ Some answered.now }
+    requires carried { IsWalkFor turn.now.config answered.now (walk_on pieces authority name) }
+    ensures decides { IfOk result (MeetsRow turn.now (λ rooms. row_of_acceptance turn.now rooms answered.now
+        (walk_on pieces authority name))) }
 {
-    if let Some(next) = next {
-        let action = ask_action(alloc, next)?;
-        actions.push(action)?;
-    }
-    Ok(())
+    let walked = pieces.as_slice().len();
+    let held = held_from(turn.alloc, pieces, authority, turn.moment)?;
+    let waiting = turn.kept.waiting.for_ask(answered);
+    let lead = AliasLead {
+        aliases: &held[..walked],
+        name: &name,
+    };
+    let fates = fates_of(turn, &lead, &waiting)?;
+    let (fates, next) = ask_next(turn, answered, fates)?;
+    close_and_send_on(turn, answered, fates, next, held)
 }
 
-/// The first server to ask on a route once this ask is answered.
-fn preferred_then<H: BuildHasher + Drop, A: Allocator + Copy>(
+/// The ask for the question of those that are sent on, if none is listed. If no port is free for
+/// it, they fail.
+fn ask_next<'a, H: BuildHasher + Drop, A: Allocator + Copy>(
     turn: &TurnRef<'_, H, A>,
-    route: RouteId,
     answered: &KeyedAsk<A>,
-) -> usize
+    fates: Fates<'a, A>,
+) -> Result<(Fates<'a, A>, Option<Ask<A>>), AllocError>
+    requires on { ask_on answered.now.path turn.now.state.asks ≡ Some answered.now }
+    ensures ask { IfOk result (λ parts. parts.1 ≡ ask_for
+        (from_state (closing_state answered.now turn.now.state) turn.now)
+        (asked_for answered.now turn.now.state fates.entry.each)) }
+    ensures fates { IfOk result (λ parts. parts.0.each ≡ fates_then
+        (asked_for answered.now turn.now.state fates.entry.each) parts.1 fates.entry.each) }
+    ensures used { IfOk result (λ parts. parts.0.used ≡ fates.entry.used) }
+{
+    let Some(wanted) = fates.wanted() else {
+        return Ok((fates, None));
+    };
+    if is_asked_beside(turn, wanted, answered) {
+        return Ok((fates, None));
+    }
+    match first_ask_then(turn, answered, wanted)? {
+        Some(next) => Ok((fates, Some(next))),
+        None => Ok((fates.without_port(turn.alloc)?, None)),
+    }
+}
+
+/// Whether an ask of the question other than the answered one is listed.
+fn is_asked_beside<H: BuildHasher + Drop, A: Allocator + Copy>(
+    turn: &TurnRef<'_, H, A>,
+    question: &Question<A>,
+    answered: &KeyedAsk<A>,
+) -> bool
     requires { ask_on answered.now.path turn.now.state.asks ≡ Some answered.now }
-    ensures { result ≡ preferred_on (with_preferred_server answered.now turn.now.state) route }
+    ensures { result ≡ is_some (of_question question.now (without_path answered.now.path turn.now.state.asks)) }
 {
     let ask = answered.ask();
-    let own = ask.route;
-    let before = turn
-        .kept
-        .preferred
-        .as_slice()
-        .get(route.place)
-        .copied()
-        .unwrap_or(0);
-    if route.place == own.place {
-        ask.server
-    } else {
-        before
+    let key = QuestionKey::of(question);
+    match turn.kept.inquiries.by_question(&key) {
+        Some(open) => !open.path.is_same(ask.path),
+        None => false,
     }
 }
 
@@ -106,47 +136,28 @@ fn first_ask_then<H: BuildHasher + Drop, A: Allocator + Copy>(
     new_ask(turn, question, attempt, drawn)
 }
 
-/// Whether an ask of the question other than the answered one is listed.
-fn is_asked_beside<H: BuildHasher + Drop, A: Allocator + Copy>(
+/// The first server to ask on a route once this ask is answered.
+fn preferred_then<H: BuildHasher + Drop, A: Allocator + Copy>(
     turn: &TurnRef<'_, H, A>,
-    question: &Question<A>,
+    route: RouteId,
     answered: &KeyedAsk<A>,
-) -> bool
+) -> usize
     requires { ask_on answered.now.path turn.now.state.asks ≡ Some answered.now }
-    ensures { result ≡ is_some (of_question question.now (without_path answered.now.path turn.now.state.asks)) }
+    ensures { result ≡ preferred_on (with_preferred_server answered.now turn.now.state) route }
 {
     let ask = answered.ask();
-    let key = QuestionKey::of(question);
-    match turn.kept.inquiries.by_question(&key) {
-        Some(open) => !open.path.is_same(ask.path),
-        None => false,
-    }
-}
-
-/// The ask for the question of those that are sent on, if none is listed. If no port is free for
-/// it, they fail.
-fn ask_next<'a, H: BuildHasher + Drop, A: Allocator + Copy>(
-    turn: &TurnRef<'_, H, A>,
-    answered: &KeyedAsk<A>,
-    fates: Fates<'a, A>,
-) -> Result<(Fates<'a, A>, Option<Ask<A>>), AllocError>
-    requires on { ask_on answered.now.path turn.now.state.asks ≡ Some answered.now }
-    ensures ask { IfOk result (λ parts. parts.1 ≡ ask_for
-        (from_state (closing_state answered.now turn.now.state) turn.now)
-        (asked_for answered.now turn.now.state fates.entry.each)) }
-    ensures fates { IfOk result (λ parts. parts.0.each ≡ fates_then
-        (asked_for answered.now turn.now.state fates.entry.each) parts.1 fates.entry.each) }
-    ensures used { IfOk result (λ parts. parts.0.used ≡ fates.entry.used) }
-{
-    let Some(wanted) = fates.wanted() else {
-        return Ok((fates, None));
-    };
-    if is_asked_beside(turn, wanted, answered) {
-        return Ok((fates, None));
-    }
-    match first_ask_then(turn, answered, wanted)? {
-        Some(next) => Ok((fates, Some(next))),
-        None => Ok((fates.without_port(turn.alloc)?, None)),
+    let own = ask.route;
+    let before = turn
+        .kept
+        .preferred
+        .as_slice()
+        .get(route.place)
+        .copied()
+        .unwrap_or(0);
+    if route.place == own.place {
+        ask.server
+    } else {
+        before
     }
 }
 
@@ -193,28 +204,17 @@ fn close_and_send_on<'s, H: BuildHasher + Drop, A: Allocator + Copy>(
     })
 }
 
-/// Accepts a reply with these pieces that leads on to a name. Each question that waits for it is
-/// looked up there, and gets its reply or waits on. The pieces are kept.
-pub(crate) fn send_on<'s, H: BuildHasher + Drop, A: Allocator + Copy>(
-    turn: &TurnRef<'_, H, A>,
-    answered: &KeyedAsk<A>,
-    pieces: PlainList<Piece<A>, A>,
-    authority: PlainList<Piece<A>, A>,
-    name: Name<A>,
-) -> Result<Decision<'s, A>, AllocError>
-    requires on { ask_on answered.now.path turn.now.state.asks ≡ Some answered.now }
-    requires carried { IsWalkFor turn.now.config answered.now (walk_on pieces authority name) }
-    ensures decides { IfOk result (MeetsRow turn.now (λ rooms. row_of_acceptance turn.now rooms answered.now
-        (walk_on pieces authority name))) }
+/// Puts the ask last, if any.
+fn put_next<A: Allocator + Copy>(
+    alloc: A,
+    actions: &mut Actions<A>,
+    next: &Option<Ask<A>>,
+) -> Result<(), AllocError>
+    ensures { IfOk result (λ _. actions_of actions.new ≡ actions_of actions.old ++ map asks (ask_list next.now)) }
 {
-    let walked = pieces.as_slice().len();
-    let held = held_from(turn.alloc, pieces, authority, turn.moment)?;
-    let waiting = turn.kept.waiting.for_ask(answered);
-    let lead = AliasLead {
-        aliases: &held[..walked],
-        name: &name,
-    };
-    let fates = fates_of(turn, &lead, &waiting)?;
-    let (fates, next) = ask_next(turn, answered, fates)?;
-    close_and_send_on(turn, answered, fates, next, held)
+    if let Some(next) = next {
+        let action = ask_action(alloc, next)?;
+        actions.push(action)?;
+    }
+    Ok(())
 }

@@ -16,21 +16,22 @@ use step_texts::failure;
 use step_values::Why;
 use waiting_questions::Waiting;
 
-/// The path of the oldest question's ask, if no further question waits for it.
-fn left_alone<H: BuildHasher + Drop, A: Allocator + Copy>(
+/// Decides on passing time, for the oldest question or the oldest ask, whichever is due first.
+pub fn on_tick<'s, H: BuildHasher + Drop, A: Allocator + Copy>(
     turn: &TurnRef<'_, H, A>,
-    oldest: &Waiting<A>,
-) -> Option<Path>
-    ensures { result ≡ closed_path (left_alone oldest.now.wanted
-        (drop 1 turn.now.state.waiting) turn.now.state.asks) }
+) -> Result<Decision<'s, A>, AllocError>
+    ensures decides { IfOk result (MeetsStep turn.now (row_of_tick turn.now)) }
+    ensures early { is_due_at turn.now.config turn.now.moment turn.now.state ≡ false → IsQuiet result }
 {
-    if turn.kept.waiting.is_any_other_for(oldest.wanted()) {
-        return None;
+    let Some(due) = first_due(turn.config, &turn.kept.waiting, &turn.kept.inquiries) else {
+        return Ok(nothing(turn));
+    };
+    if turn.moment < due.moment {
+        return Ok(nothing(turn));
     }
-    let key = QuestionKey::of(oldest.wanted());
-    match turn.kept.inquiries.by_question(&key) {
-        Some(ask) => Some(ask.path),
-        None => None,
+    match due.oldest {
+        Oldest::Question(oldest) => expire(turn, oldest),
+        Oldest::Ask(oldest) => fail(turn, oldest, Failure::TimedOut),
     }
 }
 
@@ -52,21 +53,20 @@ fn expire<'s, H: BuildHasher + Drop, A: Allocator + Copy>(
     Ok(Decision::without_cache(turn.alloc, actions, Change::Expire(closed)))
 }
 
-/// Decides on passing time, for the oldest question or the oldest ask, whichever is due first.
-pub fn on_tick<'s, H: BuildHasher + Drop, A: Allocator + Copy>(
+/// The path of the oldest question's ask, if no further question waits for it.
+fn left_alone<H: BuildHasher + Drop, A: Allocator + Copy>(
     turn: &TurnRef<'_, H, A>,
-) -> Result<Decision<'s, A>, AllocError>
-    ensures decides { IfOk result (MeetsStep turn.now (row_of_tick turn.now)) }
-    ensures early { is_due_at turn.now.config turn.now.moment turn.now.state ≡ false → IsQuiet result }
+    oldest: &Waiting<A>,
+) -> Option<Path>
+    ensures { result ≡ closed_path (left_alone oldest.now.wanted
+        (drop 1 turn.now.state.waiting) turn.now.state.asks) }
 {
-    let Some(due) = first_due(turn.config, &turn.kept.waiting, &turn.kept.inquiries) else {
-        return Ok(nothing(turn));
-    };
-    if turn.moment < due.moment {
-        return Ok(nothing(turn));
+    if turn.kept.waiting.is_any_other_for(oldest.wanted()) {
+        return None;
     }
-    match due.oldest {
-        Oldest::Question(oldest) => expire(turn, oldest),
-        Oldest::Ask(oldest) => fail(turn, oldest, Failure::TimedOut),
+    let key = QuestionKey::of(oldest.wanted());
+    match turn.kept.inquiries.by_question(&key) {
+        Some(ask) => Some(ask.path),
+        None => None,
     }
 }

@@ -14,23 +14,6 @@ use std::alloc::{AllocError, Allocator};
 use std::hash::BuildHasher;
 use suffix_routes::{Config, Peer, RouteId};
 
-/// The servers of a route, in the order of the configuration.
-fn group<A: Allocator>(config: &Config<A>, route: RouteId) -> &[Peer]
-    ensures { result.now ≡ servers_in (group_of config.now route) }
-{
-    match config.routes.as_slice().get(route.place) {
-        Some(route) => route.servers.as_slice(),
-        None => &[],
-    }
-}
-
-/// The server at a place of a route's group.
-fn server_at<A: Allocator>(config: &Config<A>, route: RouteId, place: usize) -> Option<Peer>
-    ensures { result ≡ peer_at config.now route place }
-{
-    group(config, route).get(place).copied()
-}
-
 /// The identifier of the first word, and the number of the next connection: the count of asks by
 /// TCP before. `None` for the last number, which is never given.
 pub fn draw_connection(words: [u32; 8], count: u64) -> Option<(u16, u64)>
@@ -121,5 +104,22 @@ pub fn plan<A: Allocator>(config: &Config<A>, ask: &Ask<A>) -> Plan
         used: ask.used,
         server: ask.server as u8,
         tcp: matches!(ask.path, Path::Tcp(_)),
+    }
+}
+
+/// The server at a place of a route's group.
+fn server_at<A: Allocator>(config: &Config<A>, route: RouteId, place: usize) -> Option<Peer>
+    ensures { result ≡ peer_at config.now route place }
+{
+    group(config, route).get(place).copied()
+}
+
+/// The servers of a route, in the order of the configuration.
+fn group<A: Allocator>(config: &Config<A>, route: RouteId) -> &[Peer]
+    ensures { result.now ≡ servers_in (group_of config.now route) }
+{
+    match config.routes.as_slice().get(route.place) {
+        Some(route) => route.servers.as_slice(),
+        None => &[],
     }
 }

@@ -28,22 +28,6 @@ pub struct Due<'a, A: Allocator = Global> {
     pub moment: u64,
 }
 
-/// The moment from which a reply to the ask is late, in milliseconds.
-fn timeout<A: Allocator>(config: &Config<A>, ask: &Ask<A>) -> u64
-    requires { timeout_of config.now ask.now < 2 ^ 64 }
-    ensures { result ≡ timeout_of config.now ask.now }
-{
-    ask.asked + config.limits.ask_ms
-}
-
-/// The moment from which the question has waited as long as it may, in milliseconds.
-fn deadline<A: Allocator>(config: &Config<A>, waiting: &Waiting<A>) -> u64
-    requires { deadline_of config.now waiting.now < 2 ^ 64 }
-    ensures { result ≡ deadline_of config.now waiting.now }
-{
-    waiting.taken + config.limits.deadline_ms
-}
-
 /// Whether a delivery at this moment, in milliseconds, is in time for the ask.
 pub fn is_live<A: Allocator>(config: &Config<A>, moment: u64, ask: &Ask<A>) -> bool
     requires { timeout_of config.now ask.now < 2 ^ 64 }
@@ -92,4 +76,20 @@ pub fn first_due<'a, A: Allocator>(
             }
         }
     }
+}
+
+/// The moment from which a reply to the ask is late, in milliseconds.
+fn timeout<A: Allocator>(config: &Config<A>, ask: &Ask<A>) -> u64
+    requires { timeout_of config.now ask.now < 2 ^ 64 }
+    ensures { result ≡ timeout_of config.now ask.now }
+{
+    ask.asked + config.limits.ask_ms
+}
+
+/// The moment from which the question has waited as long as it may, in milliseconds.
+fn deadline<A: Allocator>(config: &Config<A>, waiting: &Waiting<A>) -> u64
+    requires { deadline_of config.now waiting.now < 2 ^ 64 }
+    ensures { result ≡ deadline_of config.now waiting.now }
+{
+    waiting.taken + config.limits.deadline_ms
 }

@@ -25,6 +25,54 @@ use step_values::{Action, Actions, Why};
 use trust_rank::MOST_ALIASES;
 use waiting_questions::Waiting;
 
+/// Closes the ask, whose question has no try left; each question waiting for it gets its last
+/// reply.
+pub fn last_replies<'a, H: BuildHasher + Drop, A: Allocator + Copy>(
+    turn: &TurnRef<'a, H, A>,
+    ask: &KeyedAsk<A>,
+) -> Result<Actions<A>, AllocError>
+    ensures { IfOk result (λ actions. actions_of actions ≡ with_replies
+        (runs_out turn.now.config turn.now.moment turn.now.state.cache.entries ask.now.question)
+        (closes ask.now.path ∷ []) turn.now.state.waiting) }
+{
+    let mut actions = Actions::one(turn.alloc, close_path(ask.ask().path));
+    let those = turn.kept.waiting.for_ask(ask);
+    for place in 0..those.len() {
+        put_last(turn, &mut actions, those.get(place))?;
+    }
+    Ok(actions)
+}
+
+/// Puts the last reply to a question last.
+fn put_last<'a, H: BuildHasher + Drop, A: Allocator + Copy>(
+    turn: &TurnRef<'a, H, A>,
+    actions: &mut Actions<A>,
+    waiting: &Waiting<A>,
+) -> Result<(), AllocError>
+    requires { AllByRecursion (IsEarlier turn.now.moment) waiting.now.held }
+    ensures { IfOk result (λ _. actions_of actions.new ≡ actions_of actions.old ++ told_past turn.now.moment
+        waiting.now (found_past turn.now.config turn.now.moment turn.now.state.cache.entries waiting.now) ∷ []) }
+{
+    let action = last_reply(turn, waiting)?;
+    actions.push(action)
+}
+
+/// The last reply to a question.
+fn last_reply<'a, H: BuildHasher + Drop, A: Allocator + Copy>(
+    turn: &TurnRef<'a, H, A>,
+    waiting: &Waiting<A>,
+) -> Result<Action<A>, AllocError>
+    requires { AllByRecursion (IsEarlier turn.now.moment) waiting.now.held }
+    ensures { IfOk result (λ action. action_of action ≡ told_past turn.now.moment waiting.now
+        (found_past turn.now.config turn.now.moment turn.now.state.cache.entries waiting.now)) }
+{
+    let request = waiting.request();
+    match found_past(turn, waiting)? {
+        Some(found) => stale_answer(turn.alloc, &request, waiting.aliases(), &found, turn.moment),
+        None => failure(turn.alloc, &request, Why::Exhausted),
+    }
+}
+
 /// The entries for a question, alive or expired within the configured window: aliases, as many as
 /// the question may still take, and a set. Without a window nothing is looked up.
 fn found_past<'a, H: BuildHasher + Drop, A: Allocator + Copy>(
@@ -50,52 +98,4 @@ fn found_past<'a, H: BuildHasher + Drop, A: Allocator + Copy>(
         u64::from(window),
         most,
     )
-}
-
-/// The last reply to a question.
-fn last_reply<'a, H: BuildHasher + Drop, A: Allocator + Copy>(
-    turn: &TurnRef<'a, H, A>,
-    waiting: &Waiting<A>,
-) -> Result<Action<A>, AllocError>
-    requires { AllByRecursion (IsEarlier turn.now.moment) waiting.now.held }
-    ensures { IfOk result (λ action. action_of action ≡ told_past turn.now.moment waiting.now
-        (found_past turn.now.config turn.now.moment turn.now.state.cache.entries waiting.now)) }
-{
-    let request = waiting.request();
-    match found_past(turn, waiting)? {
-        Some(found) => stale_answer(turn.alloc, &request, waiting.aliases(), &found, turn.moment),
-        None => failure(turn.alloc, &request, Why::Exhausted),
-    }
-}
-
-/// Puts the last reply to a question last.
-fn put_last<'a, H: BuildHasher + Drop, A: Allocator + Copy>(
-    turn: &TurnRef<'a, H, A>,
-    actions: &mut Actions<A>,
-    waiting: &Waiting<A>,
-) -> Result<(), AllocError>
-    requires { AllByRecursion (IsEarlier turn.now.moment) waiting.now.held }
-    ensures { IfOk result (λ _. actions_of actions.new ≡ actions_of actions.old ++ told_past turn.now.moment
-        waiting.now (found_past turn.now.config turn.now.moment turn.now.state.cache.entries waiting.now) ∷ []) }
-{
-    let action = last_reply(turn, waiting)?;
-    actions.push(action)
-}
-
-/// Closes the ask, whose question has no try left; each question waiting for it gets its last
-/// reply.
-pub fn last_replies<'a, H: BuildHasher + Drop, A: Allocator + Copy>(
-    turn: &TurnRef<'a, H, A>,
-    ask: &KeyedAsk<A>,
-) -> Result<Actions<A>, AllocError>
-    ensures { IfOk result (λ actions. actions_of actions ≡ with_replies
-        (runs_out turn.now.config turn.now.moment turn.now.state.cache.entries ask.now.question)
-        (closes ask.now.path ∷ []) turn.now.state.waiting) }
-{
-    let mut actions = Actions::one(turn.alloc, close_path(ask.ask().path));
-    let those = turn.kept.waiting.for_ask(ask);
-    for place in 0..those.len() {
-        put_last(turn, &mut actions, those.get(place))?;
-    }
-    Ok(actions)
 }

@@ -40,19 +40,6 @@ pub fn close_paths<A: Allocator + Copy>(alloc: A, closed: Option<Path>) -> Actio
     }
 }
 
-/// Puts the failure of a question last.
-fn put_failure<A: Allocator + Copy>(
-    alloc: A,
-    actions: &mut Actions<A>,
-    waiting: &Waiting<A>,
-    why: Why,
-) -> Result<(), AllocError>
-    ensures { IfOk result (λ _. actions_of actions.new ≡ actions_of actions.old ++ gives_up why waiting.now ∷ []) }
-{
-    let action = failure(alloc, &waiting.request(), why)?;
-    actions.push(action)
-}
-
 /// Closes the ask; each question waiting for it fails.
 pub fn failures<A: Allocator + Copy>(
     alloc: A,
@@ -69,70 +56,6 @@ pub fn failures<A: Allocator + Copy>(
         put_failure(alloc, &mut actions, those.get(place), why)?;
     }
     Ok(actions)
-}
-
-/// The answer of a question from the aliases that it holds and the chain of these answers, or the
-/// failure that it would hold too many aliases.
-fn answer_or_fail<'a, A: Allocator + Copy>(
-    alloc: A,
-    answers: &mut Answers<'a, A>,
-    waiting: &'a Waiting<A>,
-) -> Result<Action<A>, AllocError>
-    requires { AllByRecursion (IsEarlier answers.old.moment) waiting.now.held }
-    ensures same { answers.new ≡ answers.old }
-    ensures told { IfOk result (λ action. action_of action ≡ told_from answers.old waiting.now) }
-{
-    if waiting.aliases().len().saturating_add(answers.pieces()) > MOST_ALIASES + 1 {
-        return failure(alloc, &waiting.request(), Why::ChainLong);
-    }
-    answers.reply(waiting)
-}
-
-/// Puts the answer of a question last.
-fn put_answer<'a, A: Allocator + Copy>(
-    alloc: A,
-    actions: &mut Actions<A>,
-    answers: &mut Answers<'a, A>,
-    waiting: &'a Waiting<A>,
-) -> Result<(), AllocError>
-    requires { AllByRecursion (IsEarlier answers.old.moment) waiting.now.held }
-    ensures same { answers.new ≡ answers.old }
-    ensures put { IfOk result (λ _. actions_of actions.new ≡ actions_of actions.old ++ told_from answers.old waiting.now
-        ∷ []) }
-{
-    let action = answer_or_fail(alloc, answers, waiting)?;
-    actions.push(action)
-}
-
-/// Puts the answers of the questions waiting for this ask's question last, in order.
-fn put_answers<'a, A: Allocator + Copy>(
-    alloc: A,
-    actions: &mut Actions<A>,
-    ask: &KeyedAsk<A>,
-    answers: &mut Answers<'a, A>,
-    waiting: &'a WaitingQuestions<A>,
-) -> Result<(), AllocError>
-    requires { AllByRecursion (HoldsEarlier answers.old.moment) waiting.now.items }
-    ensures { IfOk result (λ _. actions_of actions.new ≡ with_replies (gives_from answers.old ask.now.question)
-        (actions_of actions.old) waiting.now.items) }
-{
-    let those = waiting.for_ask(ask);
-    for place in 0..those.len() {
-        put_answer(alloc, actions, answers, those.get(place))?;
-    }
-    Ok(())
-}
-
-/// Entries, borrowed. Not by `collect`, which would go on with less room after a refused
-/// allocation.
-fn borrowed<A: Allocator + Copy>(alloc: A, held: &[Held<A>]) -> Result<Vec<&Held<A>, A>, AllocError>
-    ensures { IfOk result (λ refs. lent refs.items ≡ held.now) }
-{
-    let mut refs = Vec::with_capacity(alloc, held.len())?;
-    for entry in held {
-        refs.push(entry)?;
-    }
-    Ok(refs)
 }
 
 /// Closes the ask, and answers each question waiting for it, from its held aliases and these
@@ -156,4 +79,81 @@ pub fn answers_to<A: Allocator + Copy>(
     let mut actions = Actions::one(alloc, close_path(ask.ask().path));
     put_answers(alloc, &mut actions, ask, &mut answers, waiting)?;
     Ok(actions)
+}
+
+/// Puts the failure of a question last.
+fn put_failure<A: Allocator + Copy>(
+    alloc: A,
+    actions: &mut Actions<A>,
+    waiting: &Waiting<A>,
+    why: Why,
+) -> Result<(), AllocError>
+    ensures { IfOk result (λ _. actions_of actions.new ≡ actions_of actions.old ++ gives_up why waiting.now ∷ []) }
+{
+    let action = failure(alloc, &waiting.request(), why)?;
+    actions.push(action)
+}
+
+/// Entries, borrowed. Not by `collect`, which would go on with less room after a refused
+/// allocation.
+fn borrowed<A: Allocator + Copy>(alloc: A, held: &[Held<A>]) -> Result<Vec<&Held<A>, A>, AllocError>
+    ensures { IfOk result (λ refs. lent refs.items ≡ held.now) }
+{
+    let mut refs = Vec::with_capacity(alloc, held.len())?;
+    for entry in held {
+        refs.push(entry)?;
+    }
+    Ok(refs)
+}
+
+/// Puts the answers of the questions waiting for this ask's question last, in order.
+fn put_answers<'a, A: Allocator + Copy>(
+    alloc: A,
+    actions: &mut Actions<A>,
+    ask: &KeyedAsk<A>,
+    answers: &mut Answers<'a, A>,
+    waiting: &'a WaitingQuestions<A>,
+) -> Result<(), AllocError>
+    requires { AllByRecursion (HoldsEarlier answers.old.moment) waiting.now.items }
+    ensures { IfOk result (λ _. actions_of actions.new ≡ with_replies (gives_from answers.old ask.now.question)
+        (actions_of actions.old) waiting.now.items) }
+{
+    let those = waiting.for_ask(ask);
+    for place in 0..those.len() {
+        put_answer(alloc, actions, answers, those.get(place))?;
+    }
+    Ok(())
+}
+
+/// Puts the answer of a question last.
+fn put_answer<'a, A: Allocator + Copy>(
+    alloc: A,
+    actions: &mut Actions<A>,
+    answers: &mut Answers<'a, A>,
+    waiting: &'a Waiting<A>,
+) -> Result<(), AllocError>
+    requires { AllByRecursion (IsEarlier answers.old.moment) waiting.now.held }
+    ensures same { answers.new ≡ answers.old }
+    ensures put { IfOk result (λ _. actions_of actions.new ≡ actions_of actions.old ++ told_from answers.old waiting.now
+        ∷ []) }
+{
+    let action = answer_or_fail(alloc, answers, waiting)?;
+    actions.push(action)
+}
+
+/// The answer of a question from the aliases that it holds and the chain of these answers, or the
+/// failure that it would hold too many aliases.
+fn answer_or_fail<'a, A: Allocator + Copy>(
+    alloc: A,
+    answers: &mut Answers<'a, A>,
+    waiting: &'a Waiting<A>,
+) -> Result<Action<A>, AllocError>
+    requires { AllByRecursion (IsEarlier answers.old.moment) waiting.now.held }
+    ensures same { answers.new ≡ answers.old }
+    ensures told { IfOk result (λ action. action_of action ≡ told_from answers.old waiting.now) }
+{
+    if waiting.aliases().len().saturating_add(answers.pieces()) > MOST_ALIASES + 1 {
+        return failure(alloc, &waiting.request(), Why::ChainLong);
+    }
+    answers.reply(waiting)
 }
