@@ -1,5 +1,5 @@
 pub mod Following
-pub mod PastEnds
+pub mod StaleLookUps
 pub mod Alike
 pub mod Holding
 pub mod CallerLemmas

@@ -7,8 +7,8 @@ mod laws;
 mod looked;
 mod looking;
 mod offers;
-mod past_ends;
 mod slots;
+mod stale_look_up;
 mod trail;
 
 pub use chain::copies;
@@ -16,5 +16,5 @@ pub use laws::same_questions_are_looked_up_alike;
 pub use looked::{LookUp, LookUpEnd};
 pub use looking::look_up;
 pub use offers::{held_from, offer_all};
-pub use past_ends::look_up_past;
 pub use slots::{Slots, promote_all};
+pub use stale_look_up::look_up_stale;

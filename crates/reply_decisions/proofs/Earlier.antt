@@ -9,7 +9,7 @@ use Rattle.waiting_questions.specs.Values.{Waiting}
 use Rattle.alias_chains.specs.LookingUp.{LookUp}
 use Rattle.alias_chains.specs.Looked.{chain_of}
 use Rattle.alias_chains.proofs.CallerLemmas.{look_up_holds, held_holds}
-use Rattle.step_table.specs.State.{Turn}
+use Rattle.step_table.specs.State.{StepStart}
 use Rattle.step_table.specs.Steps.{Fate, gets, waits}
 use Rattle.step_table.specs.Replies.{without_port}
 use Rattle.step_table.specs.Clients.{fate_of}
@@ -18,7 +18,7 @@ use Rattle.reply_decisions.proofs.Going.{all_append, waits_with_it}
 
 module _ (P : Held → Type 0) where
   -- the chain of a look-up that goes on after the aliases of a reply
-  pub looked_holds : (t : Turn) (aliases : List Held) (name : List (List ℕ)) (x : Waiting) → AllByRecursion P t.state.cache.entries
+  pub looked_holds : (t : StepStart) (aliases : List Held) (name : List (List ℕ)) (x : Waiting) → AllByRecursion P t.state.cache.entries
       → AllByRecursion P aliases → AllByRecursion P x.held → AllByRecursion P (chain_of (looked_on t aliases name x))
   looked_holds t aliases name x entries lead own =
       look_up_holds P t.config.routes t.moment t.state.cache.entries entries (x.held ++ aliases) (asked_at x.wanted name)
@@ -28,7 +28,7 @@ module _ (P : Held → Type 0) where
   abbrev pub Holds : (Waiting → Fate) → Type 0
   Holds fate = (x y : Waiting) → AllByRecursion P x.held → fate x ≡ waits y → AllByRecursion P y.held
 
-  pub behind_holds : (t : Turn) (aliases : List Held) (name : List (List ℕ)) → AllByRecursion P t.state.cache.entries → AllByRecursion P aliases
+  pub behind_holds : (t : StepStart) (aliases : List Held) (name : List (List ℕ)) → AllByRecursion P t.state.cache.entries → AllByRecursion P aliases
       → Holds (λ x. fate_of t.config t.moment x (looked_on t aliases name x))
   behind_holds t aliases name entries lead = λ x y own is.
       let l = looked_on t aliases name x in

@@ -8,7 +8,7 @@ use Rattle.step_values.specs.Values.{action_of}
 use Rattle.waiting_questions.specs.Values.{Waiting, waits_for}
 use Rattle.waiting_questions.specs.Onward.{Onward, sent_on}
 use Rattle.alias_chains.specs.LookingUp.{LookUp, goes_on}
-use Rattle.step_table.specs.State.{Turn}
+use Rattle.step_table.specs.State.{StepStart}
 use Rattle.step_table.specs.Steps.{Fate, gets, waits}
 use Rattle.reply_decisions.specs.declared.fate.WaitingFate.{WaitingFate}
 use Rattle.reply_decisions.specs.declared.fate.WaitingFate.TheVariants.{Reply, SentOn}
@@ -34,7 +34,7 @@ first_wanted [] = None
 first_wanted (y ∷ ys) = Some y.wanted
 
 -- the look-up of a question that goes on after the aliases of a reply, which lead to this name
-abbrev pub looked_on : Turn → List Held → List (List ℕ) → Waiting → LookUp
+abbrev pub looked_on : StepStart → List Held → List (List ℕ) → Waiting → LookUp
 looked_on t aliases name x =
     goes_on t.config.routes t.moment t.state.cache.entries (x.held ++ aliases) (asked_at x.wanted name)
 

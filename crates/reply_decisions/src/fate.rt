@@ -17,7 +17,7 @@ use dns_name::Name;
 use record_cache::Held;
 use std::alloc::{AllocError, Allocator, Global};
 use std::hash::BuildHasher;
-use step_actions::{Fate, TurnRef, fate_of, sent_on};
+use step_actions::{Fate, StepStartRef, fate_of, sent_on};
 use step_texts::failure;
 use step_values::{Action, Why};
 use waiting_questions::{SentOn, Waiting};
@@ -79,19 +79,19 @@ pub(crate) enum WaitingFate<'a, A: Allocator = Global> {
 /// The fate of a question by its look-up, which went on after its own aliases and those of the
 /// reply.
 pub(crate) fn fate_after<'a, H: BuildHasher + Drop, A: Allocator + Copy>(
-    turn: &TurnRef<'_, H, A>,
+    start: &StepStartRef<'_, H, A>,
     waiting: &'a Waiting<A>,
     looked: &LookUp<'_, '_, A>,
 ) -> Result<WaitingFate<'a, A>, AllocError>
-    requires { AllByRecursion (IsEarlier turn.now.moment) (chain_of looked.now) }
+    requires { AllByRecursion (IsEarlier start.now.moment) (chain_of looked.now) }
     ensures { IfOk result (λ fate. fate_now fate
-        ≡ fate_of turn.now.config turn.now.moment waiting.now looked.now) }
+        ≡ fate_of start.now.config start.now.moment waiting.now looked.now) }
 {
-    let fate = fate_of(turn, &waiting.request(), looked)?;
+    let fate = fate_of(start, &waiting.request(), looked)?;
     match fate {
         Fate::Reply(action) => Ok(WaitingFate::Reply(action)),
         Fate::Waits(_) => {
-            let sent_on = sent_on(turn.alloc, looked)?;
+            let sent_on = sent_on(start.alloc, looked)?;
             Ok(WaitingFate::SentOn(waiting, sent_on))
         }
     }

@@ -16,7 +16,7 @@ use record_cache::LookUpSlot;
 use std::alloc::{AllocError, Allocator, Global};
 use std::hash::BuildHasher;
 use std::marker::Model;
-use step_actions::TurnRef;
+use step_actions::StepStartRef;
 use step_values::Actions;
 use trust_rank::Slot;
 use waiting_questions::{SentOn, Waiting, WaitingFor};
@@ -41,23 +41,23 @@ impl<'a, A: Allocator> Model for Fates<'a, A> {
 /// The fates of the questions that waited for a reply which leads on: each is looked up at the name
 /// that it leads to, in the cache as the step finds it, one after another.
 pub fn fates_of<'a, H: BuildHasher + Drop, A: Allocator + Copy>(
-    turn: &TurnRef<'_, H, A>,
+    start: &StepStartRef<'_, H, A>,
     lead: &AliasLead<'_, A>,
     waiting: &WaitingFor<'a, A>,
 ) -> Result<Fates<'a, A>, AllocError>
-    requires aliases { AllByRecursion (IsEarlier turn.now.moment) lead.now.aliases.now }
-    requires own { AllByRecursion (λ x. AllByRecursion (IsEarlier turn.now.moment) x.held) waiting.now }
-    ensures each { IfOk result (λ f. f.each ≡ map (λ x. fate_of turn.now.config turn.now.moment x
-        (looked_on turn.now lead.now.aliases.now lead.now.name.now x)) waiting.now) }
+    requires aliases { AllByRecursion (IsEarlier start.now.moment) lead.now.aliases.now }
+    requires own { AllByRecursion (λ x. AllByRecursion (IsEarlier start.now.moment) x.held) waiting.now }
+    ensures each { IfOk result (λ f. f.each ≡ map (λ x. fate_of start.now.config start.now.moment x
+        (looked_on start.now lead.now.aliases.now lead.now.name.now x)) waiting.now) }
     ensures used { IfOk result (λ f. f.used
-        ≡ flat_map (λ x. (looked_on turn.now lead.now.aliases.now lead.now.name.now x).used) waiting.now) }
+        ≡ flat_map (λ x. (looked_on start.now lead.now.aliases.now lead.now.name.now x).used) waiting.now) }
 {
     let mut fates = Fates {
-        each: Vec::with_capacity(turn.alloc, waiting.len())?,
-        used: Vec::new(turn.alloc),
+        each: Vec::with_capacity(start.alloc, waiting.len())?,
+        used: Vec::new(start.alloc),
     };
     for place in 0..waiting.len() {
-        fates.add(turn, lead, waiting.get(place))?;
+        fates.add(start, lead, waiting.get(place))?;
     }
     Ok(fates)
 }
@@ -66,22 +66,22 @@ impl<'a, A: Allocator + Copy> Fates<'a, A> {
     /// Looks one more question up, and puts its fate last.
     fn add<H: BuildHasher + Drop>(
         &mut self,
-        turn: &TurnRef<'_, H, A>,
+        start: &StepStartRef<'_, H, A>,
         lead: &AliasLead<'_, A>,
         waiting: &'a Waiting<A>,
     ) -> Result<(), AllocError>
-        requires aliases { AllByRecursion (IsEarlier turn.now.moment) lead.now.aliases.now }
-        requires own { AllByRecursion (IsEarlier turn.now.moment) waiting.now.held }
-        ensures each { IfOk result (λ _. self.new.each ≡ self.old.each ++ fate_of turn.now.config turn.now.moment
-            waiting.now (looked_on turn.now lead.now.aliases.now lead.now.name.now waiting.now) ∷ []) }
+        requires aliases { AllByRecursion (IsEarlier start.now.moment) lead.now.aliases.now }
+        requires own { AllByRecursion (IsEarlier start.now.moment) waiting.now.held }
+        ensures each { IfOk result (λ _. self.new.each ≡ self.old.each ++ fate_of start.now.config start.now.moment
+            waiting.now (looked_on start.now lead.now.aliases.now lead.now.name.now waiting.now) ∷ []) }
         ensures used { IfOk result (λ _. self.new.used ≡ self.old.used
-            ++ (looked_on turn.now lead.now.aliases.now lead.now.name.now waiting.now).used) }
+            ++ (looked_on start.now lead.now.aliases.now lead.now.name.now waiting.now).used) }
     {
         let mut slot = LookUpSlot::new();
-        let held = lead.chain(turn.alloc, waiting)?;
+        let held = lead.chain(start.alloc, waiting)?;
         let question = lead.question(waiting);
-        let looked = look_up(turn.alloc, &turn.cache_at(), &mut slot, held, &question)?;
-        let fate = fate_after(turn, waiting, &looked)?;
+        let looked = look_up(start.alloc, &start.cache_at(), &mut slot, held, &question)?;
+        let fate = fate_after(start, waiting, &looked)?;
         self.put(fate, &looked.into_slots())
     }
 

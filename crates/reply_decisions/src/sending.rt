@@ -22,7 +22,7 @@ ghost use Rattle.alias_chains.specs.Offering.{pieces_of};
 ghost use Rattle.reply_decisions.specs.Fates.{onward_of, AreFates};
 ghost use Rattle.reply_decisions.specs.Sending.{ask_for, asked_for, closing_state, fates_then};
 ghost use Rattle.reply_decisions.specs.Walked.{walk_on, IsWalkFor};
-ghost use Rattle.step_table.specs.State.{turn, from_state};
+ghost use Rattle.step_table.specs.State.{start, from_state};
 
 use crate::fate::AliasLead;
 use crate::fates::{Fates, fates_of};
@@ -35,7 +35,8 @@ use record_cache::Held;
 use std::alloc::{AllocError, Allocator};
 use std::hash::BuildHasher;
 use step_actions::{
-    Attempt, Change, Decision, Preferred, Sending, TurnRef, by_udp, close_path, freed_port, new_ask,
+    Attempt, Change, Decision, Preferred, Sending, StepStartRef, by_udp, close_path, freed_port,
+    new_ask,
 };
 use step_texts::ask as ask_action;
 use step_values::Actions;
@@ -45,68 +46,68 @@ use trust_rank::Piece;
 /// Accepts a reply with these pieces that leads on to a name. Each question that waits for it is
 /// looked up there, and gets its reply or waits on. The pieces are kept.
 pub(crate) fn send_on<'s, H: BuildHasher + Drop, A: Allocator + Copy>(
-    turn: &TurnRef<'_, H, A>,
+    start: &StepStartRef<'_, H, A>,
     answered: &KeyedAsk<A>,
     pieces: PlainList<Piece<A>, A>,
     authority: PlainList<Piece<A>, A>,
     name: Name<A>,
 ) -> Result<Decision<'s, A>, AllocError>
-    requires on { ask_on answered.now.path turn.now.state.asks ≡ Some answered.now }
-    requires carried { IsWalkFor turn.now.config answered.now (walk_on pieces authority name) }
-    ensures decides { IfOk result (MeetsRow turn.now (λ rooms. row_of_acceptance turn.now rooms answered.now
+    requires on { ask_on answered.now.path start.now.state.asks ≡ Some answered.now }
+    requires carried { IsWalkFor start.now.config answered.now (walk_on pieces authority name) }
+    ensures decides { IfOk result (MeetsRow start.now (λ rooms. row_of_acceptance start.now rooms answered.now
         (walk_on pieces authority name))) }
 {
     let walked = pieces.as_slice().len();
-    let held = held_from(turn.alloc, pieces, authority, turn.moment)?;
-    let waiting = turn.kept.waiting.for_ask(answered);
+    let held = held_from(start.alloc, pieces, authority, start.moment)?;
+    let waiting = start.kept.waiting.for_ask(answered);
     let lead = AliasLead {
         aliases: &held[..walked],
         name: &name,
     };
-    let fates = fates_of(turn, &lead, &waiting)?;
-    let (fates, next) = ask_next(turn, answered, fates)?;
-    close_and_send_on(turn, answered, fates, next, held)
+    let fates = fates_of(start, &lead, &waiting)?;
+    let (fates, next) = ask_next(start, answered, fates)?;
+    close_and_send_on(start, answered, fates, next, held)
 }
 
 /// The ask for the question of those that are sent on, if none is listed. If no port is free for
 /// it, they fail.
 fn ask_next<'a, H: BuildHasher + Drop, A: Allocator + Copy>(
-    turn: &TurnRef<'_, H, A>,
+    start: &StepStartRef<'_, H, A>,
     answered: &KeyedAsk<A>,
     fates: Fates<'a, A>,
 ) -> Result<(Fates<'a, A>, Option<Ask<A>>), AllocError>
-    requires on { ask_on answered.now.path turn.now.state.asks ≡ Some answered.now }
+    requires on { ask_on answered.now.path start.now.state.asks ≡ Some answered.now }
     ensures ask { IfOk result (λ parts. parts.1 ≡ ask_for
-        (from_state (closing_state answered.now turn.now.state) turn.now)
-        (asked_for answered.now turn.now.state fates.entry.each)) }
+        (from_state (closing_state answered.now start.now.state) start.now)
+        (asked_for answered.now start.now.state fates.entry.each)) }
     ensures fates { IfOk result (λ parts. parts.0.each ≡ fates_then
-        (asked_for answered.now turn.now.state fates.entry.each) parts.1 fates.entry.each) }
+        (asked_for answered.now start.now.state fates.entry.each) parts.1 fates.entry.each) }
     ensures used { IfOk result (λ parts. parts.0.used ≡ fates.entry.used) }
 {
     let Some(wanted) = fates.wanted() else {
         return Ok((fates, None));
     };
-    if is_asked_beside(turn, wanted, answered) {
+    if is_asked_beside(start, wanted, answered) {
         return Ok((fates, None));
     }
-    match first_ask_then(turn, answered, wanted)? {
+    match first_ask_then(start, answered, wanted)? {
         Some(next) => Ok((fates, Some(next))),
-        None => Ok((fates.without_port(turn.alloc)?, None)),
+        None => Ok((fates.without_port(start.alloc)?, None)),
     }
 }
 
 /// Whether an ask of the question other than the answered one is listed.
 fn is_asked_beside<H: BuildHasher + Drop, A: Allocator + Copy>(
-    turn: &TurnRef<'_, H, A>,
+    start: &StepStartRef<'_, H, A>,
     question: &Question<A>,
     answered: &KeyedAsk<A>,
 ) -> bool
-    requires { ask_on answered.now.path turn.now.state.asks ≡ Some answered.now }
-    ensures { result ≡ is_some (of_question question.now (without_path answered.now.path turn.now.state.asks)) }
+    requires { ask_on answered.now.path start.now.state.asks ≡ Some answered.now }
+    ensures { result ≡ is_some (of_question question.now (without_path answered.now.path start.now.state.asks)) }
 {
     let ask = answered.ask();
     let key = QuestionKey::of(question);
-    match turn.kept.inquiries.by_question(&key) {
+    match start.kept.inquiries.by_question(&key) {
         Some(open) => !open.path.is_same(ask.path),
         None => false,
     }
@@ -115,39 +116,39 @@ fn is_asked_beside<H: BuildHasher + Drop, A: Allocator + Copy>(
 /// The first ask for a question once this ask is answered, whose port counts as free. `None` if no
 /// route serves the name, or no port is free.
 fn first_ask_then<H: BuildHasher + Drop, A: Allocator + Copy>(
-    turn: &TurnRef<'_, H, A>,
+    start: &StepStartRef<'_, H, A>,
     answered: &KeyedAsk<A>,
     question: &Question<A>,
 ) -> Result<Option<Ask<A>>, AllocError>
-    requires { ask_on answered.now.path turn.now.state.asks ≡ Some answered.now }
+    requires { ask_on answered.now.path start.now.state.asks ≡ Some answered.now }
     ensures { IfOk result (λ ask. ask ≡ first_ask_for (from_state
-        (closing_state answered.now turn.now.state) turn.now) question.now) }
+        (closing_state answered.now start.now.state) start.now) question.now) }
 {
-    let Routing::Served(route) = turn.config.routing(&question.name) else {
+    let Routing::Served(route) = start.config.routing(&question.name) else {
         return Ok(None);
     };
     let attempt = Attempt {
         route,
-        server: preferred_then(turn, route, answered),
+        server: preferred_then(start, route, answered),
         used: 1,
     };
     let ask = answered.ask();
-    let drawn = by_udp(draw(turn.words, &turn.kept.inquiries, freed_port(ask.path)));
-    new_ask(turn, question, attempt, drawn)
+    let drawn = by_udp(draw(start.words, &start.kept.inquiries, freed_port(ask.path)));
+    new_ask(start, question, attempt, drawn)
 }
 
 /// The first server to ask on a route once this ask is answered.
 fn preferred_then<H: BuildHasher + Drop, A: Allocator + Copy>(
-    turn: &TurnRef<'_, H, A>,
+    start: &StepStartRef<'_, H, A>,
     route: RouteId,
     answered: &KeyedAsk<A>,
 ) -> usize
-    requires { ask_on answered.now.path turn.now.state.asks ≡ Some answered.now }
-    ensures { result ≡ preferred_on (with_preferred_server answered.now turn.now.state) route }
+    requires { ask_on answered.now.path start.now.state.asks ≡ Some answered.now }
+    ensures { result ≡ preferred_on (with_preferred_server answered.now start.now.state) route }
 {
     let ask = answered.ask();
     let own = ask.route;
-    let before = turn
+    let before = start
         .kept
         .preferred
         .as_slice()
@@ -163,28 +164,28 @@ fn preferred_then<H: BuildHasher + Drop, A: Allocator + Copy>(
 
 /// Closes the ask, gives the replies, and sends the next ask.
 fn close_and_send_on<'s, H: BuildHasher + Drop, A: Allocator + Copy>(
-    turn: &TurnRef<'_, H, A>,
+    start: &StepStartRef<'_, H, A>,
     answered: &KeyedAsk<A>,
     fates: Fates<'_, A>,
     next: Option<Ask<A>>,
     carried: Vec<Held<A>, A>,
 ) -> Result<Decision<'s, A>, AllocError>
-    requires on { ask_on answered.now.path turn.now.state.asks ≡ Some answered.now }
-    requires earlier { AllByRecursion (λ f. IsSentEarlier turn.now.moment (onward_of f)) fates.each }
-    requires follows { IfFollows turn.now.config turn.now.moment turn.now.state
-        (without_path answered.now.path turn.now.state.asks) next }
+    requires on { ask_on answered.now.path start.now.state.asks ≡ Some answered.now }
+    requires earlier { AllByRecursion (λ f. IsSentEarlier start.now.moment (onward_of f)) fates.each }
+    requires follows { IfFollows start.now.config start.now.moment start.now.state
+        (without_path answered.now.path start.now.state.asks) next }
     requires few { length (pieces_of carried.items) < 2 ^ 32 }
-    requires routed { AllByRecursion (IsRouted turn.now.config) (pieces_of carried.items) }
-    ensures decides { (fate : Waiting → Fate) → AreFates answered.now.question fate turn.now.state.waiting
+    requires routed { AllByRecursion (IsRouted start.now.config) (pieces_of carried.items) }
+    ensures decides { (fate : Waiting → Fate) → AreFates answered.now.question fate start.now.state.waiting
         fates.entry.each
-        → IfOk result (MeetsRow turn.now (λ rooms. offering_step turn.now.moment rooms (pieces_of carried.items)
-        (closing_step turn.now.moment answered.now fate next
-        (with_promoted fates.entry.used (with_preferred_server answered.now turn.now.state))))) }
+        → IfOk result (MeetsRow start.now (λ rooms. offering_step start.now.moment rooms (pieces_of carried.items)
+        (closing_step start.now.moment answered.now fate next
+        (with_promoted fates.entry.used (with_preferred_server answered.now start.now.state))))) }
 {
     let ask = answered.ask();
-    let mut actions = Actions::one(turn.alloc, close_path(ask.path));
-    let (onward, used) = fates.into_parts(turn.alloc, &mut actions)?;
-    put_next(turn.alloc, &mut actions, &next)?;
+    let mut actions = Actions::one(start.alloc, close_path(ask.path));
+    let (onward, used) = fates.into_parts(start.alloc, &mut actions)?;
+    put_next(start.alloc, &mut actions, &next)?;
     let preferred = Preferred {
         route: ask.route,
         server: ask.server,
@@ -195,7 +196,7 @@ fn close_and_send_on<'s, H: BuildHasher + Drop, A: Allocator + Copy>(
         onward,
         ask: next,
     };
-    let sending = Box::new(turn.alloc, sending)?;
+    let sending = Box::new(start.alloc, sending)?;
     Ok(Decision {
         actions,
         used,

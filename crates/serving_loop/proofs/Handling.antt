@@ -1,4 +1,4 @@
--- The effects of the parts of a round, put together.
+-- The effects of the parts of a turn, put together.
 use Rattle.std.proofs.Common.{◌≡◌, ◌∙◌, refl, sym, ap, subst, ℕ, zero, suc, ◌+◌, ◌*◌, ◌<◌, ◌≤◌, ◌⊎◌, inl, inr, List, [], ◌∷◌, ◌++◌, length, append_assoc, append-nil, Option, Some, None, Bool, true, false, arith}
 use Rattle.std.specs.Prelude.{option_map, map, IsSome}
 use Rattle.std.specs.List.{AllByRecursion}
@@ -14,11 +14,11 @@ use Rattle.step_table.specs.Row.{Row, is_due_at, effective}
 use Rattle.step_table.specs.Progress.{left_to_do, ServesSomething}
 use Rattle.theorem_sound.specs.Runs.{Run}
 use Rattle.serving_loop.specs.declared.counts.Served.{Served}
-use Rattle.wires.specs.Wire.{Told, Telling, Put, ◌then◌, TellsMore, moment_was, words_were}
+use Rattle.wires.specs.Wire.{Report, Journal, Put, ◌then◌, ReportsMore, moment_was, words_were}
 use Rattle.serving_loop.specs.Events.{Taken, PutsItsActions, step_in, steps_in, failed_of, more_in, joined, IsChain, AreTicks}
-use Rattle.serving_loop.specs.Serving.{Standing, Does, Adds, left, told_of_all, lost_in, refused_in}
-use Rattle.serving_loop.specs.Handing.{told_of_puts, Puts, most_left, IsOwn, StepsDown, Hands, HandsOn, Ticks}
-use Rattle.serving_loop.proofs.Telling.{tells_nothing, tells_on, told_append, adds_none, adds_more, lost_append, refused_append}
+use Rattle.serving_loop.specs.Serving.{Standing, Does, Adds, left, report_of_all, lost_in, refused_in}
+use Rattle.serving_loop.specs.Handing.{report_of_puts, Puts, most_left, IsOwn, StepsDown, Hands, HandsOn, Ticks}
+use Rattle.serving_loop.proofs.Journal.{reports_nothing, reports_on, report_append, adds_none, adds_more, lost_append, refused_append}
 use Rattle.serving_loop.proofs.Quiet.{IsIdle, quiet_tick, quiet_path}
 
 -- ---- one after another
@@ -36,7 +36,7 @@ does_nothing x = record {
   config = refl;
   run = refl;
   puts = tt;
-  told = tells_nothing x.told;
+  report = reports_nothing x.report;
   lost = adds_none _ _ refl;
   refused_puts = adds_none _ _ refl;
   turns = refl;
@@ -51,7 +51,7 @@ does_more x y z xs ys first more = record {
   run = subst (λ (steps : List Step). Run x.running.config x.running.state steps z.running.state) (sym (filter_map-append step_in xs ys))
       (run_append x.running.config x.running.state y.running.state z.running.state (steps_in xs) (steps_in ys) first.run (subst (λ (c : Config). Run c y.running.state (steps_in ys) z.running.state) first.config more.run));
   puts = all_append xs ys first.puts more.puts;
-  told = subst (λ (t : Told). TellsMore x.told t z.told) (sym (told_append xs ys)) (tells_on x.told y.told z.told (told_of_all xs) (told_of_all ys) first.told more.told);
+  report = subst (λ (t : Report). ReportsMore x.report t z.report) (sym (report_append xs ys)) (reports_on x.report y.report z.report (report_of_all xs) (report_of_all ys) first.report more.report);
   lost = λ le. let sum = lost_append xs ys in let both = adds_more x.counts.lost y.counts.lost z.counts.lost (lost_in xs) (lost_in ys) first.lost more.lost le in omega (arith, sum, both);
   refused_puts = λ le. let sum = refused_append xs ys in let both = adds_more x.counts.refused_puts y.counts.refused_puts z.counts.refused_puts (refused_in xs) (refused_in ys) first.refused_puts more.refused_puts le in omega (arith, sum, both);
   turns = more.turns ∙ first.turns;
@@ -97,18 +97,18 @@ own_falls c config' s s' now words tick o failed puts row same less is actions o
     by (inl due) = inl (less due)
     by (inr none) = let quiet = quiet_tick c s s' now words o row none in idle_down c (effective now s) s s' config' o tick failed puts o.more same quiet.0 is actions (λ _. quiet.1)
 
-tells_step : (o p q r : Telling) (now : ℕ) (words : List ℕ) (x : Taken) → x.handed.now ≡ now → x.handed.words ≡ words → TellsMore o (moment_was now) p → TellsMore p (words_were words) q → TellsMore q (told_of_puts x.puts) r → TellsMore o (told_of_all (x ∷ [])) r
-tells_step o p q r now words x same_now same_words a b c =
-    subst (λ (t : Told). TellsMore o t r) (λ i. record { arrivals = []; puts = sym (append-nil x.puts) i; moments = sym same_now i ∷ []; words = sym same_words i ∷ [] })
-    (tells_on o q r (moment_was now then words_were words) (told_of_puts x.puts) (tells_on o p q (moment_was now) (words_were words) a b) c)
+reports_step : (o p q r : Journal) (now : ℕ) (words : List ℕ) (x : Taken) → x.input.now ≡ now → x.input.words ≡ words → ReportsMore o (moment_was now) p → ReportsMore p (words_were words) q → ReportsMore q (report_of_puts x.puts) r → ReportsMore o (report_of_all (x ∷ [])) r
+reports_step o p q r now words x same_now same_words a b c =
+    subst (λ (t : Report). ReportsMore o t r) (λ i. record { arrivals = []; puts = sym (append-nil x.puts) i; moments = sym same_now i ∷ []; words = sym same_words i ∷ [] })
+    (reports_on o q r (moment_was now then words_were words) (report_of_puts x.puts) (reports_on o p q (moment_was now) (words_were words) a b) c)
 
-pub hands_ok : (x y z : Standing) (p : Telling) (now : ℕ) (words : List ℕ) (e : Event) (out : Outcome) (failed : Option Path) (actions : List Action) (more : Bool) → actions ≡ out.actions → more ≡ out.more
+pub hands_ok : (x y z : Standing) (p : Journal) (now : ℕ) (words : List ℕ) (e : Event) (out : Outcome) (failed : Option Path) (actions : List Action) (more : Bool) → actions ≡ out.actions → more ≡ out.more
     → Row x.running.config x.running.state (record { now = now; words = words; event = e }) out y.running.state → y.running.config ≡ x.running.config → left x.running ≤ most_left x.running
     → (ServesSomething x.running.config (effective now x.running.state) x.running.state e → left_to_do x.running.config y.running.state < left x.running)
-    → TellsMore x.told (moment_was now) p → TellsMore p (words_were words) y.told → y.counts ≡ x.counts → y.of_forwarder ≡ x.of_forwarder → y.of_wire ≡ x.of_wire
+    → ReportsMore x.report (moment_was now) p → ReportsMore p (words_were words) y.report → y.counts ≡ x.counts → y.of_forwarder ≡ x.of_forwarder → y.of_wire ≡ x.of_wire
     → Puts None actions failed y z → Hands e failed more x z
 hands_ok x y z p now words e out failed actions more is_put is_more row config bounded less a b counts forwarder wire puts =
-    let taken : Taken = record { handed = record { now = now; words = words; event = e }; answer = Some out; puts = puts.puts } in
+    let taken : Taken = record { input = record { now = now; words = words; event = e }; answer = Some out; puts = puts.puts } in
     let refused = ap (λ (v : Served). v.refused_puts) counts in
     let put = puts.actions_are ∙ is_put in
     record {
@@ -120,7 +120,7 @@ hands_ok x y z p now words e out failed actions more is_put is_more row config b
         config = ap (λ (r : Running). r.config) puts.running ∙ config;
         run = (y.running.state, row, ap (λ (r : Running). r.state) puts.running);
         puts = (put, tt);
-        told = tells_step x.told p y.told z.told now words taken refl refl a b puts.tells;
+        report = reports_step x.report p y.report z.report now words taken refl refl a b puts.reports;
         lost = adds_none _ _ (puts.lost ∙ ap (λ (v : Served). v.lost) counts);
         refused_puts = λ le. let sum = puts.refused (omega (arith, refused, le)) in omega (arith, refused, sum);
         turns = puts.turns ∙ ap (λ (v : Served). v.turns) counts;
@@ -133,12 +133,12 @@ hands_ok x y z p now words e out failed actions more is_put is_more row config b
           (own_falls x.running.config y.running.config x.running.state y.running.state now words e out failed puts.puts row config (λ serves. let fewer = less serves in let same = ap (λ (k : Config). left_to_do k y.running.state) config in omega (arith, fewer, same)) puts.failed_is put own));
     }
 
-pub hands_err : (x z : Standing) (p : Telling) (now : ℕ) (words : List ℕ) (e : Event)
-    → z.running ≡ x.running → left x.running ≤ most_left x.running → TellsMore x.told (moment_was now) p → TellsMore p (words_were words) z.told
+pub hands_err : (x z : Standing) (p : Journal) (now : ℕ) (words : List ℕ) (e : Event)
+    → z.running ≡ x.running → left x.running ≤ most_left x.running → ReportsMore x.report (moment_was now) p → ReportsMore p (words_were words) z.report
     → Adds x.counts.lost 1 z.counts.lost → z.counts.refused_puts ≡ x.counts.refused_puts → z.counts.turns ≡ x.counts.turns → z.counts.refused_arrivals ≡ x.counts.refused_arrivals → z.of_forwarder ≡ x.of_forwarder → z.of_wire ≡ x.of_wire
     → Hands e None false x z
 hands_err x z p now words e same bounded a b lost refused turns arrivals forwarder wire =
-    let taken : Taken = record { handed = record { now = now; words = words; event = e }; answer = None; puts = [] } in
+    let taken : Taken = record { input = record { now = now; words = words; event = e }; answer = None; puts = [] } in
     record {
       taken = taken;
       event_is = refl;
@@ -148,7 +148,7 @@ hands_err x z p now words e same bounded a b lost refused turns arrivals forward
         config = ap (λ (r : Running). r.config) same;
         run = ap (λ (r : Running). r.state) same;
         puts = (refl, tt);
-        told = tells_step x.told p z.told z.told now words taken refl refl a b (tells_nothing z.told);
+        report = reports_step x.report p z.report z.report now words taken refl refl a b (reports_nothing z.report);
         lost = λ le. let one = lost le in omega (arith, one);
         refused_puts = adds_none _ _ refused;
         turns = turns;

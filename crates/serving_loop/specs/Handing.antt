@@ -1,16 +1,16 @@
--- The effects of the parts of a round.
+-- The effects of the parts of a turn.
 use Rattle.std.specs.Prelude.{◌≡◌, ◌⊎◌, ℕ, suc, ◌+◌, ◌*◌, ◌<◌, ◌≤◌, Bool, true, false, List, [], ◌∷◌, length, map}
 use Rattle.std.specs.Prelude.{Option, Some, None}
 use Rattle.outstanding.specs.declared.ask.Path.{Path}
 use Rattle.step_values.specs.Values.{Event, from_client, delivery, path_failed, tick, restart, Action}
 use Rattle.step_table.specs.State.{Running}
-use Rattle.wires.specs.Wire.{Put, Told, silence, TellsMore}
-use Rattle.serving_loop.specs.Events.{Taken, failed_of, more_in, tells_more, joined, IsChain, AreTicks}
+use Rattle.wires.specs.Wire.{Put, Report, silence, ReportsMore}
+use Rattle.serving_loop.specs.Events.{Taken, failed_of, more_in, reports_more, joined, IsChain, AreTicks}
 use Rattle.serving_loop.specs.Serving.{Standing, Does, Adds, refused_of, left}
 
 -- the report of puts
-abbrev pub told_of_puts : List Put → Told
-told_of_puts puts = record silence { puts = puts }
+abbrev pub report_of_puts : List Put → Report
+report_of_puts puts = record silence { puts = puts }
 
 -- These actions were put in order. `last` is the last failed path before, `failed` the last failed
 -- path after.
@@ -20,7 +20,7 @@ pub record Puts (last : Option Path) (actions : List Action) (failed : Option Pa
   pub actions_are : map (λ (p : Put). p.action) puts ≡ actions
   pub failed_is : failed ≡ failed_of last puts
   pub running : after.running ≡ before.running
-  pub tells : TellsMore before.told (told_of_puts puts) after.told
+  pub reports : ReportsMore before.report (report_of_puts puts) after.report
   pub refused : Adds before.counts.refused_puts (refused_of puts) after.counts.refused_puts
   pub turns : after.counts.turns ≡ before.counts.turns
   pub lost : after.counts.lost ≡ before.counts.lost
@@ -49,7 +49,7 @@ StepsDown before after event failed more = (left after < left before)
 -- The forwarder took an event.
 pub record Hands (event : Event) (failed : Option Path) (more : Bool) (before after : Standing) : Type 0 where
   pub taken : Taken
-  pub event_is : taken.handed.event ≡ event
+  pub event_is : taken.input.event ≡ event
   pub failed_is : failed ≡ failed_of None taken.puts
   pub more_is : more ≡ more_in taken.answer
   pub does : Does before (taken ∷ []) after
@@ -60,7 +60,7 @@ pub record Hands (event : Event) (failed : Option Path) (more : Bool) (before af
 pub record HandsOn (event : Event) (more : Bool) (before after : Standing) : Type 0 where
   pub chain : List Taken
   pub is_chain : IsChain (Some event) chain
-  pub more_is : more ≡ tells_more chain
+  pub more_is : more ≡ reports_more chain
   pub does : Does before chain after
   pub bounded : left before.running ≤ most_left before.running
   pub falls : event ≡ tick → more ≡ true → left after.running < left before.running

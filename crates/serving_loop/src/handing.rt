@@ -24,8 +24,8 @@ impl<H: BuildHasher + Drop, A: Allocator + Copy, W: Wire<A>> Loop<'_, '_, H, A, 
     /// Gives an event to the forwarder, and after each refused ask the failure of its path. Returns
     /// whether more was due after the event.
     pub(crate) fn hand_on(&mut self, event: &Event<A>) -> bool
-        ensures { HandsOn (event_of event.now) result (standing W.told W.fault_count self.old)
-            (standing W.told W.fault_count self.new) }
+        ensures { HandsOn (event_of event.now) result (standing W.report W.fault_count self.old)
+            (standing W.report W.fault_count self.new) }
     {
         let handled = self.hand(event);
         let mut failed = handled.failed;
@@ -38,8 +38,8 @@ impl<H: BuildHasher + Drop, A: Allocator + Copy, W: Wire<A>> Loop<'_, '_, H, A, 
     /// Gives the event of a datagram to the forwarder, and the memory of its octets back to the
     /// wire. Returns whether more was due after the event.
     pub(crate) fn hand_datagram(&mut self, mut event: Event<A>) -> bool
-        ensures { HandsOn (event_of event) result (standing W.told W.fault_count self.old)
-            (standing W.told W.fault_count self.new) }
+        ensures { HandsOn (event_of event) result (standing W.report W.fault_count self.old)
+            (standing W.report W.fault_count self.new) }
     {
         let more = self.hand_on(&event);
         match &mut event {
@@ -54,7 +54,7 @@ impl<H: BuildHasher + Drop, A: Allocator + Copy, W: Wire<A>> Loop<'_, '_, H, A, 
     /// Gives ticks to the forwarder until a tick reports that nothing more is due, or finds no
     /// memory.
     pub(crate) fn tick_on(&mut self)
-        ensures { Ticks (standing W.told W.fault_count self.old) (standing W.told W.fault_count self.new) }
+        ensures { Ticks (standing W.report W.fault_count self.old) (standing W.report W.fault_count self.new) }
     {
         while self.hand_on(&Event::Tick) {}
     }
@@ -62,8 +62,8 @@ impl<H: BuildHasher + Drop, A: Allocator + Copy, W: Wire<A>> Loop<'_, '_, H, A, 
     /// Gives an event to the forwarder, and puts the actions of its step. An event that finds no
     /// memory is lost.
     fn hand(&mut self, event: &Event<A>) -> Handled
-        ensures { Hands (event_of event.now) result.failed result.more (standing W.told W.fault_count self.old)
-            (standing W.told W.fault_count self.new) }
+        ensures { Hands (event_of event.now) result.failed result.more (standing W.report W.fault_count self.old)
+            (standing W.report W.fault_count self.new) }
     {
         let now = self.wire.moment();
         let words = self.wire.words();
@@ -84,8 +84,8 @@ impl<H: BuildHasher + Drop, A: Allocator + Copy, W: Wire<A>> Loop<'_, '_, H, A, 
 
     /// Puts actions in order. Returns the path of the refused ask, if any.
     fn put_all(&mut self, actions: &Actions<A>) -> Option<Path>
-        ensures { Puts None (actions_of actions.now) result (standing W.told W.fault_count self.old)
-            (standing W.told W.fault_count self.new) }
+        ensures { Puts None (actions_of actions.now) result (standing W.report W.fault_count self.old)
+            (standing W.report W.fault_count self.new) }
     {
         let mut failed = None;
         for place in 0..actions.len() {
@@ -99,8 +99,8 @@ impl<H: BuildHasher + Drop, A: Allocator + Copy, W: Wire<A>> Loop<'_, '_, H, A, 
 
     /// Puts an action. Returns the path of the last refused ask.
     fn put(&mut self, action: &Action<A>, failed: Option<Path>) -> Option<Path>
-        ensures { Puts failed (action_of action.now ∷ []) result (standing W.told W.fault_count self.old)
-            (standing W.told W.fault_count self.new) }
+        ensures { Puts failed (action_of action.now ∷ []) result (standing W.report W.fault_count self.old)
+            (standing W.report W.fault_count self.new) }
     {
         match self.wire.put(action) {
             Ok(()) => failed,

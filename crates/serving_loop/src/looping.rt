@@ -1,4 +1,4 @@
-//! What the rounds of the loop work on.
+//! What the turns of the loop work on.
 
 use crate::counts::Served;
 use forwarder_core::Forwarder;

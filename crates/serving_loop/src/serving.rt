@@ -1,11 +1,11 @@
 //! The loop over a wire.
 
 ghost use Rattle.std.specs.Prelude.{◌≡◌, OnErr, OnOk, Some};
-ghost use Rattle.wires.specs.Wire.{telling, arrival_of, path_gone};
+ghost use Rattle.wires.specs.Wire.{journal, arrival_of, path_gone};
 ghost use Rattle.serving_loop.specs.Events.{IsPiece};
 ghost use Rattle.serving_loop.specs.Serving.{standing, Serves};
 ghost use Rattle.serving_loop.specs.Streams.{events_by, Follows, ServesEvents, TakesArrival};
-ghost use Rattle.serving_loop.specs.Streams.{TakesRound, TakesRounds};
+ghost use Rattle.serving_loop.specs.Streams.{TakesTurn, TakesRounds};
 
 use crate::counts::Served;
 use crate::looping::Loop;
@@ -17,7 +17,7 @@ use std::hash::BuildHasher;
 use step_values::{Client, Event, Path};
 use wires::{Arrival, Wire};
 
-/// Serves `turns` rounds of the loop over a wire. A round takes one arrival and gives its events to
+/// Serves `turns` turns of the loop over a wire. A turn takes one arrival and gives its events to
 /// the forwarder: a datagram is one event, a piece of a stream one for each frame that ends in the
 /// piece, and the end of a path to a server is its failure. The actions of an event are put at
 /// once, in order. A refused ask is the failure of its path, which comes next. Then ticks follow
@@ -34,8 +34,8 @@ pub fn serve<H: BuildHasher + Drop, A: Allocator + Copy, W: Wire<A>>(
     forwarder: &mut Forwarder<H, A>,
     turns: u64,
 ) -> Result<Served, AllocError>
-    ensures { Serves forwarder.old (telling (W.told wire.old) (W.fault_count wire.old)) turns
-        result forwarder.new (telling (W.told wire.new) (W.fault_count wire.new)) }
+    ensures { Serves forwarder.old (journal (W.report wire.old) (W.fault_count wire.old)) turns
+        result forwarder.new (journal (W.report wire.new) (W.fault_count wire.new)) }
 {
     let counts = Served {
         turns,
@@ -52,26 +52,26 @@ pub fn serve<H: BuildHasher + Drop, A: Allocator + Copy, W: Wire<A>>(
 }
 
 impl<H: BuildHasher + Drop, A: Allocator + Copy, W: Wire<A>> Loop<'_, '_, H, A, W> {
-    /// Takes `turns` rounds, of which the first begins without streams. Returns the counts.
+    /// Takes `turns` turns, of which the first begins without streams. Returns the counts.
     fn take_rounds(&mut self, alloc: A, turns: u64) -> Result<Served, AllocError>
-        ensures { TakesRounds turns result (standing W.told W.fault_count self.old)
-            (standing W.told W.fault_count self.new) }
+        ensures { TakesRounds turns result (standing W.report W.fault_count self.old)
+            (standing W.report W.fault_count self.new) }
     {
         let mut streams = Streams {
             alloc,
             clients: BTreeMap::new(alloc),
             servers: BTreeMap::new(alloc),
         };
-        for _round in 0..turns {
-            self.take_round(&mut streams)?;
+        for _turn in 0..turns {
+            self.take_turn(&mut streams)?;
         }
         Ok(self.counts)
     }
 
-    /// Takes a round: an arrival with its events, then ticks.
-    fn take_round(&mut self, streams: &mut Streams<A>) -> Result<(), AllocError>
-        ensures { TakesRound streams.old result streams.new (standing W.told W.fault_count self.old)
-            (standing W.told W.fault_count self.new) }
+    /// Takes a turn: an arrival with its events, then ticks.
+    fn take_turn(&mut self, streams: &mut Streams<A>) -> Result<(), AllocError>
+        ensures { TakesTurn streams.old result streams.new (standing W.report W.fault_count self.old)
+            (standing W.report W.fault_count self.new) }
     {
         self.take_arrival(streams)?;
         self.tick_on();
@@ -80,8 +80,8 @@ impl<H: BuildHasher + Drop, A: Allocator + Copy, W: Wire<A>> Loop<'_, '_, H, A, 
 
     /// Takes an arrival and serves its events; a refused arrival is counted.
     fn take_arrival(&mut self, streams: &mut Streams<A>) -> Result<(), AllocError>
-        ensures { TakesArrival streams.old result streams.new (standing W.told W.fault_count self.old)
-            (standing W.told W.fault_count self.new) }
+        ensures { TakesArrival streams.old result streams.new (standing W.report W.fault_count self.old)
+            (standing W.report W.fault_count self.new) }
     {
         match self.wire.arrival() {
             Ok(arrival) => self.serve_arrival(streams, arrival),
@@ -100,7 +100,7 @@ impl<H: BuildHasher + Drop, A: Allocator + Copy, W: Wire<A>> Loop<'_, '_, H, A, 
         arrival: Arrival<A>,
     ) -> Result<(), AllocError>
         ensures serves { ServesEvents (events_by streams.old (Some (arrival_of arrival))) result
-            (standing W.told W.fault_count self.old) (standing W.told W.fault_count self.new) }
+            (standing W.report W.fault_count self.old) (standing W.report W.fault_count self.new) }
         ensures follows { OnOk result (Follows streams.old (Some (arrival_of arrival)) streams.new) }
         ensures piece { OnErr result (IsPiece (Some (arrival_of arrival))) }
     {

@@ -97,7 +97,7 @@ impl<H: BuildHasher + Drop, A: Allocator + Copy, W: Wire<A>> Loop<'_, '_, H, A, 
         piece: Piece<A>,
     ) -> Result<(), AllocError>
         ensures serves { ServesEvents (map (message_from piece.sender) (frames_of (reader.old ++ piece.bytes)))
-            result (standing W.told W.fault_count self.old) (standing W.told W.fault_count self.new) }
+            result (standing W.report W.fault_count self.old) (standing W.report W.fault_count self.new) }
         ensures reader { OnOk result (reader.new ≡ unfinished_of (reader.old ++ piece.bytes)) }
     {
         reader.feed(piece.bytes.as_slice())?;
@@ -110,8 +110,8 @@ impl<H: BuildHasher + Drop, A: Allocator + Copy, W: Wire<A>> Loop<'_, '_, H, A, 
         reader: &mut FrameReader<A>,
         sender: Sender,
     ) -> Result<(), AllocError>
-        ensures { ServesFrames sender reader.old result reader.new (standing W.told W.fault_count self.old)
-            (standing W.told W.fault_count self.new) }
+        ensures { ServesFrames sender reader.old result reader.new (standing W.report W.fault_count self.old)
+            (standing W.report W.fault_count self.new) }
     {
         while let Some(message) = reader.take()? {
             self.hand_on(&sender.event(message));

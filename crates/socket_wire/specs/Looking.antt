@@ -7,7 +7,7 @@ use Rattle.wires.specs.declared.wire.Arrival.{Arrival}
 use Rattle.wires.specs.declared.wire.Arrival.TheVariants.{Nothing}
 use Rattle.socket_wire.specs.Seen.{SeenSockets}
 use Rattle.socket_wire.specs.Attempting.{TriesReady}
-use Rattle.ready_sockets.specs.Rounds.{IsNothing, NotedStay}
+use Rattle.ready_sockets.specs.Trying.{IsNothing, NotedStay}
 use Rattle.socket_wire.specs.Trying.{TriesOthers}
 
 -- Events are taken: more may be ready, and nothing else has changed, nor whose turn it is.
@@ -21,7 +21,7 @@ pub record TakesEventsIfReady {A : Type 0} (before after : SeenSockets A) : Type
   pub some : (IsNothing before.readiness.ready → ⊥) → TakesEvents before after
   pub none : IsNothing before.readiness.ready → after ≡ before
 
--- A round of unreported sockets is due: they are tried after the reported ones.
+-- A sweep of unreported sockets is due: they are tried after the reported ones.
 pub record LooksAtAll {A : Type 0} (now : ℕ) (before after : SeenSockets A) : Type 0 where
   pub between : SeenSockets A
   pub events : TakesEventsIfReady (record before { tried = now }) between
@@ -39,7 +39,7 @@ pub record LooksForAsks {A : Type 0} (before after : SeenSockets A) : Type 0 whe
   pub no_asks : has_asks before ≡ false → after ≡ before
   pub ready : 0 < btree_set_len before.readiness.ready.servers.tokens → after ≡ before
 
--- Looking for ready sockets, without a wait. If no round is due (every 5 ms), and nothing may be
+-- Looking for ready sockets, without a wait. If no sweep is due (every 5 ms), and nothing may be
 -- ready, nothing has changed.
 pub record Looks {A : Type 0} (now : ℕ) (before after : SeenSockets A) : Type 0 where
   pub due : 5 ≤ now - before.tried → LooksAtAll now before after

@@ -10,7 +10,7 @@ ghost use Rattle.alias_chains.specs.Looked.{chain_of};
 ghost use Rattle.step_table.specs.Clients.{fate_missed, fate_of};
 ghost use Rattle.step_actions.specs.Fates.{fate_in, IfWaits};
 
-use crate::turn::TurnRef;
+use crate::step_start::StepStartRef;
 use alias_chains::{LookUp, LookUpEnd, copies};
 use std::alloc::{AllocError, Allocator, Global};
 use std::hash::BuildHasher;
@@ -31,51 +31,51 @@ pub enum Fate<A: Allocator = Global> {
 /// with `ChainLong` at a ninth alias, and otherwise the fate of a miss. No piece of the chain was
 /// accepted after the moment.
 pub fn fate_of<H: BuildHasher + Drop, A: Allocator + Copy>(
-    turn: &TurnRef<'_, H, A>,
+    start: &StepStartRef<'_, H, A>,
     request: &Request<'_>,
     looked: &LookUp<'_, '_, A>,
 ) -> Result<Fate<A>, AllocError>
-    requires earlier { AllByRecursion (IsEarlier turn.now.moment) (chain_of looked.now) }
+    requires earlier { AllByRecursion (IsEarlier start.now.moment) (chain_of looked.now) }
     ensures fate { IfOk result (λ fate. fate_in request.now looked.now fate
-        ≡ fate_of turn.now.config turn.now.moment request.now looked.now) }
-    ensures waits { IfOk result (IfWaits turn.now.config looked.now) }
+        ≡ fate_of start.now.config start.now.moment request.now looked.now) }
+    ensures waits { IfOk result (IfWaits start.now.config looked.now) }
 {
     match looked.met() {
         LookUpEnd::Ends => {
-            let action = answer(turn.alloc, request, looked.chain(), turn.moment)?;
+            let action = answer(start.alloc, request, looked.chain(), start.moment)?;
             Ok(Fate::Reply(action))
         }
         LookUpEnd::TooLong => {
-            let action = failure(turn.alloc, request, Why::ChainLong)?;
+            let action = failure(start.alloc, request, Why::ChainLong)?;
             Ok(Fate::Reply(action))
         }
-        LookUpEnd::Missed => missed(turn, request, looked),
+        LookUpEnd::Missed => missed(start, request, looked),
     }
 }
 
 /// The fate of a question that has no answer in the cache. It waits if the wanted name is served,
 /// gets the local denial if it is denied, and otherwise fails with `NoRoute`.
 fn missed<H: BuildHasher + Drop, A: Allocator + Copy>(
-    turn: &TurnRef<'_, H, A>,
+    start: &StepStartRef<'_, H, A>,
     request: &Request<'_>,
     looked: &LookUp<'_, '_, A>,
 ) -> Result<Fate<A>, AllocError>
-    requires earlier { AllByRecursion (IsEarlier turn.now.moment) (chain_of looked.now) }
+    requires earlier { AllByRecursion (IsEarlier start.now.moment) (chain_of looked.now) }
     requires missed { looked.now.met ≡ missed }
     ensures fate { IfOk result (λ fate. fate_in request.now looked.now fate
-        ≡ fate_missed turn.now.config turn.now.moment request.now looked.now
-        (serving_route_of turn.now.config looked.now.wanted.name)) }
-    ensures waits { IfOk result (IfWaits turn.now.config looked.now) }
+        ≡ fate_missed start.now.config start.now.moment request.now looked.now
+        (serving_route_of start.now.config looked.now.wanted.name)) }
+    ensures waits { IfOk result (IfWaits start.now.config looked.now) }
 {
     let wanted = looked.wanted();
-    match turn.config.routing_of_key(&wanted.key()) {
+    match start.config.routing_of_key(&wanted.key()) {
         Routing::Served(route) => Ok(Fate::Waits(route)),
         Routing::Denied => {
-            let action = local_answer(turn.alloc, request, looked.chain(), turn.moment)?;
+            let action = local_answer(start.alloc, request, looked.chain(), start.moment)?;
             Ok(Fate::Reply(action))
         }
         Routing::None => {
-            let action = failure(turn.alloc, request, Why::NoRoute)?;
+            let action = failure(start.alloc, request, Why::NoRoute)?;
             Ok(Fate::Reply(action))
         }
     }

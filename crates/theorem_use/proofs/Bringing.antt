@@ -203,12 +203,12 @@ module _ (c : Config) (capacity n : ℕ) (older es : List Held) (slots : List Sl
 
   pub offers_behind : (rooms : List Bool) (ps : List Piece) → AllByRecursion Fits ps → AreHeld (record { capacity = capacity; entries = es }) → AllByRecursion (IsKept c older n) es
       → ComesOrStays (then_carried n ps []) (unkept_of capacity n rooms ps es) → ComesAfter slots o (put_all capacity n rooms ps es)
-  offers_behind rooms ps fits held all comes = (offers_keep capacity n Fits Offers one rooms ps [] es 0 fits (held, all, start)).2 (from comes)
+  offers_behind rooms ps fits held all comes = (offers_keep capacity n Fits Offers one rooms ps [] es 0 fits (held, all, initial)).2 (from comes)
     where
       from : ComesOrStays (then_carried n ps []) (unkept_of capacity n rooms ps es) → ComesOrStays (then_carried n ps []) (0 + unkept_of capacity n rooms ps es)
       from (inl (none, stays)) = inl (omega (arith, none), stays)
       from (inr before) = inr before
 
-      start : ComesOrStays [] 0 → ComesAfter slots o es
-      start (inl (none, never)) = absurd never
-      start (inr (before, each)) = before
+      initial : ComesOrStays [] 0 → ComesAfter slots o es
+      initial (inl (none, never)) = absurd never
+      initial (inr (before, each)) = before

@@ -24,7 +24,7 @@ use Rattle.step_history.specs.History.{moment_at, Carries}
 use Rattle.step_history.specs.Carried.{NotReplaced}
 use Rattle.step_history.specs.Replies.{full_text, short_text, sized_for}
 use Rattle.step_history.specs.Sound.{Replies}
-use Rattle.step_table.specs.State.{State, turn}
+use Rattle.step_table.specs.State.{State, start}
 use Rattle.step_table.specs.Steps.{Done, with_promoted, reply_step, answered}
 use Rattle.step_table.specs.Clients.{row_of_request}
 use Rattle.alias_chains.specs.LookingUp.{ends, LookUp, look_up}
@@ -73,7 +73,7 @@ module _ (c : Config) (past : List Step) (w : List (List ℕ)) (s : State) (x : 
     pub uses : UsesThese c past w s x was now words unkept more (step d.actions) slots
     pub keeps : KeepsAfter c past w s x was now words unkept more (step d.actions) d slots
 
-  module _ (d : Done) (is_row : d ≡ row_of_request (turn c n words s) client octets) where
+  module _ (d : Done) (is_row : d ≡ row_of_request (start c n words s) client octets) where
     abbrev t : Step
     t = step d.actions
 

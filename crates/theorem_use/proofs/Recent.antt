@@ -28,7 +28,7 @@ use Rattle.record_cache.specs.Laws.{Among}
 use Rattle.step_values.specs.Values.{Event, delivery, Action, Step}
 use Rattle.step_history.specs.History.{is_restart, moment_at, Carries}
 use Rattle.step_history.specs.Carried.{then_carried, NotReplaced}
-use Rattle.step_table.specs.State.{State, turn}
+use Rattle.step_table.specs.State.{State, start}
 use Rattle.waiting_questions.specs.Values.{Waiting, waits_for}
 use Rattle.alias_chains.specs.LookingUp.{LookUp, promoted_all}
 use Rattle.alias_chains.specs.Offering.{put_all, unkept_of, held_at}
@@ -157,7 +157,7 @@ module _ (c : Config) (past : List Step) (w : List (List ℕ)) (s : State) (x : 
   n = effective now s
 
   abbrev pub told : Event → List Action → Step
-  told e actions = record { handed = record { now = now; words = words; event = e }; outcome = record { actions = actions; unkept = unkept; more = more } }
+  told e actions = record { input = record { now = now; words = words; event = e }; outcome = record { actions = actions; unkept = unkept; more = more } }
 
   later : s.moment ≤ n
   later = omega arith
@@ -237,7 +237,7 @@ module _ (c : Config) (past : List Step) (w : List (List ℕ)) (s : State) (x : 
       pub uses : UsesThese (told event d.actions) slots
       pub keeps : KeepsAfter (told event d.actions) d slots
 
-    module _ (d : Done) (is_row : d ≡ row_of_delivery (turn c n words s) rooms from octets (ask_on path s.asks)) (same_unkept : d.unkept ≡ unkept) where
+    module _ (d : Done) (is_row : d ≡ row_of_delivery (start c n words s) rooms from octets (ask_on path s.asks)) (same_unkept : d.unkept ≡ unkept) where
       abbrev t : Step
       t = told event d.actions
 
@@ -265,11 +265,11 @@ module _ (c : Config) (past : List Step) (w : List (List ℕ)) (s : State) (x : 
         abbrev pieces : List Piece
         pieces = walk.pieces ++ walk.authority
 
-        accepted : d ≡ row_of_acceptance (turn c n words s) rooms h.ask walk
+        accepted : d ≡ row_of_acceptance (start c n words s) rooms h.ask walk
         accepted = is_row ∙ heard_is c n words s rooms path from octets h.ask h.message h.on h.live h.whole h.read h.fine
 
         ended : IsQuiet (UsesAtEnd c n words s h.ask walk walk.end) n s.cache
-            (row_of_end (turn c n words (with_preferred_server h.ask s)) h.ask walk (fate_by c n s.cache.entries h.ask walk) walk.end)
+            (row_of_end (start c n words (with_preferred_server h.ask s)) h.ask walk (fate_by c n s.cache.entries h.ask walk) walk.end)
         ended = end_is c n words s h.ask walk (fate_by c n s.cache.entries h.ask walk) walk.end
 
         abbrev promoted : List Held

@@ -22,7 +22,7 @@ use Rattle.step_values.specs.declared.action.Why.TheVariants.{InquiriesFull, NoP
 use Rattle.step_values.specs.Values.{Action, send_reply}
 use Rattle.step_values.specs.Requests.{is_taken}
 use Rattle.step_history.specs.Sound.{Replies}
-use Rattle.step_table.specs.State.{State, turn}
+use Rattle.step_table.specs.State.{State, start}
 use Rattle.waiting_questions.specs.Values.{Waiting}
 use Rattle.step_table.specs.Attempts.{first_ask_for}
 use Rattle.alias_chains.specs.LookingUp.{LookUpEnd, ends, too_long, missed, LookUp, look_up}
@@ -67,13 +67,13 @@ module _ (c : Config) (n : ℕ) (words : List ℕ) where
   opening_silent y s None = other_why NoPort (λ is. absurd (cc)) y.client _
   opening_silent y s (Some a) = asks_silent (Some a)
 
-  inquiry_silent : (y : Waiting) (s : State) (r : Option Ask) → IsSilent (row_of_inquiry (turn c n words s) y r).actions
+  inquiry_silent : (y : Waiting) (s : State) (r : Option Ask) → IsSilent (row_of_inquiry (start c n words s) y r).actions
   inquiry_silent y s None = cond_both (nat_le c.limits.inquiries (length s.asks)) _ _ (λ (d : Done). IsSilent d.actions)
       (λ t. other_why InquiriesFull (λ is. absurd (cc)) y.client _)
-      (λ f. opening_silent y s (first_ask_for (turn c n words s) y.wanted))
+      (λ f. opening_silent y s (first_ask_for (start c n words s) y.wanted))
   inquiry_silent y s (Some a) = asks_silent None
 
-  waiting_silent : (y : Waiting) (s : State) → IsSilent (row_of_waiting (turn c n words s) y).actions
+  waiting_silent : (y : Waiting) (s : State) → IsSilent (row_of_waiting (start c n words s) y).actions
   waiting_silent y s = cond_both (nat_le c.limits.questions (length s.waiting)) _ _ (λ (d : Done). IsSilent d.actions)
       (λ t. other_why QuestionsFull (λ is. absurd (cc)) y.client _)
       (λ f. inquiry_silent y s (of_question y.wanted s.asks))
@@ -85,11 +85,11 @@ module _ (c : Config) (n : ℕ) (words : List ℕ) where
       (λ t. sends_silent LocalDenied x (other_why LocalDenied (λ is. absurd (cc)) x.client) (not_large x.client) (local_answer_of x.asked aliases n (transport_of x.client)))
       (λ f. other_why NoRoute (λ is. absurd (cc)) x.client _)
 
-  missed_silent : (x : Waiting) (l : LookUp) (s : State) (r : Option ℕ) → IsSilent (row_of_fate (turn c n words s) (fate_missed c n x l r)).actions
+  missed_silent : (x : Waiting) (l : LookUp) (s : State) (r : Option ℕ) → IsSilent (row_of_fate (start c n words s) (fate_missed c n x l r)).actions
   missed_silent x l s None = server_silent x l.held l.wanted.name
   missed_silent x l s (Some route) = waiting_silent (waits_with x l) s
 
-  fate_silent : (x : Waiting) (l : LookUp) (s : State) (m : LookUpEnd) → ((e : Held) → m ≡ ends e → ⊥) → IsSilent (row_of_fate (turn c n words s) (fate_at c n x l m)).actions
+  fate_silent : (x : Waiting) (l : LookUp) (s : State) (m : LookUpEnd) → ((e : Held) → m ≡ ends e → ⊥) → IsSilent (row_of_fate (start c n words s) (fate_at c n x l m)).actions
   fate_silent x l s (ends e) no_end = absurd (no_end e refl)
   fate_silent x l s too_long no_end = other_why ChainLong (λ is. absurd (cc)) x.client _
   fate_silent x l s missed no_end = missed_silent x l s (serving_route_of c l.wanted.name)
@@ -103,17 +103,17 @@ module _ (c : Config) (n : ℕ) (words : List ℕ) where
     Silent d = IsSilent d.actions
 
     routed : is_taken request ≡ true → ((header_in request).opcode == 0) ≡ true → (q : Question) → one_question request ≡ Some q → is_unserved q ≡ false → (r : Option ℕ) → serving_route_of c q.name ≡ r
-        → Silent (row_of_route (turn c n words s) (taken_now n client (header_in request) q) r)
+        → Silent (row_of_route (start c n words s) (taken_now n client (header_in request) q) r)
     routed t z q reads served None none = server_silent (taken_now n client (header_in request) q) [] q.name
     routed t z q reads served (Some route) on =
         let l : LookUp = look_up c.routes n s.cache.entries most_aliases [] q in
         fate_silent (taken_now n client (header_in request) q) l (with_promoted l.used s) l.met (no_hit t z q reads served route on)
 
-    asked : is_taken request ≡ true → ((header_in request).opcode == 0) ≡ true → (r : Option Question) → one_question request ≡ r → Silent (row_of_question (turn c n words s) client (header_in request) r)
+    asked : is_taken request ≡ true → ((header_in request).opcode == 0) ≡ true → (r : Option Question) → one_question request ≡ r → Silent (row_of_question (start c n words s) client (header_in request) r)
     asked t z None none = other_why BadFormat (λ is. absurd (cc)) client _
     asked t z (Some q) reads = cond_both (is_unserved q) _ _ Silent (λ u. other_why NotServed (λ is. absurd (cc)) client _) (λ served. routed t z q reads served (serving_route_of c q.name) refl)
 
-    pub request_silent : Silent (row_of_request (turn c n words s) client request)
+    pub request_silent : Silent (row_of_request (start c n words s) client request)
     request_silent = cond_both (is_taken request) _ _ Silent
         (λ t. cond_both ((header_in request).opcode == 0) _ _ Silent (λ z. asked t z (one_question request) refl) (λ z. other_why BadOpcode (λ is. absurd (cc)) client _))
         (λ f. nothing)

@@ -52,7 +52,7 @@ use Rattle.worked_claims.proofs.Whole.{history, it_is_sound, it_asks_well, it_te
 
 abbrev first : Bool → List ℕ → List Action → Step
 first more words actions = record {
-  handed = record { now = 1000; words = words; event = from_client client (question_text 7 1) };
+  input = record { now = 1000; words = words; event = from_client client (question_text 7 1) };
   outcome = record { actions = actions; unkept = 0; more = more };
 }
 
@@ -280,7 +280,7 @@ nobody_waits = (
 handed_on : UsesWhatStands config history ((0 ∷ []) ∷ [] ∷ [])
 handed_on = (uses_nothing config false word asks_it [], λ asker q some asks is room known. absurd (not_sent asks.sends))
 
-at_once : (asker : Client) (request : List ℕ) → Sends hit.handed.event asker request
+at_once : (asker : Client) (request : List ℕ) → Sends hit.input.event asker request
     → AnswersAtOnce config hit history (0 ∷ []) (2 ∷ []) asker request
 at_once asker request sends =
     let own : Request = record { client = client; octets = question_text 7 1 } in
@@ -687,7 +687,7 @@ asks_again_right past none = record {
   text = refl;
   reads = refl;
   server = record { route = 0; group = _; place = 0; route_is = serves_exactly.only config a 0 refl; there = refl; server = refl };
-  drawn_so = subst (λ (asks : List ShownAsk). drawn asks_again.handed.words asks asks_again.outcome.actions ≡ Some (16, 1040)) (sym none) refl;
+  drawn_so = subst (λ (asks : List ShownAsk). drawn asks_again.input.words asks asks_again.outcome.actions ≡ Some (16, 1040)) (sym none) refl;
 }
 
 no_reply : (octets : List ℕ) → Replies asks_again.outcome.actions octets → ⊥
@@ -722,7 +722,7 @@ but_for_its_use uses recent = record {
 -- time passes, and an entry found no memory
 abbrev stumbles : Step
 stumbles = record {
-  handed = record { now = 1500; words = []; event = tick };
+  input = record { now = 1500; words = []; event = tick };
   outcome = record { actions = []; unkept = 1; more = false };
 }
 
@@ -731,7 +731,7 @@ stumbled = stumbles ∷ history
 
 -- a step that brings no question uses no slot, unless it accepts a reply that leads on
 uses_none : (s : Step) (past : List Step) (ts : List Touched) (slots : List Slot)
-    → ((r : Request) → request_in s.handed.event ≡ Some r → ⊥) → (LooksOn config s past ts slots → ⊥)
+    → ((r : Request) → request_in s.input.event ≡ Some r → ⊥) → (LooksOn config s past ts slots → ⊥)
     → Uses config s past ts slots → slots ≡ []
 uses_none s past ts slots unasked unled (inl looks) = absurd (unasked _ looks.asks.sends)
 uses_none s past ts slots unasked unled (inr (inl looks)) = absurd (unled looks)

@@ -6,7 +6,7 @@ use Rattle.alias_chains.specs.LookingUp.{LookUp, goes_on}
 use Rattle.alias_chains.specs.Looked.{chain_of}
 use Rattle.alias_chains.proofs.CallerLemmas.{look_up_holds, held_holds}
 use Rattle.waiting_questions.specs.Values.{Waiting}
-use Rattle.step_table.specs.State.{Turn}
+use Rattle.step_table.specs.State.{StepStart}
 use Rattle.step_table.specs.Progress.{IsOnRoute}
 use Rattle.step_actions.specs.Fates.{fate_in, IfWaits}
 use Rattle.step_actions.proofs.CallerLemmas.{decides_by, later_entries}
@@ -15,7 +15,7 @@ use Rattle.client_decisions.proofs.client.look.Goals as goal
 
 pub fate_of-requires : goal.fate_of-requires
 fate_of-requires g c =
-    let t = c.args.turn.now in
+    let t = c.args.start.now in
     let exact : c.in_ok-looked.looked ≡ goes_on t.config.routes t.moment t.state.cache.entries [] c.args.request.now.wanted =
     c.in_ok-looked.ensures.exact
     ∙ (λ i. goes_on (c.cache_at.ensures i).config.routes (c.cache_at.ensures i).moment (c.cache_at.ensures i).cache.entries
@@ -23,23 +23,23 @@ fate_of-requires g c =
     let earlier : AllByRecursion (IsEarlier t.moment) (chain_of c.in_ok-looked.looked) =
     subst (λ (l : LookUp). AllByRecursion (IsEarlier t.moment) (chain_of l)) (sym exact)
     (look_up_holds (IsEarlier t.moment) t.config.routes t.moment t.state.cache.entries
-    (subst (λ (r : Turn). AllByRecursion (IsEarlier r.moment) r.state.cache.entries) c.turn.view_is
-    (later_entries c.turn.inside.kept.now.moment c.turn.inside.moment c.turn.inside.kept.now.cache.entries c.turn.invariant.1
-    c.turn.invariant.0.accepted))
+    (subst (λ (r : StepStart). AllByRecursion (IsEarlier r.moment) r.state.cache.entries) c.start.view_is
+    (later_entries c.start.inside.kept.now.moment c.start.inside.moment c.start.inside.kept.now.cache.entries c.start.invariant.1
+    c.start.invariant.0.accepted))
     [] c.args.request.now.wanted tt) in
     earlier
 
 pub wait-requires-clause-missed : goal.wait-requires-clause-missed
 wait-requires-clause-missed g c =
-    (subst (IfWaits c.args.turn.now.config c.in_ok-looked.looked) c.in-Waits.is c.in_ok-fate.ensures.waits).0
+    (subst (IfWaits c.args.start.now.config c.in_ok-looked.looked) c.in-Waits.is c.in_ok-fate.ensures.waits).0
 
 pub wait-requires-clause-on : goal.wait-requires-clause-on
 wait-requires-clause-on g c =
-    (subst (IfWaits c.args.turn.now.config c.in_ok-looked.looked) c.in-Waits.is c.in_ok-fate.ensures.waits).1
+    (subst (IfWaits c.args.start.now.config c.in_ok-looked.looked) c.in-Waits.is c.in_ok-fate.ensures.waits).1
 
 pub wait-requires-clause-own : goal.wait-requires-clause-own
 wait-requires-clause-own g c =
-    let t = c.args.turn.now in
+    let t = c.args.start.now in
     let exact : c.in_ok-looked.looked ≡ goes_on t.config.routes t.moment t.state.cache.entries [] c.args.request.now.wanted =
     c.in_ok-looked.ensures.exact
     ∙ (λ i. goes_on (c.cache_at.ensures i).config.routes (c.cache_at.ensures i).moment (c.cache_at.ensures i).cache.entries
@@ -49,7 +49,7 @@ wait-requires-clause-own g c =
 
 pub wait-requires-clause-aliases : goal.wait-requires-clause-aliases
 wait-requires-clause-aliases g c =
-    let t = c.args.turn.now in
+    let t = c.args.start.now in
     let exact : c.in_ok-looked.looked ≡ goes_on t.config.routes t.moment t.state.cache.entries [] c.args.request.now.wanted =
     c.in_ok-looked.ensures.exact
     ∙ (λ i. goes_on (c.cache_at.ensures i).config.routes (c.cache_at.ensures i).moment (c.cache_at.ensures i).cache.entries
@@ -57,24 +57,24 @@ wait-requires-clause-aliases g c =
     let earlier : AllByRecursion (IsEarlier t.moment) (chain_of c.in_ok-looked.looked) =
     subst (λ (l : LookUp). AllByRecursion (IsEarlier t.moment) (chain_of l)) (sym exact)
     (look_up_holds (IsEarlier t.moment) t.config.routes t.moment t.state.cache.entries
-    (subst (λ (r : Turn). AllByRecursion (IsEarlier r.moment) r.state.cache.entries) c.turn.view_is
-    (later_entries c.turn.inside.kept.now.moment c.turn.inside.moment c.turn.inside.kept.now.cache.entries c.turn.invariant.1
-    c.turn.invariant.0.accepted))
+    (subst (λ (r : StepStart). AllByRecursion (IsEarlier r.moment) r.state.cache.entries) c.start.view_is
+    (later_entries c.start.inside.kept.now.moment c.start.inside.moment c.start.inside.kept.now.cache.entries c.start.invariant.1
+    c.start.invariant.0.accepted))
     [] c.args.request.now.wanted tt) in
     held_holds (IsEarlier t.moment) c.in_ok-looked.looked earlier
 
 pub returns-in-Reply : goal.returns-in-Reply
 returns-in-Reply g c = record {
   decides =
-      let t = c.args.turn.now in
+      let t = c.args.start.now in
       let exact : c.in_ok-looked.looked ≡ goes_on t.config.routes t.moment t.state.cache.entries [] c.args.request.now.wanted =
       c.in_ok-looked.ensures.exact
       ∙ (λ i. goes_on (c.cache_at.ensures i).config.routes (c.cache_at.ensures i).moment (c.cache_at.ensures i).cache.entries
       (lent (c.new-none.ensures.items i)) (c.request.view_is i).wanted) in
       decides_by c.reply.result _ _ _ c.reply.ensures.decides (λ rooms.
       fate_row t.config t.moment t.words c.args.request.now t.state _ _
-      (subst (λ (r : Turn). AllByRecursion (IsOnRoute r.config) r.state.cache.entries) c.turn.view_is
-      c.turn.invariant.0.cache.on_routes)
+      (subst (λ (r : StepStart). AllByRecursion (IsOnRoute r.config) r.state.cache.entries) c.start.view_is
+      c.start.invariant.0.cache.on_routes)
       (c.into_slots-in-Reply.ensures ∙ ap (λ (l : LookUp). l.used) exact)
       (ap (fate_in c.args.request.now c.in_ok-looked.looked) (sym c.in-Reply.is) ∙ c.in_ok-fate.ensures.fate
       ∙ ap (λ (l : LookUp). Rattle.step_table.specs.Clients.fate_of t.config t.moment c.args.request.now l) exact));
@@ -83,15 +83,15 @@ returns-in-Reply g c = record {
 pub returns-in-Waits : goal.returns-in-Waits
 returns-in-Waits g c = record {
   decides =
-      let t = c.args.turn.now in
+      let t = c.args.start.now in
       let exact : c.in_ok-looked.looked ≡ goes_on t.config.routes t.moment t.state.cache.entries [] c.args.request.now.wanted =
       c.in_ok-looked.ensures.exact
       ∙ (λ i. goes_on (c.cache_at.ensures i).config.routes (c.cache_at.ensures i).moment (c.cache_at.ensures i).cache.entries
       (lent (c.new-none.ensures.items i)) (c.request.view_is i).wanted) in
       decides_by c.wait.result _ _ _ c.wait.ensures.decides (λ rooms.
       fate_row t.config t.moment t.words c.args.request.now t.state _ _
-      (subst (λ (r : Turn). AllByRecursion (IsOnRoute r.config) r.state.cache.entries) c.turn.view_is
-      c.turn.invariant.0.cache.on_routes)
+      (subst (λ (r : StepStart). AllByRecursion (IsOnRoute r.config) r.state.cache.entries) c.start.view_is
+      c.start.invariant.0.cache.on_routes)
       (ap (λ (l : LookUp). l.used) exact)
       (ap (fate_in c.args.request.now c.in_ok-looked.looked) (sym c.in-Waits.is) ∙ c.in_ok-fate.ensures.fate
       ∙ ap (λ (l : LookUp). Rattle.step_table.specs.Clients.fate_of t.config t.moment c.args.request.now l) exact));

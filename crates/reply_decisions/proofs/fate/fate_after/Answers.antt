@@ -6,13 +6,13 @@ use Rattle.reply_decisions.proofs.Going.{fate_alike}
 use Rattle.reply_decisions.proofs.fate.fate_after.Goals as goal
 
 pub sent_on-requires : goal.sent_on-requires
-sent_on-requires g c = (subst (IfWaits c.args.turn.now.config c.args.looked.now) c.in-Waits.is c.in_ok-fate.ensures.waits).0
+sent_on-requires g c = (subst (IfWaits c.args.start.now.config c.args.looked.now) c.in-Waits.is c.in_ok-fate.ensures.waits).0
 
 pub returns-in-Reply : goal.returns-in-Reply
 returns-in-Reply g c =
     let l = c.args.looked.now in
     ap (fate_in c.request.result l) (sym c.in-Reply.is) ∙ c.in_ok-fate.ensures.fate
-    ∙ fate_alike c.args.turn.now.config c.args.turn.now.moment l c.request.result c.args.waiting.now
+    ∙ fate_alike c.args.start.now.config c.args.start.now.moment l c.request.result c.args.waiting.now
     c.request.ensures.client c.request.ensures.asked c.request.ensures.taken
 
 pub returns-in_ok-sent_on-in-Waits : goal.returns-in_ok-sent_on-in-Waits
@@ -28,5 +28,5 @@ returns-in_ok-sent_on-in-Waits g c =
       wanted = l.wanted;
     }))
     ∙ ap (fate_in c.request.result l) (sym c.in-Waits.is) ∙ c.in_ok-fate.ensures.fate
-    ∙ fate_alike c.args.turn.now.config c.args.turn.now.moment l c.request.result x
+    ∙ fate_alike c.args.start.now.config c.args.start.now.moment l c.request.result x
     c.request.ensures.client c.request.ensures.asked c.request.ensures.taken

@@ -12,11 +12,11 @@ pub loop-place-init : goal.loop-place-init
 loop-place-init g c = record { each = ap (map fate_now) c.in_ok-with_capacity.ensures.items; used = c.new.ensures.items }
 
 pub add-requires-clause-own : goal.add-requires-clause-own
-add-requires-clause-own g c = all_at (λ (x : Waiting). AllByRecursion (IsEarlier c.args.turn.now.moment) x.held) c.args.waiting.now c.loop-place.place c.get.result.now c.requires.own c.get.ensures
+add-requires-clause-own g c = all_at (λ (x : Waiting). AllByRecursion (IsEarlier c.args.start.now.moment) x.held) c.args.waiting.now c.loop-place.place c.get.result.now c.requires.own c.get.ensures
 
 pub loop-place-preserved : goal.loop-place-preserved
 loop-place-preserved g c =
-    let t = c.args.turn.now in
+    let t = c.args.start.now in
     let looked = looked_on t c.args.lead.now.aliases.now c.args.lead.now.name.now in
     record {
       each = one_more (λ x. fate_of t.config t.moment x (looked x)) c.args.waiting.now c.loop-place.place c.loop-place.fates.each c.add.new.self.each c.get.result.now

@@ -7,6 +7,6 @@ use Rattle.reply_decisions.proofs.fates.fates_of.Given as goal
 
 abbrev pub invariant-loop-place : goal.invariant-loop-place
 invariant-loop-place g l = record {
-  each : l.fates.each ≡ map (λ x. fate_of l.turn.config l.turn.moment x (looked_on l.turn l.lead.aliases.now l.lead.name.now x)) (take l.place l.waiting);
-  used : l.fates.used ≡ flat_map (λ x. (looked_on l.turn l.lead.aliases.now l.lead.name.now x).used) (take l.place l.waiting);
+  each : l.fates.each ≡ map (λ x. fate_of l.start.config l.start.moment x (looked_on l.start l.lead.aliases.now l.lead.name.now x)) (take l.place l.waiting);
+  used : l.fates.used ≡ flat_map (λ x. (looked_on l.start l.lead.aliases.now l.lead.name.now x).used) (take l.place l.waiting);
 }

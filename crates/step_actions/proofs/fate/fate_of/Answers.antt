@@ -7,7 +7,7 @@ use Rattle.plain_values.specs.Borrowed.{lent}
 use Rattle.record_cache.specs.Values.{Held}
 use Rattle.step_values.specs.Values.{Action}
 use Rattle.step_values.specs.declared.action.Why.TheVariants.{Answered}
-use Rattle.step_table.specs.State.{Turn}
+use Rattle.step_table.specs.State.{StepStart}
 use Rattle.step_table.specs.Steps.{gets, sends, transport_of}
 use Rattle.step_actions.proofs.Fates.{it_missed, ended_fate, long_fate, missed_fate}
 use Rattle.step_actions.proofs.fate.fate_of.Goals as goal
@@ -15,8 +15,8 @@ use Rattle.step_actions.proofs.fate.fate_of.Goals as goal
 pub answer-requires : goal.answer-requires
 answer-requires g c = record {
   earlier =
-      subst (λ (r : Turn). AllByRecursion (IsEarlier r.moment) (lent c.chain.result.now)) (sym c.turn.view_is)
-      (subst (AllByRecursion (IsEarlier c.args.turn.now.moment)) (sym c.chain.ensures.chain) c.requires.earlier);
+      subst (λ (r : StepStart). AllByRecursion (IsEarlier r.moment) (lent c.chain.result.now)) (sym c.start.view_is)
+      (subst (AllByRecursion (IsEarlier c.args.start.now.moment)) (sym c.chain.ensures.chain) c.requires.earlier);
 }
 
 pub returns-in_ok-action-in-Ends-clause-fate : goal.returns-in_ok-action-in-Ends-clause-fate
@@ -24,14 +24,14 @@ returns-in_ok-action-in-Ends-clause-fate g c =
     let x = c.args.request.now in
     let l = c.args.looked.now in
     ap (λ (a : Action). gets a) (c.in_ok-action-in-Ends.ensures ∙ (λ i. sends Answered x
-    (answer_of x.asked (c.chain.ensures.chain i) (c.turn.view_is i).moment (transport_of x.client))))
-    ∙ ended_fate c.args.turn.now.config c.args.turn.now.moment x l l.met (sym c.met.ensures ∙ c.in-Ends.is)
+    (answer_of x.asked (c.chain.ensures.chain i) (c.start.view_is i).moment (transport_of x.client))))
+    ∙ ended_fate c.args.start.now.config c.args.start.now.moment x l l.met (sym c.met.ensures ∙ c.in-Ends.is)
 
 pub returns-in_ok-action-in-TooLong-clause-fate : goal.returns-in_ok-action-in-TooLong-clause-fate
 returns-in_ok-action-in-TooLong-clause-fate g c =
     let l = c.args.looked.now in
     ap (λ (a : Action). gets a) c.in_ok-action-in-TooLong.ensures
-    ∙ long_fate c.args.turn.now.config c.args.turn.now.moment c.args.request.now l l.met
+    ∙ long_fate c.args.start.now.config c.args.start.now.moment c.args.request.now l l.met
     (sym c.met.ensures ∙ c.in-TooLong.is)
 
 pub missed-requires-clause-missed : goal.missed-requires-clause-missed
@@ -43,5 +43,5 @@ pub returns-in-Missed-clause-fate : goal.returns-in-Missed-clause-fate
 returns-in-Missed-clause-fate g c =
     let l = c.args.looked.now in
     IfOk-weaker c.missed.result _ _ (λ fate e.
-    e ∙ missed_fate c.args.turn.now.config c.args.turn.now.moment c.args.request.now l l.met
+    e ∙ missed_fate c.args.start.now.config c.args.start.now.moment c.args.request.now l l.met
     (sym c.met.ensures ∙ c.in-Missed.is)) c.missed.ensures.fate

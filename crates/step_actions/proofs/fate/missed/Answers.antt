@@ -5,31 +5,31 @@ use Rattle.suffix_routes.specs.Serving.{is_local, serving_route_of}
 use Rattle.record_cache.specs.Values.{Held}
 use Rattle.answer_builder.specs.Answers.{IsEarlier}
 use Rattle.step_values.specs.Values.{Action}
-use Rattle.step_table.specs.State.{Turn}
+use Rattle.step_table.specs.State.{StepStart}
 use Rattle.step_table.specs.Steps.{denied_locally, gets}
 use Rattle.step_actions.proofs.Fates.{chain_missed, denied_by_key, denied_fate, served_by_key, served_fate, unrouted_fate}
 use Rattle.step_actions.proofs.fate.missed.Goals as goal
 
 pub local_answer-requires : goal.local_answer-requires
 local_answer-requires g c =
-    subst (λ (r : Turn). AllByRecursion (IsEarlier r.moment) (lent c.chain.result.now)) (sym c.turn.view_is)
-    (subst (AllByRecursion (IsEarlier c.args.turn.now.moment)) (sym c.chain.ensures.chain) c.requires.earlier)
+    subst (λ (r : StepStart). AllByRecursion (IsEarlier r.moment) (lent c.chain.result.now)) (sym c.start.view_is)
+    (subst (AllByRecursion (IsEarlier c.args.start.now.moment)) (sym c.chain.ensures.chain) c.requires.earlier)
 
 pub returns-in-Served-clause-fate : goal.returns-in-Served-clause-fate
 returns-in-Served-clause-fate g c =
     let l = c.args.looked.now in
-    served_fate c.args.turn.now.config c.args.turn.now.moment c.args.request.now l c.in-Served.route
+    served_fate c.args.start.now.config c.args.start.now.moment c.args.request.now l c.in-Served.route
     (c.in-Served.ensures.served
-    ∙ served_by_key c.turn.inside.config.now _ _ (c.key.ensures ∙ ap (λ q. Rattle.dns_name.specs.Labels.lowered q.name) c.wanted-wanted.ensures)
-    ∙ (λ i. serving_route_of (c.turn.view_is i).config l.wanted.name))
+    ∙ served_by_key c.start.inside.config.now _ _ (c.key.ensures ∙ ap (λ q. Rattle.dns_name.specs.Labels.lowered q.name) c.wanted-wanted.ensures)
+    ∙ (λ i. serving_route_of (c.start.view_is i).config l.wanted.name))
 
 pub returns-in-Served-clause-waits : goal.returns-in-Served-clause-waits
 returns-in-Served-clause-waits g c =
     let l = c.args.looked.now in (
       c.requires.missed,
       sym (c.in-Served.ensures.served
-          ∙ served_by_key c.turn.inside.config.now _ _ (c.key.ensures ∙ ap (λ q. Rattle.dns_name.specs.Labels.lowered q.name) c.wanted-wanted.ensures)
-          ∙ (λ i. serving_route_of (c.turn.view_is i).config l.wanted.name)),
+          ∙ served_by_key c.start.inside.config.now _ _ (c.key.ensures ∙ ap (λ q. Rattle.dns_name.specs.Labels.lowered q.name) c.wanted-wanted.ensures)
+          ∙ (λ i. serving_route_of (c.start.view_is i).config l.wanted.name)),
     )
 
 pub returns-in_ok-action-in-Denied-clause-fate : goal.returns-in_ok-action-in-Denied-clause-fate
@@ -39,12 +39,12 @@ returns-in_ok-action-in-Denied-clause-fate g c =
     let key = c.key.ensures ∙ ap (λ q. Rattle.dns_name.specs.Labels.lowered q.name) c.wanted-wanted.ensures in
     let held = c.chain.ensures.chain ∙ chain_missed l.held l.met c.requires.missed in
     ap (λ (a : Action). gets a)
-    (c.in_ok-action-in-Denied.ensures ∙ (λ i. denied_locally (c.turn.view_is i).moment x (held i)))
-    ∙ denied_fate c.args.turn.now.config c.args.turn.now.moment x l
-    (c.in-Denied.ensures.served ∙ served_by_key c.turn.inside.config.now _ _ key
-    ∙ (λ i. serving_route_of (c.turn.view_is i).config l.wanted.name))
-    (c.in-Denied.ensures.denied ∙ denied_by_key c.turn.inside.config.now _ _ key
-    ∙ (λ i. is_local (c.turn.view_is i).config l.wanted.name))
+    (c.in_ok-action-in-Denied.ensures ∙ (λ i. denied_locally (c.start.view_is i).moment x (held i)))
+    ∙ denied_fate c.args.start.now.config c.args.start.now.moment x l
+    (c.in-Denied.ensures.served ∙ served_by_key c.start.inside.config.now _ _ key
+    ∙ (λ i. serving_route_of (c.start.view_is i).config l.wanted.name))
+    (c.in-Denied.ensures.denied ∙ denied_by_key c.start.inside.config.now _ _ key
+    ∙ (λ i. is_local (c.start.view_is i).config l.wanted.name))
 
 pub returns-in_ok-action-in-None-clause-fate : goal.returns-in_ok-action-in-None-clause-fate
 returns-in_ok-action-in-None-clause-fate g c =
@@ -52,8 +52,8 @@ returns-in_ok-action-in-None-clause-fate g c =
     let l = c.args.looked.now in
     let key = c.key.ensures ∙ ap (λ q. Rattle.dns_name.specs.Labels.lowered q.name) c.wanted-wanted.ensures in
     ap (λ (a : Action). gets a) c.in_ok-action-in-None.ensures
-    ∙ unrouted_fate c.args.turn.now.config c.args.turn.now.moment x l
-    (c.in-None.ensures.served ∙ served_by_key c.turn.inside.config.now _ _ key
-    ∙ (λ i. serving_route_of (c.turn.view_is i).config l.wanted.name))
-    (c.in-None.ensures.denied ∙ denied_by_key c.turn.inside.config.now _ _ key
-    ∙ (λ i. is_local (c.turn.view_is i).config l.wanted.name))
+    ∙ unrouted_fate c.args.start.now.config c.args.start.now.moment x l
+    (c.in-None.ensures.served ∙ served_by_key c.start.inside.config.now _ _ key
+    ∙ (λ i. serving_route_of (c.start.view_is i).config l.wanted.name))
+    (c.in-None.ensures.denied ∙ denied_by_key c.start.inside.config.now _ _ key
+    ∙ (λ i. is_local (c.start.view_is i).config l.wanted.name))

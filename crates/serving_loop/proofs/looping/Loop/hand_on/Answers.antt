@@ -7,9 +7,9 @@ use Rattle.serving_loop.proofs.looping.Loop.hand_on.Goals as goal
 
 pub loop-failed-preserved : goal.loop-failed-preserved
 loop-failed-preserved g c = hands_again _ _ c.in-Some.path _ _ _ _ _
-    (subst (λ (failed : Option Path). HandsSoFar (event_of c.args.event.now) c.hand-handled.result.more failed (standing g.W.Wire.told g.W.Wire.fault_count c.args.self.now) (standing g.W.Wire.told g.W.Wire.fault_count c.loop-failed.self)) c.in-Some.is c.loop-failed.invariant)
+    (subst (λ (failed : Option Path). HandsSoFar (event_of c.args.event.now) c.hand-handled.result.more failed (standing g.W.Wire.report g.W.Wire.fault_count c.args.self.now) (standing g.W.Wire.report g.W.Wire.fault_count c.loop-failed.self)) c.in-Some.is c.loop-failed.invariant)
     c.hand-failed.ensures
 
 pub returns : goal.returns
 returns g c = hands_on _ _ _ _
-    (subst (λ (failed : Option Path). HandsSoFar (event_of c.args.event.now) c.hand-handled.result.more failed (standing g.W.Wire.told g.W.Wire.fault_count c.args.self.now) (standing g.W.Wire.told g.W.Wire.fault_count c.loop-failed.self)) c.in_default.is c.loop-failed.invariant)
+    (subst (λ (failed : Option Path). HandsSoFar (event_of c.args.event.now) c.hand-handled.result.more failed (standing g.W.Wire.report g.W.Wire.fault_count c.args.self.now) (standing g.W.Wire.report g.W.Wire.fault_count c.loop-failed.self)) c.in_default.is c.loop-failed.invariant)

@@ -1,7 +1,7 @@
 use Rattle.std.proofs.Common.{◌∷◌, [], refl, ap, true, false, arith}
 use Rattle.step_values.specs.Values.{action_of, ask_in}
 use Rattle.serving_loop.specs.Events.{later}
-use Rattle.serving_loop.proofs.Telling.{adds_none, refused_ask, refused_other}
+use Rattle.serving_loop.proofs.Journal.{adds_none, refused_ask, refused_other}
 use Rattle.serving_loop.proofs.looping.Loop.put.Goals as goal
 
 pub returns-in-Ok : goal.returns-in-Ok
@@ -10,7 +10,7 @@ returns-in-Ok g c = record {
   actions_are = refl;
   failed_is = refl;
   running = refl;
-  tells = c.in-Ok.ensures.tells;
+  reports = c.in-Ok.ensures.reports;
   refused = adds_none _ _ refl;
   turns = refl;
   lost = refl;
@@ -25,7 +25,7 @@ returns-in-Some g c = record {
   actions_are = refl;
   failed_is = ap (later c.args.failed) c.in-Some.ensures;
   running = refl;
-  tells = c.in-Err.ensures.tells;
+  reports = c.in-Err.ensures.reports;
   refused = λ le. let none = refused_ask (ask_in (action_of c.args.action.now)) c.in-Some.path c.in-Some.ensures in omega (arith, none, le);
   turns = refl;
   lost = refl;
@@ -40,7 +40,7 @@ returns-in-None g c = record {
   actions_are = refl;
   failed_is = ap (later c.args.failed) c.in-None.ensures;
   running = refl;
-  tells = c.in-Err.ensures.tells;
+  reports = c.in-Err.ensures.reports;
   refused = λ le. let one = refused_other (ask_in (action_of c.args.action.now)) c.in-None.ensures in let sum = c.saturating_add-self.ensures in omega (arith, one, le, sum);
   turns = refl;
   lost = refl;

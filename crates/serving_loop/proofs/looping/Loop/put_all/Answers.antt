@@ -4,7 +4,7 @@ use Rattle.std.proofs.lemmas.Option.{get_or_from_slice_get}
 use Rattle.step_values.specs.Values.{Action, action_of, actions_of}
 use Rattle.serving_loop.specs.Serving.{standing}
 use Rattle.serving_loop.specs.Handing.{Puts}
-use Rattle.serving_loop.proofs.Telling.{puts_none, puts_more, ends_before}
+use Rattle.serving_loop.proofs.Journal.{puts_none, puts_more, ends_before}
 use Rattle.serving_loop.proofs.looping.Loop.put_all.Goals as goal
 
 pub loop-place-init : goal.loop-place-init
@@ -28,6 +28,6 @@ loop-place-preserved g c =
     map_more (λ a. action_of a) actions c.loop-place.place action (omega (arith, test, count))
     ∙ ap (λ a. so_far ++ action_of a ∷ [])
     (get_or_from_slice_get actions c.loop-place.place action action c.in-Some.ensures) in
-    subst (λ (actions : List Action). Puts None actions c.put-failed.result (standing g.W.Wire.told g.W.Wire.fault_count c.args.self.now)
-    (standing g.W.Wire.told g.W.Wire.fault_count c.put-failed.new.self)) (sym more)
+    subst (λ (actions : List Action). Puts None actions c.put-failed.result (standing g.W.Wire.report g.W.Wire.fault_count c.args.self.now)
+    (standing g.W.Wire.report g.W.Wire.fault_count c.put-failed.new.self)) (sym more)
     (puts_more _ _ _ so_far _ _ _ _ c.loop-place.invariant c.put-failed.ensures)

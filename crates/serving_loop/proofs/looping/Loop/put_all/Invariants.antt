@@ -6,4 +6,4 @@ use Rattle.serving_loop.proofs.looping.Loop.put_all.Given as goal
 
 abbrev pub invariant-loop-place : goal.invariant-loop-place
 invariant-loop-place g l =
-    Puts None (actions_of (take l.place l.actions)) l.failed (standing g.W.Wire.told g.W.Wire.fault_count l.fn.self) (standing g.W.Wire.told g.W.Wire.fault_count l.self)
+    Puts None (actions_of (take l.place l.actions)) l.failed (standing g.W.Wire.report g.W.Wire.fault_count l.fn.self) (standing g.W.Wire.report g.W.Wire.fault_count l.self)

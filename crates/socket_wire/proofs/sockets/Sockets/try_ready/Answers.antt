@@ -20,14 +20,14 @@ returns-in_default g c =
 pub returns-in_err-arrival : goal.returns-in_err-arrival
 returns-in_err-arrival g c =
     let came : c.attempt.result ≡ Err c.in_err-arrival.field-0.0 = search rules in
-    let told : c.from_residual.result ≡ Err c.in_err-arrival.field-0.0 = search rules in
+    let report : c.from_residual.result ≡ Err c.in_err-arrival.field-0.0 = search rules in
     let so_far = rw (← c.self.view_is) at c.loop-tried.invariant in
     ready_given 64 c.loop-tried._tried c.args.now c.in-Some.origin (Err c.in_err-arrival.field-0.0)
     c.from_residual.result c.args.self.now _ _ c.attempt.new.self c.attempt.new.self (omega arith)
     so_far
     (gives_next (Some c.in-Some.origin) _ c.next.new.self c.in-Some.ensures.finds
     c.in-Some.ensures.rest)
-    (rw came at c.attempt.ensures) (told, refl)
+    (rw came at c.attempt.ensures) (report, refl)
 
 pub returns-in-Arrived : goal.returns-in-Arrived
 returns-in-Arrived g c =
