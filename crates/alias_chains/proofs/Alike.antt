@@ -10,7 +10,7 @@ use Rattle.record_cache.specs.Values.{Held}
 use Rattle.negative_cache.specs.Values.{Found, local, rows, alias, no_data, denied, miss}
 use Rattle.negative_cache.specs.Finding.{found}
 use Rattle.negative_cache.proofs.CallerLemmas.{equal_questions_find_the_same}
-use Rattle.alias_chains.specs.LookingUp.{LookUpEnd, ends, too_long, missed, LookUp, look_up_behind, look_up_after, one_too_many, through, look_up}
+use Rattle.alias_chains.specs.LookingUp.{LookUpEnd, ends, too_long, missed, LookUp, look_up_on, look_up_after, one_too_many, through, look_up}
 use Rattle.alias_chains.specs.Laws.{AreAlike, SameAreLookedUpAlike}
 
 -- the same question at a name
@@ -42,7 +42,7 @@ followed_alike : (held : List Held) (q other : Question) (onward onward' : Held 
 followed_alike held q other onward onward' same go (rows e) = alike_alone held q other (ends e) (e.piece.slot ∷ []) same
 followed_alike held q other onward onward' same go (alias e) = by (target_of e.piece.body)
   where
-    by : (t : Option (List (List ℕ))) → AreAlike held (look_up_behind held q onward e t) (look_up_behind held other onward' e t)
+    by : (t : Option (List (List ℕ))) → AreAlike held (look_up_on held q onward e t) (look_up_on held other onward' e t)
     by None = alike_alone held q other missed [] same
     by (Some target) = alike_both held (onward e target) (onward' e target) (go e target)
 followed_alike held q other onward onward' same go (no_data e) = alike_alone held q other (ends e) (e.piece.slot ∷ []) same

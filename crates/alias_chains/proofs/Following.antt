@@ -11,7 +11,7 @@ use Rattle.trust_rank.specs.Walks.{target_of, most_aliases}
 use Rattle.record_cache.specs.Values.{Held}
 use Rattle.negative_cache.specs.Values.{Found, local, rows, alias, no_data, denied, miss}
 use Rattle.negative_cache.specs.Finding.{found}
-use Rattle.alias_chains.specs.LookingUp.{ends, too_long, missed, LookUp, ended, missing, look_up_behind, one_too_many, through, look_up, too_many, goes_on}
+use Rattle.alias_chains.specs.LookingUp.{ends, too_long, missed, LookUp, ended, missing, look_up_on, one_too_many, through, look_up, too_many, goes_on}
 use Rattle.alias_chains.specs.Looked.{chain_of, kind_of, before_last, last_of, looked_so, IsWhole, with_used, look_up_from}
 use Rattle.alias_chains.specs.declared.looked.LookUpEnd.{LookUpEnd}
 use Rattle.alias_chains.specs.declared.looked.LookUpEnd.TheVariants.{Ends, TooLong, Missed}
@@ -153,15 +153,15 @@ module _ (routes : List Route) (n : ℕ) (entries : List Held) where
   no_target_from : (more : ℕ) (held : List Held) (q : Question) (e : Held) → target_of e.piece.body ≡ None
       → from more held q (alias e) ≡ missing held q
   unfolding look_up_from
-  no_target_from zero held q e none = ap (look_up_behind held q (one_too_many held q) e) none
+  no_target_from zero held q e none = ap (look_up_on held q (one_too_many held q) e) none
   no_target_from (suc more) held q e none =
-      ap (look_up_behind held q (λ f target. through f (look_up routes n entries more (held ++ f ∷ []) (asked_at q target))) e) none
+      ap (look_up_on held q (λ f target. through f (look_up routes n entries more (held ++ f ∷ []) (asked_at q target))) e) none
 
   -- one alias too many
   ninth_from : (held : List Held) (q : Question) (e : Held) (target : List (List ℕ)) → target_of e.piece.body ≡ Some target
       → from 0 held q (alias e) ≡ one_too_many held q e target
   unfolding look_up_from
-  ninth_from held q e target is = ap (look_up_behind held q (one_too_many held q) e) is
+  ninth_from held q e target is = ap (look_up_on held q (one_too_many held q) e) is
 
   -- an alias that leads on
   alias_from : (more : ℕ) (held : List Held) (q : Question) (e : Held) (target : List (List ℕ)) → target_of e.piece.body ≡ Some target
@@ -169,7 +169,7 @@ module _ (routes : List Route) (n : ℕ) (entries : List Held) where
       ≡ through e (from more (held ++ e ∷ []) (asked_at q target) (found routes n entries (asked_at q target)))
   unfolding look_up_from
   alias_from more held q e target is =
-      ap (look_up_behind held q (λ f t. through f (look_up routes n entries more (held ++ f ∷ []) (asked_at q t))) e) is
+      ap (look_up_on held q (λ f t. through f (look_up routes n entries more (held ++ f ∷ []) (asked_at q t))) e) is
       ∙ ap (through e) (from_found more (held ++ e ∷ []) (asked_at q target))
 
   -- ---- on the way

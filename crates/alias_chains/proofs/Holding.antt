@@ -13,7 +13,7 @@ use Rattle.negative_cache.specs.Values.{Found, local, rows, alias, no_data, deni
 use Rattle.negative_cache.specs.Finding.{found}
 use Rattle.negative_cache.specs.Laws.{Fits}
 use Rattle.negative_cache.proofs.CallerLemmas.{found_fits}
-use Rattle.alias_chains.specs.LookingUp.{LookUpEnd, ends, too_long, missed, LookUp, look_up_behind, look_up_after, one_too_many, through, look_up, too_many, goes_on}
+use Rattle.alias_chains.specs.LookingUp.{LookUpEnd, ends, too_long, missed, LookUp, look_up_on, look_up_after, one_too_many, through, look_up, too_many, goes_on}
 use Rattle.alias_chains.specs.Looked.{chain_at, chain_of}
 
 module _ (P : Held → Type 0) where
@@ -74,7 +74,7 @@ module _ (P : Held → Type 0) where
     followed_holds held q onward all go (rows h) is = all_put held h all is
     followed_holds held q onward all go (alias h) is = by (target_of h.piece.body)
       where
-        by : (t : Option (List (List ℕ))) → All (chain_of (look_up_behind held q onward h t))
+        by : (t : Option (List (List ℕ))) → All (chain_of (look_up_on held q onward h t))
         by None = all
         by (Some target) = go h target is
     followed_holds held q onward all go (no_data h) is = all_put held h all is
@@ -110,7 +110,7 @@ module _ (routes : List Route) (n : ℕ) (entries : List Held) where
   followed_keeps held q onward go (rows h) = omega arith
   followed_keeps held q onward go (alias h) = by (target_of h.piece.body)
     where
-      by : (t : Option (List (List ℕ))) → KeepsHeld held (look_up_behind held q onward h t)
+      by : (t : Option (List (List ℕ))) → KeepsHeld held (look_up_on held q onward h t)
       by None = omega arith
       by (Some target) = go h target
   followed_keeps held q onward go (no_data h) = omega arith
@@ -135,7 +135,7 @@ module _ (routes : List Route) (n : ℕ) (entries : List Held) where
   followed_own q onward go (rows h) none = refl
   followed_own q onward go (alias h) none = by (target_of h.piece.body) none
     where
-      by : (t : Option (List (List ℕ))) → (look_up_behind [] q onward h t).held ≡ [] → (look_up_behind [] q onward h t).wanted ≡ q
+      by : (t : Option (List (List ℕ))) → (look_up_on [] q onward h t).held ≡ [] → (look_up_on [] q onward h t).wanted ≡ q
       by None is = refl
       by (Some target) is =
           let some = go h target in

@@ -33,16 +33,16 @@ abbrev pub missing : List Held → Question → LookUp
 missing held q = record { held = held; wanted = q; met = missed; used = [] }
 
 -- it goes on at the name that an alias leads to
-abbrev pub look_up_behind : List Held → Question → (Held → List (List ℕ) → LookUp) → Held → Option (List (List ℕ))
+abbrev pub look_up_on : List Held → Question → (Held → List (List ℕ) → LookUp) → Held → Option (List (List ℕ))
     → LookUp
-look_up_behind held q onward e None = missing held q
-look_up_behind held q onward e (Some target) = onward e target
+look_up_on held q onward e None = missing held q
+look_up_on held q onward e (Some target) = onward e target
 
 -- a look-up after what was found at one name
 abbrev pub look_up_after : List Held → Question → (Held → List (List ℕ) → LookUp) → Found → LookUp
 look_up_after held q onward local = missing held q
 look_up_after held q onward (rows e) = ended held q e
-look_up_after held q onward (alias e) = look_up_behind held q onward e (target_of e.piece.body)
+look_up_after held q onward (alias e) = look_up_on held q onward e (target_of e.piece.body)
 look_up_after held q onward (no_data e) = ended held q e
 look_up_after held q onward (denied e) = ended held q e
 look_up_after held q onward miss = missing held q

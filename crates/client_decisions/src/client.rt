@@ -39,7 +39,7 @@ use std::alloc::{AllocError, Allocator};
 use std::hash::BuildHasher;
 use step_actions::{
     Attempt, Change, Decision, Fate, Opening, StepStartRef, by_udp, fate_of, new_ask, nothing,
-    sent_on,
+    redirected,
 };
 use step_texts::{ask as ask_action, failure, refusal};
 use step_values::{Action, Actions, Client, Why};
@@ -200,8 +200,8 @@ fn waiting_with<A: Allocator + Copy>(
     if looked.chain().is_empty() {
         return request.to_waiting(alloc, None);
     }
-    let sent_on = sent_on(alloc, looked)?;
-    request.to_waiting(alloc, Some(sent_on))
+    let redirected = redirected(alloc, looked)?;
+    request.to_waiting(alloc, Some(redirected))
 }
 
 /// Decides a question for which there is room. If an ask is listed, none goes out.

@@ -25,7 +25,7 @@ use Rattle.step_table.proofs.CallerLemmas.{All-append, All-filter, All-weaker, p
 use Rattle.step_actions.specs.declared.decision.Preferred.{Preferred}
 use Rattle.step_actions.specs.Kept.{IsKeptAsk, HoldsEarlier, IsKeptForwarder}
 use Rattle.step_actions.specs.Decision.{left_waiting, left_or_sent, with_preferred, IfFollows, IsSentEarlier, IsServed}
-use Rattle.waiting_questions.specs.Onward.{Onward, sent_on}
+use Rattle.waiting_questions.specs.Onward.{Onward, redirected}
 use Rattle.waiting_questions.specs.Settling.{left_by, settled}
 use Rattle.dns_message.specs.Values.{Question}
 use Rattle.step_actions.proofs.CallerLemmas.{later_entries, later_held, later_taken, kept_rest, kept_without}
@@ -145,13 +145,13 @@ any_fate [] = tt
 any_fate (fate ∷ fates) = (tt, any_fate fates)
 
 -- what a fate leaves of a question, where it meets the condition still, before others that do
-one_settled : (P : Waiting → Type 0) (Fits : Option Onward → Type 0) → ((s : Onward) (x : Waiting) → Fits (Some s) → P x → P (sent_on s x)) → (x : Waiting) (rest : List Waiting) → P x → AllByRecursion P rest
+one_settled : (P : Waiting → Type 0) (Fits : Option Onward → Type 0) → ((s : Onward) (x : Waiting) → Fits (Some s) → P x → P (redirected s x)) → (x : Waiting) (rest : List Waiting) → P x → AllByRecursion P rest
     → (o : Option Onward) → Fits o → AllByRecursion P (cons_option (left_by o x) rest)
 one_settled P Fits still x rest was all None h = all
 one_settled P Fits still x rest was all (Some s) h = (still s x h was, all)
 
 -- what fates leave of questions, where each that is sent on meets the condition still
-all_settled : (P : Waiting → Type 0) (Fits : Option Onward → Type 0) → ((s : Onward) (x : Waiting) → Fits (Some s) → P x → P (sent_on s x)) → (q : Question) (fates : List (Option Onward)) (xs : List Waiting)
+all_settled : (P : Waiting → Type 0) (Fits : Option Onward → Type 0) → ((s : Onward) (x : Waiting) → Fits (Some s) → P x → P (redirected s x)) → (q : Question) (fates : List (Option Onward)) (xs : List Waiting)
     → AllByRecursion Fits fates → AllByRecursion P xs → AllByRecursion P (settled q fates xs)
 all_settled P Fits still q fates [] fit all = tt
 all_settled P Fits still q [] (x ∷ xs) fit all = all

@@ -10,7 +10,7 @@ use outstanding::{Ask, Inquiries, KeyedAsk, Path, Refusal};
 use record_cache::Cache;
 use std::alloc::{AllocError, Allocator};
 use std::hash::BuildHasher;
-use waiting_questions::{SentOn, WaitingQuestions};
+use waiting_questions::{Onward, WaitingQuestions};
 
 /// Lists an ask for which there is room.
 pub fn list_ask<A: Allocator>(
@@ -51,7 +51,7 @@ pub fn send_on<A: Allocator>(
     waiting: &mut WaitingQuestions<A>,
     path: Path,
     next: Option<Ask<A>>,
-    onward: Vec<Option<SentOn<A>>, A>,
+    onward: Vec<Option<Onward<A>>, A>,
 )
     requires those { AreForThose (ask_on path inquiries.old.asks) onward.items waiting.old.items }
     requires begins { IfSome next (λ ask. MayBegin ask (without_path path inquiries.old.asks)) }

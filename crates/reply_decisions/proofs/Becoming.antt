@@ -4,7 +4,7 @@ use Rattle.std.specs.Prelude.{filter, map}
 use Rattle.std.specs.List.{cons_option}
 use Rattle.std.proofs.lemmas.Simd.{map-map}
 use Rattle.dns_message.specs.Values.{Question}
-use Rattle.waiting_questions.specs.Onward.{Onward, sent_on}
+use Rattle.waiting_questions.specs.Onward.{Onward, redirected}
 use Rattle.waiting_questions.specs.Values.{Waiting, waits_for}
 use Rattle.waiting_questions.specs.Settling.{left_by, settled, settled_by}
 use Rattle.waiting_questions.proofs.CallerLemmas.{settled_by_function}
@@ -12,7 +12,7 @@ use Rattle.step_table.specs.Steps.{Fate, gets, waits, reply_in, waiting_in, repl
 use Rattle.reply_decisions.specs.Fates.{onward_of, AreFates}
 
 module _ (q : Question) (fate : Waiting → Fate) (others : (x : Waiting) → waits_for q x ≡ false → fate x ≡ waits x)
-    (own : (x y : Waiting) → waits_for q x ≡ true → fate x ≡ waits y → y ≡ sent_on (record { held = y.held; wanted = y.wanted }) x) where
+    (own : (x y : Waiting) → waits_for q x ≡ true → fate x ≡ waits y → y ≡ redirected (record { held = y.held; wanted = y.wanted }) x) where
   -- ---- the replies
 
   one_reply : (t : Bool) (x : Waiting) (xs those : List Waiting) → waits_for q x ≡ t → replies (map fate xs) ≡ replies (map fate those)

@@ -26,7 +26,7 @@ use Rattle.step_texts.specs.Spelling.{Source}
 use Rattle.reply_match.specs.Verdicts.{judge}
 use Rattle.step_actions.specs.declared.decision.Preferred.{Preferred}
 use Rattle.step_actions.specs.declared.decision.Change.TheVariants.{Close, SendOn, AskAgain, Expire}
-use Rattle.step_actions.specs.declared.decision.Sending.{Sending}
+use Rattle.step_actions.specs.declared.decision.Redirect.{Redirect}
 use Rattle.reply_decisions.specs.Fates.{onward_of, AreFates}
 use Rattle.reply_decisions.proofs.Becoming.{replies_are, waiting_are}
 use Rattle.step_actions.specs.Decision.{left_waiting, with_preferred, without_closed, closed_path, closing_path, changed, gives_from, reply_from, left_or_sent, with_reply, with_replies}
@@ -113,7 +113,7 @@ given_frees d q = λ x. one_fate (waits_for q x) (reply_from d x) x
 
 -- ---- those that waited for an ask are sent on
 
-pub sending_row : (A : Type 0) (n : ℕ) (s : State) (a : Ask) (fate : Waiting → Fate) (each : List Fate) (next : Option Ask) (used : List Slot) (boxed : Box (Sending A) A) (actions : List Action) → ask_on a.path s.asks ≡ Some a → AreFates a.question fate s.waiting each
+pub sending_row : (A : Type 0) (n : ℕ) (s : State) (a : Ask) (fate : Waiting → Fate) (each : List Fate) (next : Option Ask) (used : List Slot) (boxed : Box (Redirect A) A) (actions : List Action) → ask_on a.path s.asks ≡ Some a → AreFates a.question fate s.waiting each
     → boxed.value.path ≡ a.path → boxed.value.preferred.route ≡ a.route → boxed.value.preferred.server ≡ a.server → boxed.value.onward.items ≡ map onward_of each → boxed.value.ask ≡ next
     → actions ≡ closes a.path ∷ (replies each ++ map asks (ask_list next))
     → record { actions = actions; unkept = 0; state = changed {A = A} n (with_promoted used s) (SendOn boxed) } ≡ closing_step n a fate next (with_promoted used (with_preferred_server a s))

@@ -5,7 +5,7 @@ use Rattle.dns_message.specs.Values.{Question}
 use Rattle.suffix_routes.specs.Values.{Config}
 use Rattle.suffix_routes.specs.Serving.{serving_route_of}
 use Rattle.record_cache.specs.Values.{Held}
-use Rattle.waiting_questions.specs.Onward.{sent_on}
+use Rattle.waiting_questions.specs.Onward.{redirected}
 use Rattle.waiting_questions.specs.Values.{Waiting}
 use Rattle.alias_chains.specs.LookingUp.{LookUpEnd, LookUp, ends, too_long, missed}
 use Rattle.step_table.specs.Steps.{Fate, waits}
@@ -47,7 +47,7 @@ module _ (c : Config) (n : ℕ) (l : LookUp) where
   -- it holds what the look-up holds, and wants what that wants
   pub record WaitsWith (x y : Waiting) : Type 0 where
     pub held : y.held ≡ l.held
-    pub own : y ≡ sent_on (record { held = y.held; wanted = y.wanted }) x
+    pub own : y ≡ redirected (record { held = y.held; wanted = y.wanted }) x
 
   with_route : (x y : Waiting) (r : Option ℕ) → fate_missed c n x l r ≡ waits y → WaitsWith x y
   with_route x y None is = absurd (cc)
@@ -55,7 +55,7 @@ module _ (c : Config) (n : ℕ) (l : LookUp) where
       let same : y ≡ record x { held = l.held; wanted = l.wanted } = cc in
       record {
         held = ap (λ (z : Waiting). z.held) same;
-        own = same ∙ (λ i. sent_on (record { held = sym (ap (λ (z : Waiting). z.held) same) i; wanted = sym (ap (λ (z : Waiting). z.wanted) same) i }) x);
+        own = same ∙ (λ i. redirected (record { held = sym (ap (λ (z : Waiting). z.held) same) i; wanted = sym (ap (λ (z : Waiting). z.wanted) same) i }) x);
       }
 
   with_end : (x y : Waiting) (m : LookUpEnd) → fate_at c n x l m ≡ waits y → WaitsWith x y

@@ -13,12 +13,12 @@ use Rattle.trust_rank.specs.Values.{Piece, End, elsewhere, Walk}
 use Rattle.record_cache.specs.Values.{Held, Cache}
 use Rattle.answer_builder.specs.Answers.{IsEarlier}
 use Rattle.suffix_routes.specs.Serving.{serving_route_of}
-use Rattle.waiting_questions.specs.Onward.{Onward, sent_on}
+use Rattle.waiting_questions.specs.Onward.{Onward, redirected}
 use Rattle.step_table.specs.State.{State, StepStart, start}
 use Rattle.waiting_questions.specs.Values.{Waiting, waits_for}
 use Rattle.step_table.specs.Attempts.{first_ask_on}
 use Rattle.step_table.specs.Steps.{Done, Fate, gets, waits, still_waiting, with_preferred_server, with_promoted, closing_step, offering_step}
-use Rattle.step_table.specs.Replies.{fate_by, looked_by, unless_open, to_be_asked, without_port, unless_no_port, row_of_next_name, row_of_sent_on, row_of_end, row_of_acceptance}
+use Rattle.step_table.specs.Replies.{fate_by, looked_by, unless_open, to_be_asked, without_port, unless_no_port, row_of_next_name, row_of_redirected, row_of_end, row_of_acceptance}
 use Rattle.step_table.specs.Clients.{fate_of}
 use Rattle.alias_chains.specs.Offering.{held_at}
 use Rattle.reply_decisions.specs.Fates.{first_wanted, looked_on, onward_of, AreFates}
@@ -29,7 +29,7 @@ use Rattle.step_table.proofs.CallerLemmas.{without_shorter, All-weaker}
 use Rattle.step_actions.specs.Kept.{IsKeptForwarder}
 use Rattle.step_actions.specs.Decision.{CanFollow, IfFollows, IsSentEarlier}
 use Rattle.step_actions.proofs.CallerLemmas.{first_follows, kept_without}
-use Rattle.reply_decisions.specs.Sending.{closing_state, asked_for, ask_for, fates_then}
+use Rattle.reply_decisions.specs.Redirecting.{closing_state, asked_for, ask_for, fates_then}
 
 -- ---- what is asked for
 
@@ -81,7 +81,7 @@ then_those q fate (Some wanted) None xs = no_port_of q fate xs
 
 -- each waits on with its own client
 abbrev IsOwn : Question → (Waiting → Fate) → Type 0
-IsOwn q fate = (x y : Waiting) → waits_for q x ≡ true → fate x ≡ waits y → y ≡ sent_on (record { held = y.held; wanted = y.wanted }) x
+IsOwn q fate = (x y : Waiting) → waits_for q x ≡ true → fate x ≡ waits y → y ≡ redirected (record { held = y.held; wanted = y.wanted }) x
 
 then_own : (q : Question) (fate : Waiting → Fate) (asked : Option Question) (next : Option Ask) → IsOwn q fate
     → IsOwn q (fate_then q fate asked next)
@@ -89,7 +89,7 @@ then_own q fate None next own x y t is = own x y t is
 then_own q fate (Some wanted) (Some next) own x y t is = own x y t is
 then_own q fate (Some wanted) None own x y t is = by (fate x) (sym (cond-true (waits_for q x) _ _ t) ∙ is)
   where
-    by : (f : Fate) → without_port f ≡ waits y → y ≡ sent_on (record { held = y.held; wanted = y.wanted }) x
+    by : (f : Fate) → without_port f ≡ waits y → y ≡ redirected (record { held = y.held; wanted = y.wanted }) x
     by (gets reply) e = absurd (cc)
     by (waits z) e = absurd (cc)
 
@@ -141,7 +141,7 @@ module _ (c : Config) (n : ℕ) (words : List ℕ) (a : Ask) (w : Walk) (s : Sta
 
   sent_by : (asked : Option Question) (next : Option Ask) (used : List Slot)
       → next ≡ ask_for (start c n words (closing_state a s)) asked
-      → row_of_sent_on (start c n words (with_promoted used (with_preferred_server a s))) a fate asked
+      → row_of_redirected (start c n words (with_promoted used (with_preferred_server a s))) a fate asked
       ≡ closing_step n a (fate_then a.question fate asked next) next (with_promoted used (with_preferred_server a s))
   sent_by None next used is = ap (λ (z : Option Ask). closing_step n a fate z
       (with_promoted used (with_preferred_server a s))) (sym is)
@@ -162,7 +162,7 @@ module _ (c : Config) (n : ℕ) (words : List ℕ) (a : Ask) (w : Walk) (s : Sta
       (with_promoted used (with_preferred_server a s))))
       ∙ ap (offering_step n rooms (w.pieces ++ w.authority))
       (sym (sent_by asked next used next_is)
-      ∙ (λ i. row_of_sent_on (start c n words (with_promoted ((used_are ∙ used_one those) i)
+      ∙ (λ i. row_of_redirected (start c n words (with_promoted ((used_are ∙ used_one those) i)
       (with_preferred_server a s))) a fate (asked_are i))
       ∙ sym (ap (row_of_end (start c n words (with_preferred_server a s)) a w fate) leads))
 

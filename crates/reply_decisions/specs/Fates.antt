@@ -6,12 +6,12 @@ use Rattle.trust_rank.specs.declared.slot.Slot.{Slot}
 use Rattle.record_cache.specs.Values.{Held}
 use Rattle.step_values.specs.Values.{action_of}
 use Rattle.waiting_questions.specs.Values.{Waiting, waits_for}
-use Rattle.waiting_questions.specs.Onward.{Onward, sent_on}
+use Rattle.waiting_questions.specs.Onward.{Onward, redirected}
 use Rattle.alias_chains.specs.LookingUp.{LookUp, goes_on}
 use Rattle.step_table.specs.State.{StepStart}
 use Rattle.step_table.specs.Steps.{Fate, gets, waits}
 use Rattle.reply_decisions.specs.declared.fate.WaitingFate.{WaitingFate}
-use Rattle.reply_decisions.specs.declared.fate.WaitingFate.TheVariants.{Reply, SentOn}
+use Rattle.reply_decisions.specs.declared.fate.WaitingFate.TheVariants.{Reply, WaitsOn}
 
 -- of all of them, in the order of arrival, and the slots used by their look-ups
 pub record Fates : Type 0 where
@@ -21,7 +21,7 @@ pub record Fates : Type 0 where
 -- the fate of a question as the table has it
 abbrev pub fate_now : {A : Type 0} → WaitingFate A → Fate
 fate_now (Reply action) = gets (action_of action)
-fate_now (SentOn x s) = waits (sent_on s x.now)
+fate_now (WaitsOn x s) = waits (redirected s x.now)
 
 -- the aliases and the question with which a question waits on, if it does
 abbrev pub onward_of : Fate → Option Onward
@@ -43,5 +43,5 @@ looked_on t aliases name x =
 pub record AreFates (q : Question) (fate : Waiting → Fate) (xs : List Waiting) (each : List Fate) : Type 0 where
   pub are : each ≡ map fate (filter (waits_for q) xs)
   pub own : (x y : Waiting) → waits_for q x ≡ true → fate x ≡ waits y
-      → y ≡ sent_on (record { held = y.held; wanted = y.wanted }) x
+      → y ≡ redirected (record { held = y.held; wanted = y.wanted }) x
   pub others : (x : Waiting) → waits_for q x ≡ false → fate x ≡ waits x

@@ -1,3 +1,3 @@
 pub mod Walked
 pub mod Fates
-pub mod Sending
+pub mod Redirecting

@@ -5,7 +5,7 @@
 //! 2. `on_verdict`: nothing for a stranger's, `attempt::fail` for a failure, or `on_whole`.
 //! 3. `on_whole` reads the message: `attempt::fail` if malformed, or `on_message`.
 //! 4. `on_message` walks the message from the question: `attempt::fail` for a lame server,
-//!    `sending::send_on` if aliases lead elsewhere, or `accept`.
+//!    `redirecting::send_on` if aliases lead elsewhere, or `accept`.
 //! 5. `accept` answers all questions waiting for the ask, and keeps the pieces.
 
 ghost use Rattle.std.specs.Prelude.{◌≡◌, ◌^◌, ◌≤◌, ℕ, true, false, Bool, List, IfOk, Some};
@@ -24,7 +24,7 @@ ghost use Rattle.reply_decisions.specs.Walked.{walk_to, IsRead, IsWalkFor, Shows
 ghost use Rattle.step_table.specs.State.{start};
 
 use crate::attempt::fail;
-use crate::sending::send_on;
+use crate::redirecting::send_on;
 use alias_chains::{Slots, held_from};
 use dns_message::{Fault, Message, MessageRef};
 use outstanding::{KeyedAsk, Path};

@@ -17,10 +17,10 @@ use dns_name::Name;
 use record_cache::Held;
 use std::alloc::{AllocError, Allocator, Global};
 use std::hash::BuildHasher;
-use step_actions::{Fate, StepStartRef, fate_of, sent_on};
+use step_actions::{Fate, StepStartRef, fate_of, redirected};
 use step_texts::failure;
 use step_values::{Action, Why};
-use waiting_questions::{SentOn, Waiting};
+use waiting_questions::{Onward, Waiting};
 
 /// The aliases of a reply, and their target.
 #[derive(Drop)]
@@ -73,7 +73,7 @@ fn put_all<'a, A: Allocator>(
 #[derive(Drop)]
 pub(crate) enum WaitingFate<'a, A: Allocator = Global> {
     Reply(Action<A>),
-    SentOn(&'a Waiting<A>, SentOn<A>),
+    WaitsOn(&'a Waiting<A>, Onward<A>),
 }
 
 /// The fate of a question by its look-up, which went on after its own aliases and those of the
@@ -91,8 +91,8 @@ pub(crate) fn fate_after<'a, H: BuildHasher + Drop, A: Allocator + Copy>(
     match fate {
         Fate::Reply(action) => Ok(WaitingFate::Reply(action)),
         Fate::Waits(_) => {
-            let sent_on = sent_on(start.alloc, looked)?;
-            Ok(WaitingFate::SentOn(waiting, sent_on))
+            let redirected = redirected(start.alloc, looked)?;
+            Ok(WaitingFate::WaitsOn(waiting, redirected))
         }
     }
 }
@@ -104,7 +104,7 @@ impl<'a, A: Allocator + Copy> WaitingFate<'a, A> {
     {
         match self {
             WaitingFate::Reply(action) => Ok(WaitingFate::Reply(action)),
-            WaitingFate::SentOn(waiting, _) => {
+            WaitingFate::WaitsOn(waiting, _) => {
                 let action = failure(alloc, &waiting.request(), Why::NoPort)?;
                 Ok(WaitingFate::Reply(action))
             }
@@ -118,7 +118,7 @@ impl<'a, A: Allocator + Copy> WaitingFate<'a, A> {
     {
         match self {
             WaitingFate::Reply(_) => None,
-            WaitingFate::SentOn(_, sent_on) => Some(&sent_on.wanted),
+            WaitingFate::WaitsOn(_, redirected) => Some(&redirected.wanted),
         }
     }
 }

@@ -19,7 +19,7 @@ use std::marker::Model;
 use step_actions::StepStartRef;
 use step_values::Actions;
 use trust_rank::Slot;
-use waiting_questions::{SentOn, Waiting, WaitingFor};
+use waiting_questions::{Onward, Waiting, WaitingFor};
 
 /// The fates of questions, in the order of arrival, and the slots of the entries used by their
 /// look-ups.
@@ -127,7 +127,7 @@ impl<'a, A: Allocator + Copy> Fates<'a, A> {
         self,
         alloc: A,
         actions: &mut Actions<A>,
-    ) -> Result<(Vec<Option<SentOn<A>>, A>, Slots<'s, A>), AllocError>
+    ) -> Result<(Vec<Option<Onward<A>>, A>, Slots<'s, A>), AllocError>
         ensures replies { IfOk result (λ parts. actions_of actions.new
             ≡ actions_of actions.old ++ replies self.entry.each) }
         ensures onward { IfOk result (λ parts. parts.0.items ≡ map onward_of self.entry.each) }
@@ -141,7 +141,7 @@ impl<'a, A: Allocator + Copy> Fates<'a, A> {
                     actions.push(action)?;
                     onward.push(None)?;
                 }
-                WaitingFate::SentOn(_, sent_on) => onward.push(Some(sent_on))?,
+                WaitingFate::WaitsOn(_, redirected) => onward.push(Some(redirected))?,
             }
         }
         Ok((onward, Slots::of(used)))

@@ -6,7 +6,7 @@ mod attempt;
 mod delivery;
 mod fate;
 mod fates;
-mod sending;
+mod redirecting;
 mod tick;
 
 pub use attempt::on_failed_path;

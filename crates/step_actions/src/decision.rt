@@ -10,7 +10,7 @@ use record_cache::Held;
 use std::alloc::{Allocator, Global};
 use step_values::Actions;
 use suffix_routes::RouteId;
-use waiting_questions::{KeyedWaiting, SentOn};
+use waiting_questions::{KeyedWaiting, Onward};
 
 /// The first server to ask from now on: its route, and its place in the route's group.
 #[derive(Clone, Copy)]
@@ -30,10 +30,10 @@ pub struct Opening<A: Allocator = Global> {
 /// aliases and this question, in the order of taking. The ask is closed, and the first ask for that
 /// question is listed, if none is yet.
 #[derive(Drop)]
-pub struct Sending<A: Allocator = Global> {
+pub struct Redirect<A: Allocator = Global> {
     pub path: Path,
     pub preferred: Preferred,
-    pub onward: Vec<Option<SentOn<A>>, A>,
+    pub onward: Vec<Option<Onward<A>>, A>,
     pub ask: Option<Ask<A>>,
 }
 
@@ -49,7 +49,7 @@ pub enum Change<A: Allocator = Global> {
     /// The ask on this path is closed, and the questions waiting for it wait no more.
     Close(Path, Option<Preferred>),
     /// The ask on a path is closed, and the questions waiting for it are redirected.
-    SendOn(Box<Sending<A>, A>),
+    SendOn(Box<Redirect<A>, A>),
     /// The ask on this path is closed, and the next for its question is listed.
     AskAgain(Path, Box<Ask<A>, A>),
     /// The oldest question waits no more, and the ask on this path, if any, is closed.

@@ -17,7 +17,7 @@ use std::hash::BuildHasher;
 use step_texts::{answer, failure, local_answer};
 use step_values::{Action, Why};
 use suffix_routes::{RouteId, Routing};
-use waiting_questions::{Request, SentOn};
+use waiting_questions::{Onward, Request};
 
 /// How a question goes on after its look-up.
 #[derive(Drop)]
@@ -83,15 +83,15 @@ fn missed<H: BuildHasher + Drop, A: Allocator + Copy>(
 
 /// Copies of the aliases held and the question wanted at the end of a look-up that missed: a
 /// question waits with these.
-pub fn sent_on<A: Allocator + Copy>(
+pub fn redirected<A: Allocator + Copy>(
     alloc: A,
     looked: &LookUp<'_, '_, A>,
-) -> Result<SentOn<A>, AllocError>
+) -> Result<Onward<A>, AllocError>
     requires { looked.now.met ≡ missed }
-    ensures { IfOk result (λ sent_on. sent_on
+    ensures { IfOk result (λ redirected. redirected
         ≡ record { held = looked.now.held; wanted = looked.now.wanted }) }
 {
     let aliases = copies(alloc, looked.chain())?;
     let wanted = looked.wanted().copy(alloc)?;
-    Ok(SentOn { aliases, wanted })
+    Ok(Onward { aliases, wanted })
 }

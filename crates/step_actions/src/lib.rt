@@ -12,9 +12,9 @@ mod replies;
 mod step_start;
 
 pub use attempts::{Attempt, by_tcp, by_udp, draw_connection, freed_port, new_ask, plan};
-pub use decision::{Change, Decision, Opening, Preferred, Sending};
+pub use decision::{Change, Decision, Opening, Preferred, Redirect};
 pub use due::{Due, Oldest, first_due, is_live};
-pub use fate::{Fate, fate_of, sent_on};
+pub use fate::{Fate, fate_of, redirected};
 pub use kept::Kept;
 pub use out_of_tries::last_replies;
 pub use replies::{answers_to, close_path, close_paths, failures};

@@ -7,9 +7,9 @@ pub mod Ending
 pub mod Rows
 pub mod Played
 mod CacheRows
-mod SentOnRows
+mod RedirectedRows
 mod SecondVersionRows
-pub mod SentOn
+pub mod Redirected
 pub mod Times
 pub mod Progress
 pub mod CallerLemmas

@@ -38,8 +38,8 @@ NextDueTells = (c : Config) (s : State) (n : ℕ) → is_due_at c n s ≡ has_co
 
 -- If a reply leads elsewhere, all questions that wait on want one and the same question, which is
 -- asked.
-abbrev pub SentOnQuestionsWantOne : Type 0
-SentOnQuestionsWantOne = (c : Config) (n : ℕ) (entries : List Held) (a : Ask) (w : Walk) (name : List (List ℕ))
+abbrev pub RedirectedQuestionsWantOne : Type 0
+RedirectedQuestionsWantOne = (c : Config) (n : ℕ) (entries : List Held) (a : Ask) (w : Walk) (name : List (List ℕ))
     (x y x' y' : Waiting) → w.end ≡ elsewhere name
     → waits_for a.question x ≡ true → waits_for a.question y ≡ true → fate_by c n entries a w x ≡ waits x'
     → fate_by c n entries a w y ≡ waits y' → x'.wanted ≡ y'.wanted

@@ -99,16 +99,16 @@ row_of_next_name n a fate s None = closing_step n a (unless_no_port fate a.quest
 row_of_next_name n a fate s (Some next) = closing_step n a fate (Some next) s
 
 -- the ask of a reply that leads on ends: a new ask goes out if a question wants one
-abbrev pub row_of_sent_on : StepStart → Ask → (Waiting → Fate) → Option Question → Done
-row_of_sent_on t a fate None = closing_step t.moment a fate None t.state
-row_of_sent_on t a fate (Some q) =
+abbrev pub row_of_redirected : StepStart → Ask → (Waiting → Fate) → Option Question → Done
+row_of_redirected t a fate None = closing_step t.moment a fate None t.state
+row_of_redirected t a fate (Some q) =
     row_of_next_name t.moment a fate t.state
     (first_ask_for (from_state (record t.state { asks = without_path a.path t.state.asks }) t) q)
 
 -- all questions waiting for the ask are answered, or redirected to the aliases' target
 abbrev pub row_of_end : StepStart → Ask → Walk → (Waiting → Fate) → End → Done
 row_of_end t a w fate (elsewhere name) =
-    row_of_sent_on (from_state (with_promoted (used_by t.config t.moment t.state.cache.entries a w t.state.waiting)
+    row_of_redirected (from_state (with_promoted (used_by t.config t.moment t.state.cache.entries a w t.state.waiting)
     t.state) t) a fate
     (to_be_asked (without_path a.path t.state.asks) (still_waiting
     (map fate (filter (waits_for a.question) t.state.waiting))))

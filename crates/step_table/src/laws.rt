@@ -3,7 +3,7 @@
 ghost use Rattle.std.specs.Prelude.{ℕ, ◌^◌, ◌≤◌};
 ghost use Rattle.step_table.specs.State.{State};
 ghost use Rattle.step_table.specs.Row.{effective};
-ghost use Rattle.step_table.specs.Laws.{LessIsLeft, LeftIsBounded, MoreIsServed, NextDueTells, SentOnQuestionsWantOne};
+ghost use Rattle.step_table.specs.Laws.{LessIsLeft, LeftIsBounded, MoreIsServed, NextDueTells, RedirectedQuestionsWantOne};
 
 /// The effective moment of a step is not below that of the state, and at most 2^62 milliseconds
 /// where that is.
@@ -27,6 +27,6 @@ pub fn next_due_tells()
 {}
 
 /// If a reply leads elsewhere, all that wait on after it want one and the same question.
-pub fn sent_on_questions_want_one()
-    ensures { SentOnQuestionsWantOne }
+pub fn redirected_questions_want_one()
+    ensures { RedirectedQuestionsWantOne }
 {}

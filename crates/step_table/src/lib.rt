@@ -5,5 +5,5 @@
 mod laws;
 
 pub use laws::{
-    moments_do_not_fall, next_due_tells, sent_on_questions_want_one, what_is_left_falls,
+    moments_do_not_fall, next_due_tells, redirected_questions_want_one, what_is_left_falls,
 };

@@ -104,7 +104,7 @@ impl<'a, A: Allocator + Copy> Answers<'a, A> {
         if aliases.is_empty() {
             return self.plain_reply(waiting);
         }
-        let whole = behind(self.alloc, aliases, self.chain)?;
+        let whole = chain_after(self.alloc, aliases, self.chain)?;
         answer(self.alloc, &waiting.request(), &whole, self.moment)
     }
 
@@ -238,7 +238,7 @@ pub(crate) struct Spelled<'a, A: Allocator = Global> {
 }
 
 /// The aliases and then the chain, borrowed.
-pub(crate) fn behind<'a, A: Allocator + Copy>(
+pub(crate) fn chain_after<'a, A: Allocator + Copy>(
     alloc: A,
     aliases: &'a [Held<A>],
     chain: &[&'a Held<A>],

@@ -9,7 +9,7 @@ ghost use Rattle.step_values.specs.Values.{action_of};
 ghost use Rattle.step_values.specs.declared.action.Why.TheVariants.{Stale};
 ghost use Rattle.step_table.specs.Steps.{denied_locally, sends, transport_of};
 
-use crate::answers::behind;
+use crate::answers::chain_after;
 use crate::texts::reply;
 use answer_builder::{PieceWithTtl, Sections};
 use record_cache::Held;
@@ -33,7 +33,7 @@ pub fn stale_answer<A: Allocator + Copy>(
         (stale_answer_of request.now.asked (aliases.now ++ lent found.now) (length aliases.now) moment
         (transport_of request.now.client))) }
 {
-    let chain = behind(alloc, aliases, found)?;
+    let chain = chain_after(alloc, aliases, found)?;
     let pieces = with_stale_ttls_of(alloc, &chain, aliases.len(), moment)?;
     let sections = Sections::stale(alloc, &pieces)?;
     reply(alloc, request, &sections, Why::Stale)

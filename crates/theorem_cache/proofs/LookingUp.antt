@@ -33,7 +33,7 @@ use Rattle.step_history.specs.Answers.{IsOf, FollowsAliases, EndsChain}
 use Rattle.step_history.proofs.CallerLemmas.{alias_to}
 use Rattle.cache_laws.proofs.CallerLemmas.{one_slot}
 use Rattle.dns_message.specs.Questions.{asked_at}
-use Rattle.alias_chains.specs.LookingUp.{LookUp, look_up_behind, look_up_after, one_too_many, through, look_up, promoted_all}
+use Rattle.alias_chains.specs.LookingUp.{LookUp, look_up_on, look_up_after, one_too_many, through, look_up, promoted_all}
 use Rattle.theorem_cache.specs.Kept.{CanBeWrittenAt}
 use Rattle.theorem_cache.specs.Chains.{IsRightEnd, EndsRight, IsSized}
 use Rattle.theorem_cache.proofs.Slots.{slot_turned}
@@ -136,7 +136,7 @@ module _ (l : Look) (n : ℕ) (entries : List Held) (usable : AllByRecursion (Is
   followed_right from q held onward told follows go (found.rows h) right = record { told = told; follows = follows; right_end = right }
   followed_right from q held onward told follows go (found.alias h) right = by (target_of h.piece.body) refl
     where
-      by : (t : Option (List (List ℕ))) → target_of h.piece.body ≡ t → IsLed from (look_up_behind held q onward h t)
+      by : (t : Option (List (List ℕ))) → target_of h.piece.body ≡ t → IsLed from (look_up_on held q onward h t)
       by None is = record { told = told; follows = follows; right_end = tt }
       by (Some name) is = go h name right is
   followed_right from q held onward told follows go (found.no_data h) right = record { told = told; follows = follows; right_end = right }
@@ -161,7 +161,7 @@ sized_step held q onward few go found.local = few
 sized_step held q onward few go (found.rows h) = few
 sized_step held q onward few go (found.alias h) = by (target_of h.piece.body)
   where
-    by : (t : Option (List (List ℕ))) → IsSized (look_up_behind held q onward h t).met (length (look_up_behind held q onward h t).held)
+    by : (t : Option (List (List ℕ))) → IsSized (look_up_on held q onward h t).met (length (look_up_on held q onward h t).held)
     by None = few
     by (Some name) = go h name
 sized_step held q onward few go (found.no_data h) = few
@@ -183,7 +183,7 @@ more_held held q onward some go found.local = some
 more_held held q onward some go (found.rows h) = some
 more_held held q onward some go (found.alias h) = by (target_of h.piece.body)
   where
-    by : (t : Option (List (List ℕ))) → 1 ≤ length (look_up_behind held q onward h t).held
+    by : (t : Option (List (List ℕ))) → 1 ≤ length (look_up_on held q onward h t).held
     by None = some
     by (Some name) = go h name
 more_held held q onward some go (found.no_data h) = some
@@ -232,7 +232,7 @@ alike_step held q other onward onward' go found.local = record { held = refl; me
 alike_step held q other onward onward' go (found.rows h) = record { held = refl; met = refl }
 alike_step held q other onward onward' go (found.alias h) = by (target_of h.piece.body)
   where
-    by : (t : Option (List (List ℕ))) → AreAlike (look_up_behind held q onward h t) (look_up_behind held other onward' h t)
+    by : (t : Option (List (List ℕ))) → AreAlike (look_up_on held q onward h t) (look_up_on held other onward' h t)
     by None = record { held = refl; met = refl }
     by (Some name) = go h name
 alike_step held q other onward onward' go (found.no_data h) = record { held = refl; met = refl }

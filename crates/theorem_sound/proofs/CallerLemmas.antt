@@ -5,4 +5,4 @@ pub use Rattle.theorem_sound.proofs.Deliveries.{IsHeard, heard, heard_carried, c
 pub use Rattle.theorem_sound.proofs.Runs.{row_stays, IsExplained-initial, explained_is_sound, explained_more, run_more, stays_at, input_more}
 pub use Rattle.theorem_sound.proofs.Names.{told_same_name}
 pub use Rattle.theorem_sound.proofs.Nexts.{gave_up, asked_next, asked_again}
-pub use Rattle.theorem_sound.proofs.SendingOn.{question_led, CanBeSent, IsSent, all_sent, IsNew, asked_is_new}
+pub use Rattle.theorem_sound.proofs.Redirecting.{question_led, CanBeSent, IsSent, all_sent, IsNew, asked_is_new}

@@ -45,7 +45,7 @@ use Rattle.theorem_cache.proofs.CallerLemmas.{quiet_steps_keep, promotions_keep_
 use Rattle.step_table.proofs.CallerLemmas.{All-append, still_earlier, IsAskBy, ask_by-some, ask_by-none, udp-some, udp-none, preferred_peer, IsFresh, drawn_fresh, free_now, none_same}
 use Rattle.theorem_sound.proofs.Answering.{IsTold, answered_told, answer_owned, without_server_owned, without_server_fails}
 use Rattle.theorem_sound.proofs.Actions.{OwnsReply, asks_answer_none}
-use Rattle.theorem_sound.proofs.SendingOn.{question_led}
+use Rattle.theorem_sound.proofs.Redirecting.{question_led}
 use Rattle.theorem_sound.proofs.AskText.{read_well}
 use Rattle.theorem_sound.proofs.Listed.{drawn-shown}
 use Rattle.theorem_sound.proofs.Matching.{is_full, has_room}

@@ -44,7 +44,7 @@ use Rattle.step_table.specs.Steps.{Done, Fate, gets, waits, still_waiting, with_
 use Rattle.step_table.specs.Attempts.{servers_in, peer_at, over_udp, preferred_on, first_ask, first_ask_on}
 use Rattle.alias_chains.specs.LookingUp.{promoted_all}
 use Rattle.alias_chains.specs.Offering.{put_all, unkept_of}
-use Rattle.step_table.specs.Replies.{looked_by, fate_by, used_by, to_be_asked, without_port, unless_no_port, timeout_of, row_of_next_name, row_of_sent_on, row_of_end, row_of_acceptance, row_of_walk, row_of_message, row_of_verdict, row_of_delivery}
+use Rattle.step_table.specs.Replies.{looked_by, fate_by, used_by, to_be_asked, without_port, unless_no_port, timeout_of, row_of_next_name, row_of_redirected, row_of_end, row_of_acceptance, row_of_walk, row_of_message, row_of_verdict, row_of_delivery}
 use Rattle.step_table.specs.Clients.{fate_of}
 use Rattle.theorem_sound.specs.Explains.{shown, Waits, Tried, Explains}
 use Rattle.step_table.specs.Progress.{IsBelow, ArePreferred}
@@ -62,7 +62,7 @@ use Rattle.theorem_sound.proofs.Actions.{OwnsReply, Speaks, fated_speak, AskedAt
 use Rattle.theorem_sound.proofs.Answering.{owns, failure_told}
 use Rattle.theorem_cache.proofs.CallerLemmas.{accepted_pieces_can_be_kept, promotions_keep_cached, offers_keep_cached}
 use Rattle.theorem_sound.proofs.Accepting.{fate_accepted}
-use Rattle.theorem_sound.proofs.SendingOn.{CanBeSent, IsSent, all_sent, IsNew, asked_is_new, no_port_speaks, fate_led, sent_led}
+use Rattle.theorem_sound.proofs.Redirecting.{CanBeSent, IsSent, all_sent, IsNew, asked_is_new, no_port_speaks, fate_led, sent_led}
 use Rattle.theorem_sound.proofs.Cases.{waits_later}
 use Rattle.theorem_sound.proofs.Failures as failures
 
@@ -441,7 +441,7 @@ module _ (c : Config) (past : List Step) (w : List (List ℕ)) (s : State) (x : 
           x.waits)
 
       sent : (used : List Slot) (name : List (List ℕ)) → walk.end ≡ elsewhere name → (r : Option Question) → to_be_asked (without_path a.path s.asks) (still_waiting (map fate (filter (waits_for a.question) s.waiting))) ≡ r
-          → D (offering_step n rooms (walk.pieces ++ walk.authority) (row_of_sent_on (start c n words (after used)) a fate r))
+          → D (offering_step n rooms (walk.pieces ++ walk.authority) (row_of_redirected (start c n words (after used)) a fate r))
       sent used name is None none = closed used fate None (fates (done fate None)) tt tt tt tt tt
       sent used name is (Some q) some =
           subst (λ (r : Option Ask). D (offering_step n rooms (walk.pieces ++ walk.authority) (row_of_next_name n a fate (after used) r))) (sym (ap (first_ask_on (start c n words (listed_then used q new)) q) new.on_route))

@@ -17,7 +17,7 @@ pub mod Clients
 pub mod Failures
 pub mod Times
 pub mod Accepting
-pub mod SendingOn
+pub mod Redirecting
 pub mod Deliveries
 pub mod Theorem
 pub mod Runs

@@ -47,10 +47,10 @@ use Rattle.step_history.specs.History.{closes_path}
 use Rattle.step_table.specs.Steps.{Done, Fate, gets, waits, waiting_in, with_preferred_server, with_promoted, still_waiting, asks_by, asks, ask_list, closes, without_ask, gives_up}
 use Rattle.step_table.specs.Row.{Happens}
 use Rattle.step_table.specs.Ticks.{question, attempt, Item, first_item, left_alone, expiry_step, row_of_item, row_of_tick, deadline_of}
-use Rattle.step_table.specs.Replies.{fate_by, ends_at, unless_many, used_by, to_be_asked, unless_open, without_port, unless_no_port, timeout_of, row_of_next_name, row_of_sent_on, row_of_end, row_of_acceptance, row_of_walk, row_of_message, row_of_verdict, row_of_delivery}
+use Rattle.step_table.specs.Replies.{fate_by, ends_at, unless_many, used_by, to_be_asked, unless_open, without_port, unless_no_port, timeout_of, row_of_next_name, row_of_redirected, row_of_end, row_of_acceptance, row_of_walk, row_of_message, row_of_verdict, row_of_delivery}
 use Rattle.step_table.specs.Failures.{with_stale_ttl, found_stale, row_of_attempt, row_of_next, row_of_failure, row_of_failed_path}
 use Rattle.step_table.specs.Clients.{fate_of, taken_now, row_of_opening, row_of_inquiry, row_of_fate, row_of_look_up, row_of_route, row_of_question, row_of_request}
-use Rattle.step_table.proofs.SentOn.{sent_on_questions_want_one}
+use Rattle.step_table.proofs.Redirected.{redirected_questions_want_one}
 use Rattle.step_table.proofs.CallerLemmas.{All-weaker, looked_at_end, ask_on-is, ask_by-some, none_same, of_question-is, own_on}
 use Rattle.theorem_sound.specs.Explains.{Tried}
 use Rattle.theorem_sound.proofs.Messages.{read_spells}
@@ -419,7 +419,7 @@ module _ (c : Config) (n : ℕ) (words : List ℕ) (s : State) (served : AreServ
     want_one name is y ys are = All-weaker (λ z. (x : Waiting) × (waits_for a.question x ≡ true) × (fate x ≡ waits z))
         (λ z. z.wanted ≡ y.wanted)
         (λ z was.
-        sent_on_questions_want_one c n s.cache.entries a w name was.0 head.0 z y is was.1 head.1 was.2 head.2) Ys all
+        redirected_questions_want_one c n s.cache.entries a w name was.0 head.0 z y is was.1 head.1 was.2 head.2) Ys all
       where
         all : AllByRecursion (λ z. (x : Waiting) × (waits_for a.question x ≡ true) × (fate x ≡ waits z)) Ys
         all = each_was (waits_for a.question) fate s.waiting
@@ -482,7 +482,7 @@ module _ (c : Config) (n : ℕ) (words : List ℕ) (s : State) (served : AreServ
             (record after { asks = next_others }) d some)
 
         open_row : (r : Option Ask) → of_question y.wanted next_others ≡ r
-            → K (row_of_sent_on (start c n words after) a fate (unless_open y.wanted r))
+            → K (row_of_redirected (start c n words after) a fate (unless_open y.wanted r))
         open_row None new = name_row (first_ask_for (start c n words (record after { asks = next_others })) y.wanted) refl
         open_row (Some b) there = sent_closed None
             (All-weaker (λ z. z.wanted ≡ y.wanted) (Asked a on None)
@@ -491,7 +491,7 @@ module _ (c : Config) (n : ℕ) (words : List ℕ) (s : State) (served : AreServ
             ∙ there))) Ys all_want)
             tt tt
 
-      sent_row : (zs : List Waiting) → Ys ≡ zs → K (row_of_sent_on (start c n words after) a fate (to_be_asked next_others zs))
+      sent_row : (zs : List Waiting) → Ys ≡ zs → K (row_of_redirected (start c n words after) a fate (to_be_asked next_others zs))
       sent_row [] none = sent_closed None (subst (AllByRecursion (Asked a on None)) (sym none) tt) tt tt
       sent_row (y ∷ ys) are = open_row y ys are (of_question y.wanted next_others) refl
 

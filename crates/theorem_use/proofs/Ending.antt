@@ -7,14 +7,14 @@ use Rattle.record_cache.specs.Values.{Held}
 use Rattle.negative_cache.specs.Values.{Found, local, rows, alias, no_data, denied, miss}
 use Rattle.negative_cache.specs.Finding.{found}
 use Rattle.dns_message.specs.Questions.{asked_at}
-use Rattle.alias_chains.specs.LookingUp.{LookUp, ends, look_up_behind, look_up_after, one_too_many, through, look_up}
+use Rattle.alias_chains.specs.LookingUp.{LookUp, ends, look_up_on, look_up_after, one_too_many, through, look_up}
 use Rattle.theorem_use.specs.Use.{AtTarget, EndsOrLeadsOn, LeadsToEnd}
 
 abbrev pub Ends : LookUp → Type 0
 Ends l = (e : Held) × (l.met ≡ ends e)
 
 led_ends : (held : List Held) (q : Question) (onward : Held → List (List ℕ) → LookUp) (On : List (List ℕ) → Type 0) → ((e : Held) (name : List (List ℕ)) → On name → Ends (onward e name))
-    → (e : Held) (target : Option (List (List ℕ))) → AtTarget On target → Ends (look_up_behind held q onward e target)
+    → (e : Held) (target : Option (List (List ℕ))) → AtTarget On target → Ends (look_up_on held q onward e target)
 led_ends held q onward On goes e None never = absurd (never)
 led_ends held q onward On goes e (Some name) on = goes e name on
 

@@ -24,7 +24,7 @@ use Rattle.cache_laws.proofs.CallerLemmas.{one_slot}
 use Rattle.step_history.specs.Carried.{NotReplaced}
 use Rattle.step_history.specs.Answers.{IsOf, EndsChain}
 use Rattle.step_history.proofs.CallerLemmas.{alias_to}
-use Rattle.alias_chains.specs.LookingUp.{ends, missed, LookUp, ended, missing, look_up_behind, look_up_after, one_too_many, through, look_up}
+use Rattle.alias_chains.specs.LookingUp.{ends, missed, LookUp, ended, missing, look_up_on, look_up_after, one_too_many, through, look_up}
 use Rattle.theorem_cache.proofs.CallerLemmas.{all_among, set_ends, no_data_ends, denial_ends}
 use Rattle.theorem_use.specs.Touched.{Touched, carried_in, IsLiving, LeadsAlong}
 use Rattle.theorem_use.proofs.Ending.{Ends}
@@ -34,7 +34,7 @@ use Rattle.theorem_use.proofs.Ending.{Ends}
 -- a look-up uses at most one slot more than it may take aliases
 few_behind : (k : ℕ) (held : List Held) (q : Question) (onward : Held → List (List ℕ) → LookUp)
     → ((e : Held) (name : List (List ℕ)) → length (onward e name).used ≤ suc k) → (e : Held) (target : Option (List (List ℕ)))
-    → length (look_up_behind held q onward e target).used ≤ suc k
+    → length (look_up_on held q onward e target).used ≤ suc k
 few_behind k held q onward few e None = omega arith
 few_behind k held q onward few e (Some name) = few e name
 
@@ -105,7 +105,7 @@ module _ (Misses : Type 0) (routes : List Route) (n capacity : ℕ) (ts : List T
   GoesOn taken q onward = (e : Held) (name : List (List ℕ)) → IsTyped n es q 5 e → q.kind ≢ 5 → target_of e.piece.body ≡ Some name → Leads taken q (onward e name)
 
   behind_leads : (taken : List Held) (q : Question) (onward : Held → List (List ℕ) → LookUp) → GoesOn taken q onward → (e : Held) → IsTyped n es q 5 e → q.kind ≢ 5
-      → (target : Option (List (List ℕ))) → target_of e.piece.body ≡ target → Leads taken q (look_up_behind taken q onward e target)
+      → (target : Option (List (List ℕ))) → target_of e.piece.body ≡ target → Leads taken q (look_up_on taken q onward e target)
   behind_leads taken q onward goes e typed other None is (inl end) = absurd (no_end_missing taken q end)
   behind_leads taken q onward goes e typed other None is (inr none) = misses taken q none
   behind_leads taken q onward goes e typed other (Some name) is stop = goes e name typed other is stop

@@ -34,7 +34,7 @@ use Rattle.step_table.specs.Attempts.{first_ask_for, plan_of, next_ask}
 use Rattle.alias_chains.specs.LookingUp.{LookUp, look_up, promoted_all}
 use Rattle.step_table.specs.Steps.{Done, Fate, gets, waits, at_moment, idle_step, with_preferred_server, with_promoted, settling_step, still_waiting}
 use Rattle.step_table.specs.Ticks.{question, attempt, nothing, Item, first_item, row_of_item, row_of_tick, deadline_of}
-use Rattle.step_table.specs.Replies.{used_by, to_be_asked, timeout_of, row_of_next_name, row_of_sent_on, row_of_end, row_of_acceptance, row_of_message, row_of_verdict, row_of_delivery}
+use Rattle.step_table.specs.Replies.{used_by, to_be_asked, timeout_of, row_of_next_name, row_of_redirected, row_of_end, row_of_acceptance, row_of_message, row_of_verdict, row_of_delivery}
 use Rattle.step_table.specs.Failures.{row_of_attempt, row_of_next, row_of_failure, row_of_failed_path}
 use Rattle.step_table.specs.Clients.{fate_of, taken_now, row_of_opening, row_of_inquiry, row_of_waiting, row_of_fate, row_of_look_up, row_of_route, row_of_question, row_of_request}
 
@@ -102,7 +102,7 @@ module _ (Fits : List Slot → Type 0) (n : ℕ) (cache : Cache) (s : State) (wa
   next_name_is a fate None = record { used = was.0; fits = was.1; cache_is = was.2; moment_is = refl }
   next_name_is a fate (Some next) = record { used = was.0; fits = was.1; cache_is = was.2; moment_is = refl }
 
-  sent_is : (c : Config) (words : List ℕ) (a : Ask) (fate : Waiting → Fate) (r : Option Question) → IsQuiet Fits n cache (row_of_sent_on (start c n words s) a fate r)
+  sent_is : (c : Config) (words : List ℕ) (a : Ask) (fate : Waiting → Fate) (r : Option Question) → IsQuiet Fits n cache (row_of_redirected (start c n words s) a fate r)
   sent_is c words a fate None = record { used = was.0; fits = was.1; cache_is = was.2; moment_is = refl }
   sent_is c words a fate (Some q) = next_name_is a fate (first_ask_for (start c n words (record s { asks = without_path a.path s.asks })) q)
 

@@ -20,10 +20,10 @@ wanted_of q None = q
 wanted_of q (Some s) = s.wanted
 
 -- the waiting question with these aliases and this wanted question
-abbrev pub sent_on : Onward → Waiting → Waiting
-sent_on s x = record x { held = s.held; wanted = s.wanted }
+abbrev pub redirected : Onward → Waiting → Waiting
+redirected s x = record x { held = s.held; wanted = s.wanted }
 
 -- the waiting question, redirected or not
 abbrev pub waits_on : Option Onward → Waiting → Waiting
 waits_on None x = x
-waits_on (Some s) x = sent_on s x
+waits_on (Some s) x = redirected s x

@@ -4,11 +4,11 @@ use Rattle.std.specs.Prelude.{Option, Some}
 use Rattle.std.specs.List.{cons_option, filter_map}
 use Rattle.dns_message.specs.Values.{Question}
 use Rattle.waiting_questions.specs.Values.{Waiting, waits_for}
-use Rattle.waiting_questions.specs.Onward.{Onward, sent_on}
+use Rattle.waiting_questions.specs.Onward.{Onward, redirected}
 
 -- the rest of a question after its fate: redirected with aliases and a wanted question, or gone
 abbrev pub left_by : Option Onward → Waiting → Option Waiting
-left_by fate x = option_map (λ s. sent_on s x) fate
+left_by fate x = option_map (λ s. redirected s x) fate
 
 -- each question that waits for q gets its fate, in order; questions without a fate and all further
 -- questions stay

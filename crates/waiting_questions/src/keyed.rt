@@ -2,10 +2,10 @@
 
 ghost use Rattle.std.specs.Prelude.{◌≡◌};
 ghost use Rattle.outstanding.specs.Orders.{question_key};
-ghost use Rattle.waiting_questions.specs.Onward.{sent_on};
+ghost use Rattle.waiting_questions.specs.Onward.{redirected};
 ghost use Rattle.waiting_questions.specs.Indexes.{to_question};
 
-use crate::waiting::{SentOn, Waiting};
+use crate::waiting::{Onward, Waiting};
 use outstanding::QuestionKey;
 use std::alloc::{Allocator, Global};
 use std::cmp::Ordering;
@@ -42,8 +42,8 @@ impl<A: Allocator> KeyedWaiting<A> {
 
     /// Replaces the aliases; the question then waits for the question at the end of the new
     /// aliases.
-    pub(crate) fn send_on(&mut self, onward: SentOn<A>)
-        ensures { self.new ≡ sent_on onward self.old }
+    pub(crate) fn send_on(&mut self, onward: Onward<A>)
+        ensures { self.new ≡ redirected onward self.old }
     {
         self.key = QuestionKey::of(&onward.wanted);
         self.waiting.send_on(onward);

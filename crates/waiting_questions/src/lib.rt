@@ -9,5 +9,5 @@ mod waiting;
 mod waiting_questions;
 
 pub use keyed::KeyedWaiting;
-pub use waiting::{Request, SentOn, Waiting};
+pub use waiting::{Onward, Request, Waiting};
 pub use waiting_questions::{WaitingFor, WaitingQuestions};

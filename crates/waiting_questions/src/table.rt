@@ -5,13 +5,13 @@ ghost use Rattle.std.specs.Prelude.{OnOk, slice_get, slice_index};
 ghost use Rattle.std.specs.List.{remove, remove_range, AllByRecursion};
 ghost use Rattle.slab.specs.Slab.{ContainsKey, Updates};
 ghost use Rattle.waiting_questions.specs.Values.{Waiting as Asking, waits_for};
-ghost use Rattle.waiting_questions.specs.Onward.{sent_on};
+ghost use Rattle.waiting_questions.specs.Onward.{redirected};
 ghost use Rattle.waiting_questions.specs.Indexes.{has_room, items_of, keys_of, to_question, IsIndexed, IsRange};
 ghost use Rattle.waiting_questions.specs.Settling.{left_by, settled, with_at};
 
 use crate::keyed::KeyedWaiting;
 use crate::places::{place_by_arrival, range_of};
-use crate::waiting::SentOn;
+use crate::waiting::Onward;
 use arrival_order::ArrivalOrder;
 use outstanding::{KeyedAsk, NumberedKey, QuestionKey};
 use slab::Slab;
@@ -124,7 +124,7 @@ impl<A: Allocator> Table<A> {
 
     /// Gives their fates to the questions that wait for this ask's question, the newest first, so
     /// that the places of the older ones stay.
-    pub(crate) fn settle(&mut self, ask: &KeyedAsk<A>, mut fates: Vec<Option<SentOn<A>>, A>)
+    pub(crate) fn settle(&mut self, ask: &KeyedAsk<A>, mut fates: Vec<Option<Onward<A>>, A>)
         requires indexed { IsIndexed self.old }
         requires one_each { length fates.items ≡ length (filter (waits_for ask.now.question) (items_of self.old)) }
         ensures indexed { IsIndexed self.new }
@@ -168,7 +168,7 @@ impl<A: Allocator> Table<A> {
 
     /// Redirects or removes the question whose key is at this place in the order of questions, and
     /// at this turn.
-    fn settle_one(&mut self, place: usize, arrival_rank: usize, fate: Option<SentOn<A>>)
+    fn settle_one(&mut self, place: usize, arrival_rank: usize, fate: Option<Onward<A>>)
         requires indexed { IsIndexed self.old }
         requires place { place < length self.old.by_question.items }
         requires arrival_rank { arrival_rank < length self.old.by_arrival.keys }
@@ -185,14 +185,14 @@ impl<A: Allocator> Table<A> {
 
     /// Redirects the question whose key is at this place in the order of questions, and at this
     /// turn, which stays.
-    fn send_on(&mut self, place: usize, arrival_rank: usize, onward: SentOn<A>)
+    fn send_on(&mut self, place: usize, arrival_rank: usize, onward: Onward<A>)
         requires indexed { IsIndexed self.old }
         requires place { place < length self.old.by_question.items }
         requires arrival_rank { arrival_rank < length self.old.by_arrival.keys }
         requires one { slice_index (keys_of self.old.by_question.items) place ≡ slice_index self.old.by_arrival.keys arrival_rank }
         ensures indexed { IsIndexed self.new }
         ensures list { (x : Asking) → slice_get (items_of self.old) arrival_rank ≡ Some x
-            → items_of self.new ≡ with_at (items_of self.old) arrival_rank (Some (sent_on onward x)) }
+            → items_of self.new ≡ with_at (items_of self.old) arrival_rank (Some (redirected onward x)) }
     {
         let Some(old) = self.by_question.remove(place) else {
             unreachable!();

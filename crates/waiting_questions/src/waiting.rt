@@ -53,14 +53,14 @@ impl<'a> Request<'a> {
         }
     }
 
-    /// Copies the request into a `Waiting`. With `sent_on` the copy waits for this question instead
+    /// Copies the request into a `Waiting`. With `redirected` the copy waits for this question instead
     /// of its own.
     pub fn to_waiting<A: Allocator>(
         &self,
         alloc: A,
-        sent_on: Option<SentOn<A>>,
+        redirected: Option<Onward<A>>,
     ) -> Result<Waiting<A>, AllocError>
-        ensures { IfOk result (λ waiting. waiting ≡ waits_on sent_on self.now) }
+        ensures { IfOk result (λ waiting. waiting ≡ waits_on redirected self.now) }
     {
         let question = self.question.copy(alloc)?;
         Ok(Waiting {
@@ -68,7 +68,7 @@ impl<'a> Request<'a> {
             header: self.header,
             question,
             taken: self.taken,
-            sent_on,
+            redirected,
         })
     }
 }
@@ -76,12 +76,12 @@ impl<'a> Request<'a> {
 /// The held aliases, at most eight, and the wanted question: the client's question with the name at
 /// the end of the aliases.
 #[derive(Drop)]
-pub struct SentOn<A: Allocator = Global> {
+pub struct Onward<A: Allocator = Global> {
     pub aliases: Vec<Held<A>, A>,
     pub wanted: Question<A>,
 }
 
-impl<A: Allocator> Model for SentOn<A> {
+impl<A: Allocator> Model for Onward<A> {
     ghost use Rattle.std.specs.Prelude.{◌≤◌, length};
     ghost use Rattle.waiting_questions.specs.Onward.{Onward};
 
@@ -102,7 +102,7 @@ pub struct Waiting<A: Allocator = Global> {
     /// The moment of arrival, in milliseconds.
     pub taken: u64,
     /// `None` if the client's own question is the wanted one.
-    pub sent_on: Option<SentOn<A>>,
+    pub redirected: Option<Onward<A>>,
 }
 
 impl<A: Allocator> Model for Waiting<A> {
@@ -117,8 +117,8 @@ impl<A: Allocator> Model for Waiting<A> {
       client = w.client;
       asked = asked_in w.header (Some w.question);
       taken = w.taken;
-      held = held_of w.sent_on;
-      wanted = wanted_of w.question w.sent_on;
+      held = held_of w.redirected;
+      wanted = wanted_of w.question w.redirected;
     } };
 
     ghost invariant = { λ w. w.header.opcode < 16 };
@@ -144,9 +144,9 @@ impl<A: Allocator> Waiting<A> {
         ensures aliases { result.now ≡ self.now.held }
         ensures few { length self.now.held ≤ 8 }
     {
-        match &self.sent_on {
+        match &self.redirected {
             None => &[],
-            Some(sent_on) => sent_on.aliases.as_slice(),
+            Some(redirected) => redirected.aliases.as_slice(),
         }
     }
 
@@ -154,17 +154,17 @@ impl<A: Allocator> Waiting<A> {
     pub fn wanted(&self) -> &Question<A>
         ensures { result.now ≡ self.now.wanted }
     {
-        match &self.sent_on {
+        match &self.redirected {
             None => &self.question,
-            Some(sent_on) => &sent_on.wanted,
+            Some(redirected) => &redirected.wanted,
         }
     }
 
     /// Replaces the aliases; the question then waits for the question at the end of the new
     /// aliases.
-    pub fn send_on(&mut self, sent_on: SentOn<A>)
-        ensures { self.new ≡ record self.old { held = sent_on.held; wanted = sent_on.wanted } }
+    pub fn send_on(&mut self, redirected: Onward<A>)
+        ensures { self.new ≡ record self.old { held = redirected.held; wanted = redirected.wanted } }
     {
-        self.sent_on = Some(sent_on);
+        self.redirected = Some(redirected);
     }
 }

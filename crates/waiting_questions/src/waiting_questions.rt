@@ -10,7 +10,7 @@ ghost use Rattle.waiting_questions.specs.Settling.{settled};
 
 use crate::keyed::KeyedWaiting;
 use crate::table::Table;
-use crate::waiting::{SentOn, Waiting};
+use crate::waiting::{Onward, Waiting};
 use dns_message::Question;
 use outstanding::{KeyedAsk, NumberedKey, QuestionKey};
 use slab::Slab;
@@ -113,7 +113,7 @@ impl<A: Allocator> WaitingQuestions<A> {
     /// Gives a fate to each question that waits for this ask's question, in the order of arrival: a
     /// redirection (aliases and a wanted question), or none, which removes the question. Redirected
     /// questions keep their places in the order of arrival.
-    pub fn send_on(&mut self, ask: &KeyedAsk<A>, fates: Vec<Option<SentOn<A>>, A>)
+    pub fn send_on(&mut self, ask: &KeyedAsk<A>, fates: Vec<Option<Onward<A>>, A>)
         requires { length fates.items ≡ length (filter (waits_for ask.now.question) self.old.items) }
         ensures { self.new.items ≡ settled ask.now.question fates.items self.old.items }
     {

@@ -50,8 +50,8 @@ unfolding message_at header_of counted question_at octets_end record_at data_at 
 reply_is_read = refl
 
 -- the question is sent on to the same name
-abbrev pub sent_on : Step
-sent_on = step_of 1020 (1048592 ∷ []) (delivery (Udp 1032) server reply_text)
+abbrev pub redirected : Step
+redirected = step_of 1020 (1048592 ∷ []) (delivery (Udp 1032) server reply_text)
     (close_udp 1032 ∷ ask_udp 1040 server (question_text 16 1) ∷ [])
 
 abbrev pub alias : Piece
@@ -69,13 +69,13 @@ loop = record { piece = alias; accepted = 1020 }
 
 -- a walk takes it eight times
 pub carries : (tries stale_s : ℕ)
-    → Carries (with_limits tries stale_s) sent_on (asked ∷ []) (alias ∷ alias ∷ alias ∷ alias ∷ alias ∷ alias ∷ alias ∷ alias ∷ [])
+    → Carries (with_limits tries stale_s) redirected (asked ∷ []) (alias ∷ alias ∷ alias ∷ alias ∷ alias ∷ alias ∷ alias ∷ alias ∷ [])
 unfolding first_question question_at octets_end name_within walk_in name_step route_of walk_from servers_from
     name_of_rdata
 carries tries stale_s = record {
   pieces = alias ∷ alias ∷ alias ∷ alias ∷ alias ∷ alias ∷ alias ∷ alias ∷ [];
   servers = [];
-  accepts = walk_accepted (with_limits tries stale_s) sent_on (asked ∷ []) ask (address a) 0 reply_text says (tt, tt) (record {
+  accepts = walk_accepted (with_limits tries stale_s) redirected (asked ∷ []) ask (address a) 0 reply_text says (tt, tt) (record {
     delivered = refl;
     is_listed = refl;
     is_live = omega arith;
@@ -104,12 +104,12 @@ abbrev nine : List Held
 nine = loops 9
 
 abbrev seen : Look
-seen = record { config = config; asked = asked; before = []; now = sent_on ∷ asked ∷ [] }
+seen = record { config = config; asked = asked; before = []; now = redirected ∷ asked ∷ [] }
 
 carried_before : CarriedInEra config (asked ∷ []) []
 carried_before = inr (inl (refl, nothing_heard config asked [] refl, refl))
 
-carried_now : CarriedInEra config (sent_on ∷ asked ∷ []) eight
+carried_now : CarriedInEra config (redirected ∷ asked ∷ []) eight
 carried_now = inr
     (inr (refl, alias ∷ alias ∷ alias ∷ alias ∷ alias ∷ alias ∷ alias ∷ alias ∷ [], [], carries 4 0, carried_before, refl))
 

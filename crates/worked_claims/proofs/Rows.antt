@@ -42,7 +42,7 @@ use Rattle.step_table.specs.Steps.{Done, Fate, gets, waits, reply_in, replies, c
 use Rattle.alias_chains.specs.LookingUp.{LookUpEnd, ends, too_long, missed, LookUp, look_up}
 use Rattle.step_table.specs.Row.{Happens, effective}
 use Rattle.step_table.specs.Ticks.{question, attempt, nothing, deadline_of, Item, first_item, left_alone, row_of_item}
-use Rattle.step_table.specs.Replies.{fate_by, without_port, unless_no_port, row_of_next_name, row_of_sent_on, row_of_end, row_of_walk, row_of_message, row_of_verdict, timeout_of, row_of_delivery, looked_by, used_by, to_be_asked}
+use Rattle.step_table.specs.Replies.{fate_by, without_port, unless_no_port, row_of_next_name, row_of_redirected, row_of_end, row_of_walk, row_of_message, row_of_verdict, timeout_of, row_of_delivery, looked_by, used_by, to_be_asked}
 use Rattle.step_table.specs.Failures.{row_of_attempt, with_stale_ttl, found_stale, runs_out, row_of_next, row_of_failure, row_of_failed_path}
 use Rattle.step_table.specs.Clients.{without_server, fate_missed, fate_at, fate_of, row_of_opening, row_of_inquiry, row_of_waiting, row_of_fate, row_of_look_up, row_of_route, row_of_service, taken_now, row_of_question, row_of_request}
 use Rattle.worked_claims.specs.Laws.{asks_in, closed_in, IsListedOn, StepsAskOnceAtMost, StepsCloseOnceAtMost, StepsCloseWhatIsListed}
@@ -312,16 +312,16 @@ module _ (c : Config) (n : ℕ) (words : List ℕ) (listed : List Ask) where
       closed_kept a is (unless_no_port fate a.question) (λ x. unsent_replies fate a.question x (each x)) None s
   name_kept a is fate each s (Some next) = closed_kept a is fate each (Some next) s
 
-  sent_on_kept : (a : Ask) → IsIn a listed → (fate : Waiting → Fate) → ((x : Waiting) → Replies (fate x))
-      → (s : State) (q : Option Question) → Kept (row_of_sent_on (start c n words s) a fate q)
-  sent_on_kept a is fate each s None = closed_kept a is fate each None s
-  sent_on_kept a is fate each s (Some q) =
+  redirected_kept : (a : Ask) → IsIn a listed → (fate : Waiting → Fate) → ((x : Waiting) → Replies (fate x))
+      → (s : State) (q : Option Question) → Kept (row_of_redirected (start c n words s) a fate q)
+  redirected_kept a is fate each s None = closed_kept a is fate each None s
+  redirected_kept a is fate each s (Some q) =
       name_kept a is fate each s (first_ask_for (start c n words (record s { asks = without_path a.path s.asks })) q)
 
   end_kept : (a : Ask) → IsIn a listed → (w : Walk) (fate : Waiting → Fate) → ((x : Waiting) → Replies (fate x))
       → (s : State) (end : End) → Kept (row_of_end (start c n words s) a w fate end)
   end_kept a is w fate each s (elsewhere name) =
-      sent_on_kept a is fate each (with_promoted (used_by c n s.cache.entries a w s.waiting) s)
+      redirected_kept a is fate each (with_promoted (used_by c n s.cache.entries a w s.waiting) s)
       (to_be_asked (without_path a.path s.asks) (still_waiting (map fate (filter (waits_for a.question) s.waiting))))
   end_kept a is w fate each s found = closed_kept a is fate each None s
   end_kept a is w fate each s ends_no_data = closed_kept a is fate each None s

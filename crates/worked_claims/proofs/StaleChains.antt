@@ -424,9 +424,9 @@ second_carries now asked_at before on live = record {
 
 -- a.e was an alias of itself, and then has an address
 abbrev looped : List Step
-looped = heard_again 1040 ∷ aliases.sent_on ∷ asked ∷ []
+looped = heard_again 1040 ∷ aliases.redirected ∷ asked ∷ []
 
-loops_carried : CarriedInEra c (aliases.sent_on ∷ asked ∷ []) (aliases.loops 8)
+loops_carried : CarriedInEra c (aliases.redirected ∷ asked ∷ []) (aliases.loops 8)
 loops_carried = inr (inr (
   refl,
   aliases.alias ∷ aliases.alias ∷ aliases.alias ∷ aliases.alias ∷ aliases.alias ∷ aliases.alias ∷ aliases.alias
@@ -442,7 +442,7 @@ looped_carried = inr (inr (
   refl,
   five_seconds ∷ [],
   aliases.loops 8,
-  second_carries 1040 1020 (aliases.sent_on ∷ asked ∷ []) refl (omega arith),
+  second_carries 1040 1020 (aliases.redirected ∷ asked ∷ []) refl (omega arith),
   loops_carried,
   refl,
 ))

@@ -20,7 +20,7 @@ use outstanding::{Ask, KeyedAsk, Path};
 use record_cache::Held;
 use std::alloc::{AllocError, Allocator};
 use std::hash::BuildHasher;
-use step_actions::{Change, Opening, Preferred, Sending};
+use step_actions::{Change, Opening, Preferred, Redirect};
 use step_values::{Actions, Outcome};
 use waiting_questions::KeyedWaiting;
 
@@ -107,8 +107,8 @@ impl<H: BuildHasher + Drop, A: Allocator + Copy> Forwarder<H, A> {
                 self.close(moment, path, preferred);
                 Ok(())
             }
-            Change::SendOn(sending) => {
-                self.send_all_on(moment, Box::into_inner(sending));
+            Change::SendOn(redirect) => {
+                self.send_all_on(moment, Box::into_inner(redirect));
                 Ok(())
             }
             Change::AskAgain(path, ask) => {
@@ -191,30 +191,30 @@ impl<H: BuildHasher + Drop, A: Allocator + Copy> Forwarder<H, A> {
 
     /// The ask on a path is closed, and the first ask for the redirected questions is listed, if
     /// any.
-    fn send_all_on(&mut self, moment: u64, sending: Sending<A>)
+    fn send_all_on(&mut self, moment: u64, redirect: Redirect<A>)
         requires later { self.old.state.moment ≤ moment }
         requires in_time { moment ≤ 2 ^ 62 }
-        requires fits { CanSendOn self.old.config moment self.old.state sending.path sending.preferred
-            sending.onward.items sending.ask }
+        requires fits { CanSendOn self.old.config moment self.old.state redirect.path redirect.preferred
+            redirect.onward.items redirect.ask }
         ensures { self.new ≡ record {
           config = self.old.config;
           state = record self.old.state {
-            asks = without_path sending.path self.old.state.asks
-                ++ ask_list sending.ask;
-            waiting = left_or_sent (ask_on sending.path self.old.state.asks) sending.onward.items
+            asks = without_path redirect.path self.old.state.asks
+                ++ ask_list redirect.ask;
+            waiting = left_or_sent (ask_on redirect.path self.old.state.asks) redirect.onward.items
                 self.old.state.waiting;
-            preferred = with_preferred (Some sending.preferred) self.old.state.preferred;
+            preferred = with_preferred (Some redirect.preferred) self.old.state.preferred;
             moment = moment;
-            tcp_asks = self.old.state.tcp_asks + tcp_count sending.ask;
+            tcp_asks = self.old.state.tcp_asks + tcp_count redirect.ask;
           };
         } }
     {
-        let Sending {
+        let Redirect {
             path,
             preferred,
             onward,
             ask,
-        } = sending;
+        } = redirect;
         self.kept.tcp_asks = count_next(self.kept.tcp_asks, &ask);
         send_on(
             &mut self.kept.inquiries,

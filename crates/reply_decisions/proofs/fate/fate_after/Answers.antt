@@ -1,12 +1,12 @@
 use Rattle.std.proofs.Common.{◌∙◌, sym, ap, subst}
-use Rattle.waiting_questions.specs.Onward.{Onward, sent_on}
+use Rattle.waiting_questions.specs.Onward.{Onward, redirected}
 use Rattle.step_table.specs.Steps.{waits}
 use Rattle.step_actions.specs.Fates.{fate_in, IfWaits}
 use Rattle.reply_decisions.proofs.Going.{fate_alike}
 use Rattle.reply_decisions.proofs.fate.fate_after.Goals as goal
 
-pub sent_on-requires : goal.sent_on-requires
-sent_on-requires g c = (subst (IfWaits c.args.start.now.config c.args.looked.now) c.in-Waits.is c.in_ok-fate.ensures.waits).0
+pub redirected-requires : goal.redirected-requires
+redirected-requires g c = (subst (IfWaits c.args.start.now.config c.args.looked.now) c.in-Waits.is c.in_ok-fate.ensures.waits).0
 
 pub returns-in-Reply : goal.returns-in-Reply
 returns-in-Reply g c =
@@ -15,11 +15,11 @@ returns-in-Reply g c =
     ∙ fate_alike c.args.start.now.config c.args.start.now.moment l c.request.result c.args.waiting.now
     c.request.ensures.client c.request.ensures.asked c.request.ensures.taken
 
-pub returns-in_ok-sent_on-in-Waits : goal.returns-in_ok-sent_on-in-Waits
-returns-in_ok-sent_on-in-Waits g c =
+pub returns-in_ok-redirected-in-Waits : goal.returns-in_ok-redirected-in-Waits
+returns-in_ok-redirected-in-Waits g c =
     let l = c.args.looked.now in
     let x = c.args.waiting.now in
-    ap (λ (s : Onward). waits (sent_on s x)) c.in_ok-sent_on-in-Waits.ensures
+    ap (λ (s : Onward). waits (redirected s x)) c.in_ok-redirected-in-Waits.ensures
     ∙ (λ i. waits (record {
       client = sym c.request.ensures.client i;
       asked = sym c.request.ensures.asked i;

@@ -9,8 +9,8 @@ use Rattle.reply_decisions.proofs.fate.WaitingFate.without_port.Goals as goal
 pub returns-in-Reply : goal.returns-in-Reply
 returns-in-Reply g c = ap (λ f. without_port (fate_now f)) (sym c.in-Reply.is)
 
-pub returns-in_ok-action-in-SentOn : goal.returns-in_ok-action-in-SentOn
-returns-in_ok-action-in-SentOn g c =
-    ap (λ (a : Action). gets a) (c.in_ok-action-in-SentOn.ensures
+pub returns-in_ok-action-in-WaitsOn : goal.returns-in_ok-action-in-WaitsOn
+returns-in_ok-action-in-WaitsOn g c =
+    ap (λ (a : Action). gets a) (c.in_ok-action-in-WaitsOn.ensures
     ∙ (λ i. failed (c.request.ensures.client i) (c.request.ensures.asked i) NoPort))
-    ∙ ap (λ f. without_port (fate_now f)) (sym c.in-SentOn.is)
+    ∙ ap (λ f. without_port (fate_now f)) (sym c.in-WaitsOn.is)

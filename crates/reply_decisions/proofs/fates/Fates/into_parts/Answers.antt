@@ -37,11 +37,11 @@ loop-fate-preserved g c = record {
   used = refl;
   actions =
       no_reply (actions_of c.loop-fate.actions) (fate_now c.in-Some.fate) (map fate_now c.loop-fate.fate-iterator.rest.items) (map fate_now c.next.new.self.rest.items)
-      (ap (map fate_now) c.in-Some.ensures.steps.0) (ap (λ f. reply_in (fate_now f)) c.in-SentOn.is)
+      (ap (map fate_now) c.in-Some.ensures.steps.0) (ap (λ f. reply_in (fate_now f)) c.in-WaitsOn.is)
       ∙ c.loop-fate.invariant.actions;
   onward =
-      next_mapped onward_of c.loop-fate.onward.items c.push-in-SentOn.new.self.items (fate_now c.in-Some.fate) (Some c.in-SentOn.sent_on) (map fate_now c.loop-fate.fate-iterator.rest.items) (map fate_now c.next.new.self.rest.items)
-      (ap (map fate_now) c.in-Some.ensures.steps.0) c.in_ok-push-in-SentOn.ensures.items (sym (ap (λ f. onward_of (fate_now f)) c.in-SentOn.is))
+      next_mapped onward_of c.loop-fate.onward.items c.push-in-WaitsOn.new.self.items (fate_now c.in-Some.fate) (Some c.in-WaitsOn.redirected) (map fate_now c.loop-fate.fate-iterator.rest.items) (map fate_now c.next.new.self.rest.items)
+      (ap (map fate_now) c.in-Some.ensures.steps.0) c.in_ok-push-in-WaitsOn.ensures.items (sym (ap (λ f. onward_of (fate_now f)) c.in-WaitsOn.is))
       ∙ c.loop-fate.invariant.onward;
 }
 

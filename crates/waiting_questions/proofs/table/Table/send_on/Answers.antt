@@ -7,7 +7,7 @@ use Rattle.outstanding.specs.declared.keyed.QuestionKey.{QuestionKey}
 use Rattle.outstanding.specs.declared.numbered.NumberedKey.{NumberedKey}
 use Rattle.outstanding.specs.Orders.{question_key}
 use Rattle.waiting_questions.specs.Values.{Waiting}
-use Rattle.waiting_questions.specs.Onward.{sent_on}
+use Rattle.waiting_questions.specs.Onward.{redirected}
 use Rattle.waiting_questions.specs.Indexes.{waiting_under, keys_of, to_question, IsByQuestion, AreKeys, AreIndexed, AreNumbered, IsRange}
 use Rattle.waiting_questions.specs.Settling.{earlier, with_at}
 use Rattle.waiting_questions.proofs.Keys.{at_under, is_some_of, value_of}
@@ -148,4 +148,4 @@ returns-clause-list g c = λ z is.
     (in_turns s s1 (keys_of items) t c.requires.indexed.lists key x y c.args.place c.args.arrival_rank p_in c.requires.arrival_rank read t_is c.remove-keyed.ensures.value c.remove-keyed.ensures.updates i j range ∙ ap (λ (ks : List ℕ). between i j ks) (sym out)) in
     let same : x ≡ z = same_Some x z (sym (at_under s t c.args.arrival_rank c.requires.indexed.lists.turns.present c.requires.arrival_rank ∙ ap (get s) t_is ∙ c.remove-keyed.ensures.value) ∙ is) in
     sent_items s s1 (keys_of items) t c.requires.indexed.lists key x y c.args.place c.args.arrival_rank p_in c.requires.arrival_rank read t_is c.remove-keyed.ensures.value c.remove-keyed.ensures.updates i j range s' put taken c.place_by_arrival-at.result at_is
-    ∙ ap (λ (w : Waiting). with_at (waiting_under s t) c.args.arrival_rank (Some w)) (c.send_on.ensures ∙ ap (sent_on c.args.onward) same)
+    ∙ ap (λ (w : Waiting). with_at (waiting_under s t) c.args.arrival_rank (Some w)) (c.send_on.ensures ∙ ap (redirected c.args.onward) same)

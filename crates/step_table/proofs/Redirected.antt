@@ -15,11 +15,11 @@ use Rattle.suffix_routes.specs.Serving.{serving_route_of}
 use Rattle.dns_message.specs.Questions.{asked_at}
 use Rattle.waiting_questions.specs.Values.{Waiting, waits_for}
 use Rattle.step_table.specs.Steps.{waits}
-use Rattle.alias_chains.specs.LookingUp.{LookUpEnd, ends, too_long, missed, LookUp, look_up_behind, look_up_after, one_too_many, through, look_up, too_many, goes_on}
+use Rattle.alias_chains.specs.LookingUp.{LookUpEnd, ends, too_long, missed, LookUp, look_up_on, look_up_after, one_too_many, through, look_up, too_many, goes_on}
 use Rattle.step_table.specs.Replies.{looked_by, fate_by}
 use Rattle.step_table.specs.Clients.{fate_missed, fate_at, fate_of}
 use Rattle.alias_chains.specs.Offering.{held_at}
-use Rattle.step_table.specs.Laws.{SentOnQuestionsWantOne}
+use Rattle.step_table.specs.Laws.{RedirectedQuestionsWantOne}
 
 -- where both miss, they want one question
 abbrev MissAlike : LookUp → LookUp → Type 0
@@ -30,7 +30,7 @@ followed_alike : (held other : List Held) (q : Question) (onward onward' : Held 
 followed_alike held other q onward onward' go (find.rows e) m k = refl
 followed_alike held other q onward onward' go (find.alias e) m k = by (target_of e.piece.body) m k
   where
-    by : (t : Option (List (List ℕ))) → MissAlike (look_up_behind held q onward e t) (look_up_behind other q onward' e t)
+    by : (t : Option (List (List ℕ))) → MissAlike (look_up_on held q onward e t) (look_up_on other q onward' e t)
     by None m k = refl
     by (Some target) m k = go e target m k
 followed_alike held other q onward onward' go (find.no_data e) m k = refl
@@ -69,8 +69,8 @@ missed_at c n x x' l missed met is = by (serving_route_of c l.wanted.name) is
     by None is = absurd (cc)
     by (Some route) is = let same : record x { held = l.held; wanted = l.wanted } ≡ x' = cc in record { missed = met; wanted = sym (ap (λ (z : Waiting). z.wanted) same) }
 
-pub sent_on_questions_want_one : SentOnQuestionsWantOne
-sent_on_questions_want_one c n entries a w name x y x' y' ends_so for_x for_y fate_x fate_y =
+pub redirected_questions_want_one : RedirectedQuestionsWantOne
+redirected_questions_want_one c n entries a w name x y x' y' ends_so for_x for_y fate_x fate_y =
     one.wanted ∙ goes_alike c n entries (x.held ++ here) (y.held ++ here) (asked_at x.wanted name) one.missed (ap (λ (q : Question). (goes_on c.routes n entries (y.held ++ here) q).met) same ∙ two.missed)
     ∙ ap (λ (q : Question). (goes_on c.routes n entries (y.held ++ here) q).wanted) same ∙ sym two.wanted
   where

@@ -11,14 +11,14 @@ use Rattle.waiting_questions.specs.Onward.{Onward}
 use Rattle.step_table.specs.State.{StepStart}
 use Rattle.step_table.specs.Attempts.{servers_in, group_of}
 use Rattle.step_table.specs.Steps.{Fate, ask_list, asks, closes, closing_step, offering_step, replies, with_preferred_server, with_promoted}
-use Rattle.step_actions.specs.declared.decision.Sending.{Sending}
+use Rattle.step_actions.specs.declared.decision.Redirect.{Redirect}
 use Rattle.step_actions.specs.Decision.{AreForThose, CanSendOn, IfFollows, IsSentEarlier}
 use Rattle.alias_chains.specs.Offering.{pieces_of}
 use Rattle.reply_decisions.specs.Fates.{onward_of}
 use Rattle.reply_decisions.proofs.Deciding.{sending_row}
 use Rattle.step_actions.proofs.CallerLemmas.{server_within}
 use Rattle.reply_decisions.proofs.SendingOn.{sent_all}
-use Rattle.reply_decisions.proofs.sending.close_and_send_on.Goals as goal
+use Rattle.reply_decisions.proofs.redirecting.close_and_send_on.Goals as goal
 
 pub returns : goal.returns
 returns g c = record {
@@ -33,17 +33,17 @@ returns g c = record {
         row = λ rooms.
             ap (offering_step c.args.start.now.moment rooms (pieces_of c.args.carried.items))
             (sending_row g.row.A.Denot c.args.start.now.moment c.args.start.now.state c.args.answered.now fate
-            c.args.fates.each c.args.next c.in_ok-onward.used c.in_ok-sending.sending _ c.requires.on
+            c.args.fates.each c.args.next c.in_ok-onward.used c.in_ok-redirect.redirect _ c.requires.on
             become
-            (ap (λ (v : Sending g.row.A.Denot). v.path) c.in_ok-sending.ensures.ok
+            (ap (λ (v : Redirect g.row.A.Denot). v.path) c.in_ok-redirect.ensures.ok
             ∙ ap (λ (a : Ask). a.path) (c.ask.view_is ∙ c.ask-ask.ensures))
-            (ap (λ (v : Sending g.row.A.Denot). v.preferred.route) c.in_ok-sending.ensures.ok
+            (ap (λ (v : Redirect g.row.A.Denot). v.preferred.route) c.in_ok-redirect.ensures.ok
             ∙ ap (λ (a : Ask). a.route) (c.ask.view_is ∙ c.ask-ask.ensures))
-            (ap (λ (v : Sending g.row.A.Denot). v.preferred.server) c.in_ok-sending.ensures.ok
+            (ap (λ (v : Redirect g.row.A.Denot). v.preferred.server) c.in_ok-redirect.ensures.ok
             ∙ ap (λ (a : Ask). a.server) (c.ask.view_is ∙ c.ask-ask.ensures))
-            (ap (λ (v : Sending g.row.A.Denot). v.onward.items) c.in_ok-sending.ensures.ok
+            (ap (λ (v : Redirect g.row.A.Denot). v.onward.items) c.in_ok-redirect.ensures.ok
             ∙ c.in_ok-onward.ensures.onward)
-            (ap (λ (v : Sending g.row.A.Denot). v.ask) c.in_ok-sending.ensures.ok)
+            (ap (λ (v : Redirect g.row.A.Denot). v.ask) c.in_ok-redirect.ensures.ok)
             (c.in_ok-put_next.ensures
             ∙ ap (λ (ys : List Action). ys ++ map asks (ask_list c.args.next))
             (c.in_ok-onward.ensures.replies
@@ -54,8 +54,8 @@ returns g c = record {
             (with_promoted slots (with_preferred_server c.args.answered.now c.args.start.now.state)))
             c.in_ok-onward.ensures.used);
         fits = record {
-          fits = subst (λ (v : Sending g.row.A.Denot). CanSendOn c.args.start.now.config c.args.start.now.moment
-              c.args.start.now.state v.path v.preferred v.onward.items v.ask) (sym c.in_ok-sending.ensures.ok) (record {
+          fits = subst (λ (v : Redirect g.row.A.Denot). CanSendOn c.args.start.now.config c.args.start.now.moment
+              c.args.start.now.state v.path v.preferred v.onward.items v.ask) (sym c.in_ok-redirect.ensures.ok) (record {
                 those = subst (λ (r : Option Ask). AreForThose r c.in_ok-onward.onward.items
                     c.args.start.now.state.waiting)
                     (sym on) (ap (λ (os : List (Option Onward)). length os) c.in_ok-onward.ensures.onward
@@ -82,9 +82,9 @@ returns g c = record {
       };
 }
 
-pub returns-in_err-sending : goal.returns-in_err-sending
-returns-in_err-sending g c = record {
+pub returns-in_err-redirect : goal.returns-in_err-redirect
+returns-in_err-redirect g c = record {
   decides = λ fate become.
-      let failed = err_from_is_err_and c.from_residual-in_err-sending.result c.from_residual-in_err-sending.ensures.1 in
+      let failed = err_from_is_err_and c.from_residual-in_err-redirect.result c.from_residual-in_err-redirect.ensures.1 in
       rw failed.1 tt;
 }

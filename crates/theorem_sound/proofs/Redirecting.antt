@@ -186,11 +186,11 @@ module _ (c : Config) (past : List Step) (step : Step) (t n : ℕ) (cache : Cach
     pub fate_led : IsFated (looked_by c n cache.entries w y w.end)
     fate_led = subst (λ e. IsFated (looked_by c n cache.entries w y e)) (sym ends_so) fated_on
 
-    sent_on : IsSent c (fate_of c n y (goes_on c.routes n cache.entries held wanted))
-    sent_on = cond_both (nat_le (length held) 8) _ _ (λ l. IsSent c (fate_of c n y l))
+    redirected : IsSent c (fate_of c n y (goes_on c.routes n cache.entries held wanted))
+    redirected = cond_both (nat_le (length held) 8) _ _ (λ l. IsSent c (fate_of c n y l))
         (λ few. sent_at c n y looked_on looked_on.met (question_led look was.comes.question looked_on.wanted looked_on.held (read_well was.comes.request was.comes.question was.comes.octets was.comes.reads) (right few).follows))
         (λ many. tt)
 
     -- and the question that it then wants can be asked
     pub sent_led : IsSent c (fate_of c n y (looked_by c n cache.entries w y w.end))
-    sent_led = subst (λ e. IsSent c (fate_of c n y (looked_by c n cache.entries w y e))) (sym ends_so) sent_on
+    sent_led = subst (λ e. IsSent c (fate_of c n y (looked_by c n cache.entries w y e))) (sym ends_so) redirected

@@ -85,15 +85,15 @@ abbrev two_asks : State
 two_asks = after config ((1000, asks_for 1 (address a)) ∷ (1000, asks_for 2 (address b)) ∷ [])
 
 -- the step of the reply to the second one, with these words
-abbrev sent_on : List ℕ → List Action
-sent_on words = (next config 1010 words two_asks (hears 1040 (leads_to 100))).actions
+abbrev redirected : List ℕ → List Action
+redirected words = (next config 1010 words two_asks (hears 1040 (leads_to 100))).actions
 
 -- the port that is given up counts as free, another ask's doesn't
-freed : sent_on (524296 ∷ 1048592 ∷ []) ≡ close_udp 1040 ∷ sends_query 1040 server 16 (address d) ∷ []
+freed : redirected (524296 ∷ 1048592 ∷ []) ≡ close_udp 1040 ∷ sends_query 1040 server 16 (address d) ∷ []
 unfolding walk_from servers_from route_of name_of_rdata name_within walk_in name_step
 freed = refl
 
-no_port : sent_on (524296 ∷ []) ≡ close_udp 1040 ∷ fails_with NoPort 2 2 (address b) ∷ []
+no_port : redirected (524296 ∷ []) ≡ close_udp 1040 ∷ fails_with NoPort 2 2 (address b) ∷ []
 unfolding walk_from servers_from route_of name_of_rdata name_within walk_in name_step
 no_port = refl
 

@@ -6,8 +6,8 @@ use Rattle.outstanding.specs.Values.{Ask}
 use Rattle.suffix_routes.specs.Serving.{serving_route_of}
 use Rattle.step_table.specs.Attempts.{ask_by, first_ask_on, freed_by, over_udp, peer_at}
 use Rattle.step_table.proofs.CallerLemmas.{draws_left}
-use Rattle.reply_decisions.specs.Sending.{closing_state}
-use Rattle.reply_decisions.proofs.sending.first_ask_then.Goals as goal
+use Rattle.reply_decisions.specs.Redirecting.{closing_state}
+use Rattle.reply_decisions.proofs.redirecting.first_ask_then.Goals as goal
 use Rattle.step_table.specs.State.{from_state}
 
 pub returns : goal.returns

@@ -20,7 +20,7 @@ ghost use Rattle.step_values.specs.Values.{actions_of};
 ghost use Rattle.step_actions.specs.Decision.{MeetsRow, IfFollows, IsRouted, IsSentEarlier};
 ghost use Rattle.alias_chains.specs.Offering.{pieces_of};
 ghost use Rattle.reply_decisions.specs.Fates.{onward_of, AreFates};
-ghost use Rattle.reply_decisions.specs.Sending.{ask_for, asked_for, closing_state, fates_then};
+ghost use Rattle.reply_decisions.specs.Redirecting.{ask_for, asked_for, closing_state, fates_then};
 ghost use Rattle.reply_decisions.specs.Walked.{walk_on, IsWalkFor};
 ghost use Rattle.step_table.specs.State.{start, from_state};
 
@@ -35,7 +35,7 @@ use record_cache::Held;
 use std::alloc::{AllocError, Allocator};
 use std::hash::BuildHasher;
 use step_actions::{
-    Attempt, Change, Decision, Preferred, Sending, StepStartRef, by_udp, close_path, freed_port,
+    Attempt, Change, Decision, Preferred, Redirect, StepStartRef, by_udp, close_path, freed_port,
     new_ask,
 };
 use step_texts::ask as ask_action;
@@ -190,17 +190,17 @@ fn close_and_send_on<'s, H: BuildHasher + Drop, A: Allocator + Copy>(
         route: ask.route,
         server: ask.server,
     };
-    let sending = Sending {
+    let redirect = Redirect {
         path: ask.path,
         preferred,
         onward,
         ask: next,
     };
-    let sending = Box::new(start.alloc, sending)?;
+    let redirect = Box::new(start.alloc, redirect)?;
     Ok(Decision {
         actions,
         used,
-        change: Change::SendOn(sending),
+        change: Change::SendOn(redirect),
         carried,
     })
 }

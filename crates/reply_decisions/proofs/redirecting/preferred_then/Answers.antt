@@ -7,7 +7,7 @@ use Rattle.step_table.specs.Steps.{with_preferred_server}
 use Rattle.step_table.specs.Progress.{ArePreferred}
 use Rattle.step_actions.proofs.CallerLemmas.{kept_of}
 use Rattle.reply_decisions.proofs.Beside.{preferred_own}
-use Rattle.reply_decisions.proofs.sending.preferred_then.Goals as goal
+use Rattle.reply_decisions.proofs.redirecting.preferred_then.Goals as goal
 
 pub returns-then-route-own : goal.returns-then-route-own
 returns-then-route-own g c =

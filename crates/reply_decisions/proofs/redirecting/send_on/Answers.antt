@@ -17,11 +17,11 @@ use Rattle.alias_chains.proofs.CallerLemmas.{walk_first, held_now}
 use Rattle.step_table.proofs.CallerLemmas.{All-filter}
 use Rattle.reply_decisions.proofs.Earlier.{behind_holds}
 use Rattle.reply_decisions.specs.Walked.{walk_on}
-use Rattle.reply_decisions.specs.Sending.{ask_for, asked_for, closing_state, fates_then}
+use Rattle.reply_decisions.specs.Redirecting.{ask_for, asked_for, closing_state, fates_then}
 use Rattle.reply_decisions.proofs.Accepting.{carried_few, carried_routed, carried_is}
 use Rattle.step_actions.proofs.CallerLemmas.{later_entries, later_held, kept_of, decides_by}
 use Rattle.reply_decisions.proofs.SendingOn.{sent_are, sent_row, sent_earlier, next_follows}
-use Rattle.reply_decisions.proofs.sending.send_on.Goals as goal
+use Rattle.reply_decisions.proofs.redirecting.send_on.Goals as goal
 
 pub slice_bounds-lead-end : goal.slice_bounds-lead-end
 slice_bounds-lead-end g c =

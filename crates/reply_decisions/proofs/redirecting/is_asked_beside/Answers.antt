@@ -3,7 +3,7 @@ use Rattle.std.specs.Prelude.{not, is_some}
 use Rattle.outstanding.specs.Lists.{of_question, without_path, same_path}
 use Rattle.step_table.specs.State.{StepStart}
 use Rattle.reply_decisions.proofs.Beside.{asked_beside}
-use Rattle.reply_decisions.proofs.sending.is_asked_beside.Goals as goal
+use Rattle.reply_decisions.proofs.redirecting.is_asked_beside.Goals as goal
 
 pub returns-in-Some : goal.returns-in-Some
 returns-in-Some g c =

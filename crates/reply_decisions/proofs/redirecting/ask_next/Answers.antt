@@ -1,9 +1,9 @@
 use Rattle.std.proofs.Common.{◌∙◌, sym, ap, Option, None, Some}
 use Rattle.dns_message.specs.Values.{Question}
 use Rattle.step_table.specs.State.{from_state}
-use Rattle.reply_decisions.specs.Sending.{closing_state, ask_for, fates_then}
+use Rattle.reply_decisions.specs.Redirecting.{closing_state, ask_for, fates_then}
 use Rattle.reply_decisions.proofs.SendingOn.{none_asked, asked_already, asked_now}
-use Rattle.reply_decisions.proofs.sending.ask_next.Goals as goal
+use Rattle.reply_decisions.proofs.redirecting.ask_next.Goals as goal
 
 pub returns-in_default-clause-ask : goal.returns-in_default-clause-ask
 returns-in_default-clause-ask g c =
