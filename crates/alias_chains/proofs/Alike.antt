@@ -13,7 +13,7 @@ use Rattle.negative_cache.proofs.CallerLemmas.{equal_questions_find_the_same}
 use Rattle.alias_chains.specs.LookingUp.{LookUpEnd, ends, too_long, missed, LookUp, look_up_on, look_up_after, one_too_many, through, look_up}
 use Rattle.alias_chains.specs.Laws.{AreAlike, SameAreLookedUpAlike}
 
--- the same question at a name
+-- a question at another name
 abbrev at : Question → List (List ℕ) → Question
 at q target = record { name = target; kind = q.kind; class = q.class }
 
@@ -50,7 +50,7 @@ followed_alike held q other onward onward' same go (denied e) = alike_alone held
 followed_alike held q other onward onward' same go local = alike_alone held q other missed [] same
 followed_alike held q other onward onward' same go miss = alike_alone held q other missed [] same
 
--- the same name is asked for
+-- equal questions ask for a name by equal questions
 at_same : (q other : Question) → IsSameQuestion q other → (target : List (List ℕ)) → at q target ≡ at other target
 at_same q other same target = λ i. record { name = target; kind = same.kind i; class = same.class i }
 

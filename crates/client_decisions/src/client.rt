@@ -176,7 +176,8 @@ fn wait<'s, H: BuildHasher + Drop, A: Allocator + Copy>(
     requires aliases { AllByRecursion (IsEarlier start.now.moment) looked.held }
     requires taken { request.now.taken ≡ start.now.moment }
     ensures decides { IfOk result (MeetsStep start.now (row_of_waiting
-        (from_state (with_promoted looked.entry.used start.now.state) start.now) (waits_with request.now looked.entry))) }
+        (from_state (with_promoted looked.entry.used start.now.state) start.now)
+        (waits_with request.now looked.entry))) }
 {
     let config = start.config;
     if start.kept.waiting.len() >= config.limits.questions {

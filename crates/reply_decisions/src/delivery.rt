@@ -143,7 +143,8 @@ fn accept<'s, H: BuildHasher + Drop, A: Allocator + Copy>(
     authority: PlainList<Piece<A>, A>,
 ) -> Result<Decision<'s, A>, AllocError>
     requires on { ask_on ask.now.path start.now.state.asks ≡ Some ask.now }
-    ensures decides { (e : EndValue) → has_last e ≡ true → IsWalkFor start.now.config ask.now (walk_to pieces authority e)
+    ensures decides { (e : EndValue) → has_last e ≡ true
+        → IsWalkFor start.now.config ask.now (walk_to pieces authority e)
         → IfOk result (MeetsRow start.now (λ rooms. row_of_acceptance start.now rooms ask.now
         (walk_to pieces authority e))) }
 {

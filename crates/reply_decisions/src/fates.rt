@@ -108,7 +108,7 @@ impl<'a, A: Allocator + Copy> Fates<'a, A> {
         None
     }
 
-    /// The same fates, but a question that would be sent on fails: no port is free for an ask.
+    /// These fates, but each redirected question fails: no port is free for an ask.
     pub fn without_port(self, alloc: A) -> Result<Fates<'a, A>, AllocError>
         ensures each { IfOk result (λ f. f.each ≡ map without_port self.entry.each) }
         ensures used { IfOk result (λ f. f.used ≡ self.entry.used) }

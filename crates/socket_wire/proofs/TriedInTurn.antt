@@ -65,7 +65,7 @@ module _ {A : Type 0} where
       (tried_within tries (2 ^ 16) port (before 0).next_ask ever (λ try. (before try).asks)
       listed enough)
 
-  -- The same of a connection of an ask.
+  -- The connection of an ask is tried.
   pub server_is_tried : (tries conn : ℕ) (ever : List ℕ) (found : ℕ → Bool)
       (before after : ℕ → SeenSockets A)
       → ((try : ℕ) → TriesServer (found try) (before try) (after try))
@@ -81,7 +81,7 @@ module _ {A : Type 0} where
       (λ try. (before try).connections.servers) listed
       enough)
 
-  -- The same of a client.
+  -- A client is tried.
   pub client_is_tried : (tries conn : ℕ) (ever : List ℕ) (found : ℕ → Bool)
       (before after : ℕ → SeenSockets A)
       → ((try : ℕ) → TriesClient (found try) (before try) (after try))
@@ -157,7 +157,7 @@ module _ {A : Type 0} where
       (listed sweep))
       enough
 
-  -- The same of a connection of an ask.
+  -- The connection of an ask is tried within the sweeps.
   pub server_is_tried_in_sweeps : (sweeps conn : ℕ) (ever : List ℕ)
       (before after : ℕ → SeenSockets A)
       → ((sweep : ℕ) → TriesUpTo TriesServer 20 (before sweep) (after sweep))
@@ -180,7 +180,7 @@ module _ {A : Type 0} where
       FindsIn TriesClient (2 ^ 64) conn (λ s. s.next_client) (λ s. s.connections.clients) ever 20
       before
 
-  -- The same of a client.
+  -- A client is tried within the sweeps.
   pub client_is_tried_in_sweeps : (sweeps conn : ℕ) (ever : List ℕ)
       (before after : ℕ → SeenSockets A)
       → ((sweep : ℕ) → TriesUpTo TriesClient 20 (before sweep) (after sweep))

@@ -81,7 +81,7 @@ Arrives conn buffer (Some heard.Done) result = result ≡ Ok Served
 Arrives conn buffer (Some heard.Failed) result = result ≡ Ok Served
 Arrives conn buffer None result = result ≡ Ok Nothing
 
--- The same, unless the client has been silent for too long even so: then nothing arrives.
+-- What arrives, unless the client has been silent for too long even so: then nothing arrives.
 abbrev pub ArrivesUnless : {A : Type 0} → (late : Bool) → (conn : ℕ) (buffer : List ℕ) → Option Heard
     → Result (Tried A) AllocError → Type 0
 ArrivesUnless true conn buffer heard result = result ≡ Ok Served

@@ -134,8 +134,8 @@ fn put_answer<'a, A: Allocator + Copy>(
 ) -> Result<(), AllocError>
     requires { AllByRecursion (IsEarlier answers.old.moment) waiting.now.held }
     ensures same { answers.new ≡ answers.old }
-    ensures put { IfOk result (λ _. actions_of actions.new ≡ actions_of actions.old ++ reply_from answers.old waiting.now
-        ∷ []) }
+    ensures put { IfOk result (λ _. actions_of actions.new ≡ actions_of actions.old
+        ++ reply_from answers.old waiting.now ∷ []) }
 {
     let action = answer_or_fail(alloc, answers, waiting)?;
     actions.push(action)

@@ -542,7 +542,7 @@ pub row_serves_on : (c : Config) (s : State) (h : StepInput) (o : Outcome) (s' :
     → ServesOnTruly c s (record { input = h; outcome = o } ∷ [])
 row_serves_on c s h o s' r = run_serves_on c s s' (record { input = h; outcome = o } ∷ []) (s', r, refl)
 
--- the same, where a step was stored
+-- a stored step and its outcome come to the next state
 pub came_more : (c c' : Config) (steps steps' : List Step) (s s' : State) (h : StepInput) (o : Outcome) → c' ≡ c
     → steps' ≡ steps ++ record { input = h; outcome = o } ∷ []
     → ComesTo c steps s → Row c s h o s' → ComesTo c' steps' s'

@@ -87,7 +87,7 @@ nobody_waits h = by h.wanted h.each h.wanting
     by [] each wanting = wanting.0
     by (q ∷ wanted) each wanting = each
 
--- the same name with an upper case letter
+-- the name with an upper case letter
 abbrev upper : List (List ℕ)
 upper = (65 ∷ []) ∷ example
 

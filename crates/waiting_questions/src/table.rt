@@ -111,7 +111,8 @@ impl<A: Allocator> Table<A> {
         requires indexed { IsIndexed self.old }
         requires place { place < length self.old.by_question.items }
         requires arrival_rank { arrival_rank < length self.old.by_arrival.keys }
-        requires one { slice_index (keys_of self.old.by_question.items) place ≡ slice_index self.old.by_arrival.keys arrival_rank }
+        requires one { slice_index (keys_of self.old.by_question.items) place
+            ≡ slice_index self.old.by_arrival.keys arrival_rank }
         ensures indexed { IsIndexed self.new }
         ensures list { items_of self.new ≡ remove (items_of self.old) arrival_rank }
     {
@@ -172,7 +173,8 @@ impl<A: Allocator> Table<A> {
         requires indexed { IsIndexed self.old }
         requires place { place < length self.old.by_question.items }
         requires arrival_rank { arrival_rank < length self.old.by_arrival.keys }
-        requires one { slice_index (keys_of self.old.by_question.items) place ≡ slice_index self.old.by_arrival.keys arrival_rank }
+        requires one { slice_index (keys_of self.old.by_question.items) place
+            ≡ slice_index self.old.by_arrival.keys arrival_rank }
         ensures indexed { IsIndexed self.new }
         ensures list { (x : Asking) → slice_get (items_of self.old) arrival_rank ≡ Some x
             → items_of self.new ≡ with_at (items_of self.old) arrival_rank (left_by fate x) }
@@ -189,7 +191,8 @@ impl<A: Allocator> Table<A> {
         requires indexed { IsIndexed self.old }
         requires place { place < length self.old.by_question.items }
         requires arrival_rank { arrival_rank < length self.old.by_arrival.keys }
-        requires one { slice_index (keys_of self.old.by_question.items) place ≡ slice_index self.old.by_arrival.keys arrival_rank }
+        requires one { slice_index (keys_of self.old.by_question.items) place
+            ≡ slice_index self.old.by_arrival.keys arrival_rank }
         ensures indexed { IsIndexed self.new }
         ensures list { (x : Asking) → slice_get (items_of self.old) arrival_rank ≡ Some x
             → items_of self.new ≡ with_at (items_of self.old) arrival_rank (Some (redirected onward x)) }
