@@ -138,8 +138,70 @@ def what_the_page_for_administrators_shows(program):
     utf_16 = ["the text is no TOML: see line 1, column 1: invalid UTF-8", "fault 1"]
     expect((checked(program, smallest.encode("utf-16")), utf_16[0] in page), ((utf_16, 2), True))
     expect(checked(program, b"\xef\xbb\xbf" + smallest.replace("\n", "\r\n").encode()), (["ok 1"], 0))
-    if len(rows) < 20 or len(blocks) < 4:
+    if len(rows) < 10 or len(blocks) < 4:
         raise AssertionError(f"only {len(rows)} rows and {len(blocks)} configurations were found")
+
+
+# What a server has to be, as the program says it.
+PEER = "and has to be four numbers from 0 to 255 with dots between, a colon, and a port from 1 to 65535"
+NO_NAME = "which is no name: a character is no letter, digit, hyphen, underscore or dot"
+# Lines of a configuration, with the number of their fault and what is printed of them.
+REFUSED_LINES = [
+    ('servers = ["192.0.2.53@53"]', 6,
+     f'server 1 of route 1 is "192.0.2.53@53", {PEER}: the port follows a colon, as in `192.0.2.1:53`'),
+    ('servers = ["192.0.2.53:53%eth0"]', 6,
+     f'server 1 of route 1 is "192.0.2.53:53%eth0", {PEER}: no interface can be given'),
+    ('servers = ["192.0.2.53:53 192.0.2.54:53"]', 6,
+     f'server 1 of route 1 is "192.0.2.53:53 192.0.2.54:53", {PEER}: each server is a string of its own'),
+    ('servers = ["[2001:db8::1]:53"]', 6,
+     f'server 1 of route 1 is "[2001:db8::1]:53", {PEER}: only addresses of IPv4 can be given'),
+    ('servers = ["192.0.2.53@853#dns.example"]', 6,
+     f'server 1 of route 1 is "192.0.2.53@853#dns.example", {PEER}: the port follows a colon, and nothing is '
+     "encrypted"),
+    ("servers = [192.0.2.53:53]", 1,
+     f"the text is no TOML: see line 6, column 12: {NO_VALUE}; a string is between quotation marks"),
+    ("servers = []", 10, "`servers` of route 1 is empty, and has to have 1 to 8"),
+    ('listen = "localhost:53"', 6, f'`listen` is "localhost:53", {PEER}: an address is wanted, no name'),
+    ('listen = "*:53"', 6, f'`listen` is "*:53", {PEER}: all addresses are `0.0.0.0`, as in `0.0.0.0:53`'),
+    ('listen = ["127.0.0.1:53", "10.0.0.53:53"]', 4, "`listen` is an array, and has to be a string"),
+    ('suffix = "büro.example"', 5,
+     f'`suffix` of route 1 is "büro.example", {NO_NAME}: \'ü\' is not ASCII: write the label in its form that begins '
+     "with `xn--`"),
+    ('suffix = "c\u043erp.example"', 5,
+     f'`suffix` of route 1 is "c\u043erp.example", {NO_NAME}: \'\u043e\' (U+043E) is Cyrillic among Latin letters: '
+     "type the name again"),
+    ("[[routes]]", 11,
+     'the document has the key "routes", which is none of `version`, `listen`, `limits`, `route`: did you mean '
+     "`route`?"),
+    ('suffix = ".corp.example"', 5,
+     '`suffix` of route 1 is ".corp.example", which is no name: a label is empty: a suffix is for all names below it: '
+     "leave out what is before its first label"),
+    ('suffix = "/corp.example/10.0.0.10"', 5,
+     f'`suffix` of route 1 is "/corp.example/10.0.0.10", {NO_NAME}: a domain is the `suffix` of a route, its '
+     "servers are in `servers`"),
+    ('suffix = ""', 5, '`suffix` of route 1 is "", which is no name: a label is empty'),
+    ("version = 3", 2, "`version` is 3, and has to be 1 or 2"),
+    ('version = "1"', 4,
+     "`version` is a string, and has to be the integer 1 or 2: it is written without quotation marks"),
+    ('limits = { cache = "64m" }', 4,
+     "`cache` in `limits` is a string, and has to be an integer: digits alone, without quotation marks: it counts "
+     "record sets, not octets"),
+    ("cache-size = 1000", 11,
+     'the document has the key "cache-size", which is none of `version`, `listen`, `limits`, `route`: `cache` is a '
+     "key of `[limits]`"),
+    ("limits = { ask_ms = 1.5 }", 4, "`ask_ms` in `limits` is a float, and has to be an integer"),
+    ("limits = { cache_size = 1000 }", 11,
+     '`limits` has the key "cache_size", which is none of `questions`, `inquiries`, `cache`, `tries`, `ask_ms`, '
+     "`deadline_ms`: did you mean `cache`?"),
+]
+
+
+@case
+def further_lines_that_are_refused(program):
+    """Lines that docs/ADMIN.md leaves out."""
+    smallest = (TOP / "examples" / "smallest.toml").read_text()
+    for line, number, said in REFUSED_LINES:
+        expect((line, checked(program, with_line(smallest, line).encode())), (line, ([said, f"fault {number}"], 2)))
 
 
 @case
@@ -161,6 +223,8 @@ def why_a_text_is_no_configuration(program):
         ('[[route]]\nsuffix = "."\n[[route]]\nversion = 1\n',
          f'{missing}: the one below "route" is a key of that table', 3),
         ("[colour]\nversion = 1\n", f'{missing}: the one below "colour" is a key of that table', 3),
+        ('[limits]\ncache = 8192\n\nversion = 1\n\n[[route]]\nsuffix = "."\nservers = ["192.0.2.53:53"]\n',
+         f'{missing}: the one below "limits" is a key of that table', 3),
     ]
     for text, said, number in rows:
         expect((text, checked(program, text.encode())), (text, ([said, f"fault {number}"], 2)))
