@@ -2,15 +2,18 @@
 use Rattle.std.proofs.Common.{◌≡◌, ◌∙◌, ℕ, ◌+◌, ◌*◌, ◌<◌, ◌≤◌, List, [], ◌∷◌, length, map, refl, sym, ap, subst, inl, inr, arith, Option, Some, None}
 use Rattle.dns_message.specs.Data.{name_of_rdata}
 use Rattle.dns_message.specs.Names.{step as name_step, walk_in, name_within}
+use Rattle.suffix_routes.specs.Routes.{route_of}
 use Rattle.trust_rank.specs.declared.slot.Slot.{Slot}
 use Rattle.trust_rank.specs.Values.{rows, no_data}
 use Rattle.record_cache.specs.Values.{Held}
 use Rattle.cache_laws.specs.Replacing.{AreOfOneSlot, Replaces}
-use Rattle.cache_laws.proofs.CallerLemmas.{keeps_place, replaces_exactly}
+use Rattle.cache_laws.proofs.CallerLemmas.{keeps_place, replaces_exactly, serves_exactly}
 use Rattle.step_history.specs.Carried.{NotReplaced}
+use Rattle.step_table.proofs.Played.{config}
 use Rattle.theorem_use.specs.Use.{IsOneOf}
 use Rattle.theorem_use.specs.Touched.{Touched, IsLiving, LeadsAlong, LooksAlong}
 use Rattle.theorem_use.specs.Recent.{IsBelieved, StaysBelieved, Brings, IsRecent, IsReady, LeadsNowhere}
+use Rattle.theorem_use.specs.Recent.{IsReadyEnd, IsReadyAlias, IsAnsweredByRecent}
 use Rattle.theorem_use.proofs.Worked.{example, a, b, host, alias, name_error, address}
 
 -- ---- steps
@@ -204,6 +207,83 @@ alias_leads_on (inr none) = none (alias 1000 300) (inr (kept, inl refl), omega a
   where
     kept : Replaces no_address.piece (alias 1000 300).piece → ⊥
     kept = keeps_place no_address.piece (alias 1000 300).piece refl
+
+-- ---- a question that recent pieces answer
+
+-- a reply brought an alias of a.e and the address of its target
+abbrev chain_came : List Touched
+chain_came = carrying (of_b ∷ alias 1000 300 ∷ []) ∷ []
+
+next_to_alias : IsBelieved of_b (alias 1000 300 ∷ [])
+next_to_alias = inr each
+  where
+    each : (h : Held) → NotReplaced h (alias 1000 300 ∷ []) → AreOfOneSlot h.piece.slot of_b.piece.slot → 1010 < h.accepted + 1000 * h.piece.lifetime → h.piece.rank ≤ 3
+    each h (inl is) one alive = let kinds : ◌≡◌ {A = Option ℕ} (Some 5) (Some 1) = ap (λ (x : Held). x.piece.slot.kind) is ∙ one.kind in absurd (cc)
+    each h (inr never) one alive = absurd never.1
+
+ready_alias : IsReadyAlias config 2000 chain_came (address a) (alias 1000 300) b
+unfolding name_of_rdata name_within walk_in name_step
+ready_alias = record {
+  ready = record {
+    alive = omega arith;
+    slots = of_b.piece.slot ∷ (alias 1000 300).piece.slot ∷ [];
+    recent = (
+      omega arith,
+      record { carried = (inl refl, (inr (inl refl), tt)); used = tt },
+      inl (record { believed = inr (keeps_place of_b.piece (alias 1000 300).piece refl, inl (refl, alone (alias 1000 300))); memory = refl }),
+    );
+  };
+  other = λ five. (let same : 1 ≡ 5 = five in omega (arith, same));
+  slot = record { name = refl; class = refl; kind = refl };
+  leads = record { datum = _; body = refl; leads = refl };
+}
+
+-- no question for an alias follows one
+asks_for_aliases : IsReadyAlias config 2000 chain_came (record { name = a; kind = 5; class = 1 }) (alias 1000 300) b → ⊥
+asks_for_aliases leads = leads.other refl
+
+ready_end : IsReadyEnd config 2000 chain_came (address b) of_b
+unfolding route_of
+ready_end = record {
+  ready = record {
+    alive = omega arith;
+    slots = of_b.piece.slot ∷ (alias 1000 300).piece.slot ∷ [];
+    recent = (
+      omega arith,
+      record { carried = (inl refl, (inr (inl refl), tt)); used = tt },
+      inl (record { believed = inl (refl, next_to_alias); memory = refl }),
+    );
+  };
+  ends = record { name = refl; class = refl; kind = refl };
+  on_route = serves_exactly.only config b 0 refl;
+  alone = inl (_, refl);
+}
+
+-- the address is no end for the name of the alias
+other_end : IsReadyEnd config 2000 chain_came (address a) of_b → ⊥
+other_end end = let letters = ap label_of end.ends.name in omega (arith, letters)
+
+-- one alias leads to it
+answered_along : IsAnsweredByRecent config 2000 chain_came 1 (address a)
+answered_along = inr (alias 1000 300, b, ready_alias, (of_b, ready_end))
+
+-- the alias itself is no address
+alias_no_end : IsReadyEnd config 2000 chain_came (address a) (alias 1000 300) → ⊥
+alias_no_end end = let kinds : ◌≡◌ {A = Option ℕ} (Some 5) (Some 1) = end.ends.kind in absurd (cc)
+
+-- so without an alias nothing leads to it
+too_far : IsAnsweredByRecent config 2000 chain_came 0 (address a) → ⊥
+too_far (o, end) = by end.ready.slots end.ready.recent
+  where
+    came : StaysBelieved o (of_b ∷ alias 1000 300 ∷ []) [] → ⊥
+    came (inl (is, believed)) = other_end (subst (IsReadyEnd config 2000 chain_came (address a)) (sym is) end)
+    came (inr (keeps, inl (is, believed))) = alias_no_end (subst (IsReadyEnd config 2000 chain_came (address a)) (sym is) end)
+    came (inr (keeps, inr (other, never))) = never
+
+    by : (slots : List Slot) → IsRecent 4096 chain_came o slots → ⊥
+    by slots (few, touches, inl brings) = came brings.believed
+    by slots (few, touches, inr (keeps, inl (never, before, was))) = never
+    by slots (few, touches, inr (keeps, inr never)) = never
 
 -- ---- the slots that a look-up used
 
