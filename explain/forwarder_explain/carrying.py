@@ -19,6 +19,7 @@ class Base:
         self.entries, self.denials = OrderedDict(history.cache.entries), history.cache.denials
         self.longer = {}  # milliseconds by which entries live longer than their replies say
         self.preferred, self.last_output = dict(history.preferred), history.last_output
+        self.first_asked, self.expired = dict(history.first_asked), dict(history.expired)
         self.had_before, self.spans = history.had_before, history.eras.spans[-MOST_SPANS:]
         self.last_asked = {of: when for of, when in history.last_asked.items() if when >= since}
         self.ever_carried = set(history.ever_carried) if len(history.ever_carried) <= MOST_CARRIED else set()
@@ -75,6 +76,7 @@ class Continued(History):
         self.cache = Cache(configuration)
         self.cache.entries, self.cache.denials = OrderedDict(base.entries), base.denials
         self.preferred, self.last_output, self.had_before = dict(base.preferred), base.last_output, base.had_before
+        self.first_asked, self.expired = dict(base.first_asked), dict(base.expired)
         self.last_asked, self.ever_carried = dict(base.last_asked), set(base.ever_carried)
         self.eras.spans = list(base.spans)
         for name, said in (base.notes | base.latest).items():

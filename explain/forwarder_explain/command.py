@@ -12,12 +12,14 @@ from .configuration import shown
 from .doubts import Doubts
 from .files import captures_in, first_moment, opened, size_of
 from .following import Follower, follow
+from .groups import Groups
 from .leaps import Straightened, by_time
 from .options import arguments, chosen, moment_of, span_of
 from .packets import Decoder
 from .replay import TooLong
 from .report import Row, Summary, beginning_text, tallied, written
-from .story import Teller, clock
+from .scripts import Scripts
+from .story import Teller
 from .traffic import Question, Traffic
 from .windows import Cutter, explain
 from .wording import moment_text
@@ -97,6 +99,25 @@ class Packets:
         return [*self.said, *self.decoder.notes(), *self.straightened.notes]
 
 
+class Files:
+    """What is written beside what is printed: a page, and scripts."""
+
+    def __init__(self, options):
+        self.options, self.groups = options, Groups() if options.html else None
+        self.scripts = Scripts(options.script) if options.script else None
+
+    def tell(self, row):
+        """Takes a question, in the order of their moments."""
+        if self.groups:
+            self.groups.add(row)
+
+    def write(self, settings, summary):
+        if self.scripts:
+            self.scripts.write()
+        if self.groups:
+            page.write(self.options, settings, self.groups, summary)
+
+
 def explained_by(cutter, wanted, options, progress):
     """The results; windows become smaller where one has too many lines."""
     while True:
@@ -112,14 +133,21 @@ def explained_by(cutter, wanted, options, progress):
 def run(options, settings, files, progress):
     """Explains captures, which follow one another; gives the status."""
     packets = Packets(files, progress)
-    if not (options.html or options.script) and packets.are_more_than(pieces.PIECE):
+    if packets.are_more_than(pieces.PIECE):
         return run_in_pieces(options, settings, packets, progress)
     return run_whole(options, settings, packets, progress)
 
 
 def run_in_pieces(options, settings, packets, progress):
     """Explains so many packets that all of them at once would take much memory; gives the status."""
-    explaining = pieces.Pieces(options, settings, lambda row: (progress.end(), show(options, row)))
+    files = Files(options)
+
+    def tell(row):
+        progress.end()
+        show(options, row)
+        files.tell(row)
+
+    explaining = pieces.Pieces(options, settings, tell, files.scripts)
     summary = explaining.explain(packets)
     progress.end()
     for text in [*packets.notes(), *explaining.live.notes(settings)]:
@@ -127,6 +155,7 @@ def run_in_pieces(options, settings, packets, progress):
     expect_question(options, settings, explaining.span, explaining.has_chosen)
     for text in [*explaining.leaps, *explaining.queries.notes()]:
         note(options.capture, text)
+    files.write(settings, summary)
     show_end(options, summary)
     return DIFFERENT if summary.tally.differs() else 0
 
@@ -159,17 +188,19 @@ def run_whole(options, settings, packets, progress):
     for text in cutter.notes():
         note(options.capture, text)
     teller = Teller(settings, cutter.history)
-    rows = [Row(traffic.events[place], result, teller) for place, result in sorted(explained.results.items())]
-    if options.failures:
-        rows = [row for row in rows if row.failed()]
-    if options.script:
-        write_scripts(options, explained, traffic.events)
+    rows = {
+        place: Row(traffic.events[place], result, teller) for place, result in sorted(explained.results.items())
+    }
+    files = Files(options)
+    for number, text in enumerate(explained.scripts if files.scripts else ()):
+        files.scripts.put(text, [row for place, row in rows.items() if explained.windows[place] == number])
+    rows = [row for row in rows.values() if row.failed() or not options.failures]
     tally = tallied(rows, traffic.events, cutter.history, explained)
     for row in rows:
         show(options, row)
+        files.tell(row)
     summary = Summary(tally, list(cutter.beginnings()))
-    if options.html:
-        page.write(options.html, rows, summary, page.about(options, settings, rows))
+    files.write(settings, summary)
     show_end(options, summary)
     return DIFFERENT if tally.differs() else 0
 
@@ -217,28 +248,6 @@ def show_end(options, summary):
     print("\n".join(summary.verdict()))
 
 
-def write_scripts(options, explained, events):
-    """Writes the scripts of the windows, each with comments that say which answers differ."""
-    differing = {
-        explained.windows[place] for place, result in explained.results.items() if result.same == comparing.DIFFERENT
-    }
-    numbers = sorted(differing) or range(len(explained.scripts))
-    for count, number in enumerate(numbers, 1):
-        path = options.script if len(numbers) == 1 else f"{options.script}.{count}"
-        places = [place for place in explained.results if explained.windows[place] == number]
-        lines = [f"# forwarder-explain, {clock(events[min(places)].moment)} to {clock(events[max(places)].moment)}\n"]
-        for place in places:
-            result = explained.results[place]
-            if result.same == comparing.DIFFERENT:
-                lines.append(f"# the question of line {result.line} was answered {events[place].answer.octets.hex()}\n")
-                lines.append(f"# and the step answers {result.octets.hex() or 'nothing'}\n")
-        try:
-            with open(path, "w", encoding="utf-8") as file:
-                file.write("".join(lines) + explained.scripts[number])
-        except OSError as fault:
-            raise Unreadable(fault.strerror, path) from None
-
-
 def read_and_run(options, progress):
     """Does all of it; gives the status."""
     settings = configuration.read(options.configuration, options.program)
@@ -276,3 +285,7 @@ def guarded(options, work):
     except BrokenPipeError:
         sys.stderr.close()
         return 0
+    except OSError as fault:  # a disk that is full, or can't be read any more
+        progress.end()
+        note(fault.filename or options.capture, fault.strerror)
+        return UNREADABLE

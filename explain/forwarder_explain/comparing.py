@@ -6,6 +6,7 @@ from .answering import text_of
 
 SAME, SECOND, DIFFERENT = "same", "second", "different"
 BEFORE, UNANSWERED, GONE, OPEN, DROPPED = "before", "unanswered", "gone", "open", "dropped"
+EXPIRED, SERVFAIL = "expired", 2
 REFUSED, ENDED, LOST = "refused", "ended", "lost"
 
 
@@ -60,10 +61,13 @@ def without_answer(question, octets, may_come, has_ended):
 def compare(captured, octets, rests_on, waited):
     """One word for how a captured answer and the step's are to each other.
 
-    `rests_on` is BEFORE or LOST if it rests on what the capture does not have; `waited` are the
+    `rests_on` is BEFORE or LOST if it rests on what the capture does not have, and EXPIRED if it may be what was
+    kept before and had expired, which is answered in place of a failure; `waited` are the
     milliseconds by which the question or its reply was read late: the lifetimes of any moment of
     them are right.
     """
+    if rests_on == EXPIRED:
+        return BEFORE if captured == octets or messages.code(octets) == SERVFAIL else DIFFERENT
     if captured == octets:
         return rests_on or SAME
     if octets and differ_by_seconds(captured, octets, 1 + -(-waited // 1000)):

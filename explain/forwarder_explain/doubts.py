@@ -11,12 +11,12 @@ from typing import NamedTuple
 from . import carried, comparing, messages
 from .configuration import shown as peer_text
 from .leaps import widest_gap
+from .losses import AFTER
 from .messages import ANSWER, CNAME
 from .story import clock, server_text
 from .strangers import strangeness
 from .traffic import Answer, Query, Question, Reply
 
-AFTER = 500  # milliseconds after the end of a try in which the next one has begun
 SPARE = 1_000_000  # microseconds beyond the deadline in which an answer may still come
 MOST = 64  # queries for a name that are looked at
 STALE = 30  # seconds in the TTL of expired data
@@ -194,6 +194,8 @@ class Doubts:
             replies = [reply for reply in query.replies if not strangeness(reply)]
             if any(self.source(reply, "").pieces for reply in replies):
                 return ""
+            if self.is_expired_data(answer, query):
+                return ""
             if not (replies or query.ending or self.went_on(query, answer)):
                 return f"the reply of {server_text(query)} for {shown(query.asked)}"
         return self.empty_connection(name, question)
@@ -206,12 +208,19 @@ class Doubts:
                 return f"what was asked over a connection to {peer_text(query.server)}"
         return ""
 
+    def is_expired_data(self, answer, query):
+        """Whether an answer is what the service answers once the time of its last try is over."""
+        if self.limits["stale_s"] == 0 or answer.moment - query.moment < 1000 * self.limits["ask_ms"]:
+            return False
+        has_expired = any(record.seconds == STALE for record in messages.records(answer.octets))
+        return has_expired and answer.question.moment < query.moment
+
     def went_on(self, query, answer):
-        """Whether the service took a query for one without a reply."""
+        """Whether the service took a query for one without a reply: it asked on, or what was asked failed."""
         until = query.moment + 1000 * (self.limits["ask_ms"] + AFTER)
         later = (each for each in self.queries[query.asked.key] if each.asked.of() == query.asked.of())
-        moments = [*(each.moment for each in later), *self.failed[query.asked.of()]]
-        return any(query.moment < moment < min(until, answer.moment) for moment in moments)
+        moments = [each.moment for each in later if each.moment < until] + self.failed[query.asked.of()]
+        return any(query.moment < moment < answer.moment for moment in moments)
 
 
 def is_answer_to(question, records):

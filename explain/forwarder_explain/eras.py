@@ -18,7 +18,7 @@ class Eras:
     on their beginning. Moments are in microseconds."""
 
     def __init__(self):
-        self.signs, self.spans = [], []
+        self.signs, self.hints, self.spans = [], [], []
 
     def lasted(self, since, until):
         """One process was there for all of this span. Spans come in the order of their ends."""
@@ -30,16 +30,28 @@ class Eras:
         """A process began in this span."""
         self.signs.append(Sign(since, until))
 
+    def may_have_begun(self, since, until):
+        """A process may have begun in this span, if another sign shows that one has."""
+        self.hints.append(Sign(since, until))
+
     def places(self, events, foreign):
         """The events with which new processes begin, as few as explain all signs."""
         beginnings = []
         for sign in sorted(self.signs, key=lambda sign: sign.until):
             if not any(sign.since < moment <= sign.until for moment in beginnings):
-                moment = self.latest(sign.until)
+                moment = self.moment_of(sign)
                 if moment > sign.since:
                     beginnings.append(moment)
         moments = [event.moment for event in events] if beginnings else []
         return [place_of(events, moments, foreign, moment) for moment in beginnings]
+
+    def moment_of(self, sign):
+        """The last moment at which the process of a sign can have begun, by the hints, too."""
+        for hint in self.hints:
+            moment = self.latest(hint.until)
+            if hint.until < sign.until and moment > max(sign.since, hint.since):
+                return moment
+        return self.latest(sign.until)
 
     def latest(self, moment):
         """The last moment up to this one that is in no span."""

@@ -183,7 +183,7 @@ class Follower:
         since = (keep.moment if keep else self.base.moment) - self.horizon()
         restarted = [moment_of(text, self.first) for text in self.options.restarted]
         cutter = Round(self.settings, traffic, ends, self.base, restarted, keep, since)
-        self.history = cutter.history
+        self.history, cutter.keeps_scripts = cutter.history, bool(self.options.script)
         if cutter.leaps:
             self.behind.begin_anew()
             self.intake.shift(last.moment - before)
@@ -257,11 +257,17 @@ class Follower:
             if question in rows:
                 self.guessed[question] = rows[question]
         self.doubtful = {each for each in judged if not is_end and self.is_doubtful(each, rows.get(each), kept)}
-        for question in sorted(set(judged) - self.doubtful, key=lambda each: each.moment):
+        told = set(judged) - self.doubtful
+        for part in found:
+            self.keep_script(part.script, [rows[each] for each in part.results if each in told])
+        for question in sorted(told, key=lambda each: each.moment):
             row = rows.get(question) or self.guessed.pop(question, None)
             self.guessed.pop(question, None)
             if row is not None and (row.failed() or not self.options.failures):
                 self.tell(row)
+
+    def keep_script(self, text, rows):
+        """Takes the script of a window, and the rows of the questions of which it is told."""
 
     def tell(self, row):
         """Counts and shows a question."""

@@ -22,6 +22,8 @@ PROMPT = 50  # milliseconds in which a query leaves for a question that has come
 STILL = 300_000  # microseconds without a query or answer for which something called
 ASKED_AGAIN = 2  # milliseconds before a query in which what was kept of it has ended
 NEAR_END = 1000  # milliseconds before its end in which what is kept may count as ended
+STALE = 30  # seconds in the TTL of expired data
+AT_END = 40  # such milliseconds by which the service's clock and the capture's may part
 
 
 def records_of(answer):
@@ -154,9 +156,11 @@ class History:
         self.open, self.last_asked, self.ever_carried = {}, {}, set()
         self.found, self.verdicts, self.walks, self.closed = {}, {}, {}, {}
         self.from_before, self.rests_on = [], {}
+        self.expired = {}  # by what was asked the expired data that was kept before the capture
         self.preferred, self.place, self.last_output = {}, 0, 0
         self.wanting, self.served = defaultdict(list), defaultdict(list)
         self.answered, self.foreign, self.uncalled = set(), set(), {}
+        self.first_asked = {}  # by route which server it preferred when the capture began
         self.late_tries = []  # when the time of a try was over, and when the next one left long after
         self.awaited = set()  # replies that call for an answer over UDP at once
         self.needless = set()  # questions that what is kept answers, and for which a query left
@@ -232,9 +236,18 @@ class History:
         else:
             self.look_for_twice(query, of, youngest)
         self.needless.update(served)
+        self.note_first(query, youngest)
         self.note_late_try(query, self.open.get(of))
         self.open[of] = query
         self.last_asked[of] = self.last_output = query.moment
+
+    def note_first(self, query, question):
+        """Notes whom a route prefers that nobody was seen to ask yet: the server of its first try."""
+        route = self.configuration.route_of(query.asked.key)
+        is_first = query.transport == "udp" and query.moment - question.read <= 1000 * PROMPT
+        is_first = is_first and not (question.is_lost or query.is_lost)
+        if self.had_before and is_first and route and query.server in route.servers and route not in self.preferred:
+            self.first_asked.setdefault(route, query.server)
 
     def note_late_try(self, query, before):
         """Notes a query that left long after the time of the one before it was over."""
@@ -250,10 +263,13 @@ class History:
         """A query for what is kept: the service does not have it. Unless that ends about now, it
         has begun anew."""
         held = dict(looked_up(question.asked, self.found[question]))[of]
-        if held.end() - query.moment // 1000 > NEAR_END:
-            self.eras.began(held.source.moment if held.source else 0, question.moment)
+        left, since = held.end() - query.moment // 1000, held.source.moment if held.source else 0
+        if left > NEAR_END:
+            self.eras.began(since, question.moment)
         elif held.source is None:
             self.ended[held.slot()] = query.moment // 1000 - ASKED_AGAIN
+        elif left > AT_END:
+            self.eras.may_have_begun(since, question.moment)
 
     def look_for_twice(self, query, of, question):
         """What is being asked is not asked again for a question that has just come, unless by a new
@@ -385,13 +401,37 @@ class History:
         if lost:
             pass
         elif found.was_asked or last >= question.moment:
-            lost = self.losses.reply_lost(query, answer) if query else []
+            lost = self.reply_lost(query, wanted, question, answer) if query else []
+            if not lost and self.is_expired_from_before(answer, wanted):
+                self.rests_on[question] = comparing.EXPIRED
         else:
             if wanted in self.uncalled:
                 lost = self.losses.question_lost(self.uncalled.pop(wanted), answer)
             if not lost:
                 self.keep_from_before(question, answer, found)
         self.lost += lost
+
+    def is_expired_from_before(self, answer, wanted):
+        """Whether an answer to what was asked may be expired data that was kept before the capture began, and
+        is no other than what was answered so before."""
+        records = [record for record in records_of(answer) if record.section == 0 and record.key == wanted[0]]
+        slots = [(wanted[0], wanted[2], kind) for kind in (wanted[1], CNAME)]
+        if not self.had_before or not self.configuration.limits["stale_s"] or self.losses.is_forged(answer):
+            return False
+        if not records or records[0].seconds != STALE or self.ever_carried.intersection(slots):
+            return False
+        told = {(record.kind, record.data) for record in records}
+        return self.expired.setdefault(wanted, told) == told
+
+    def reply_lost(self, query, wanted, question, answer):
+        """The lost reply to an open query that an answer shows. If the time of the query was over before its
+        question came, nobody who waited may have got another answer."""
+        if question.moment <= query.moment + 1000 * self.configuration.limits["ask_ms"]:
+            return self.losses.reply_lost(query, answer)
+        waited = (each.answer for each in self.wanting[wanted] if each.answer)
+        if any(query.moment < each.moment < question.moment for each in waited):
+            return []
+        return self.losses.earlier_reply_lost(query, question, answer)
 
     def forget(self, question):
         """Takes an answered question out of those that what is kept answers."""
@@ -418,15 +458,15 @@ class History:
                 self.rests_on[question] = comparing.BEFORE
             return
         try:
-            pieces = self.pieces_of(question.asked, answer.octets, found.missed, question.moment // 1000)
+            pieces = self.pieces_of(question.asked, answer.octets, found.missed, question.read // 1000)
         except messages.Malformed:
             return
         for held in pieces:
             self.rests_on[question] = comparing.BEFORE
             self.from_before.append((held, self.place))
-            self.cache.offer(held, question.moment // 1000)
+            self.cache.offer(held, question.read // 1000)
         if pieces:
-            self.found[question] = self.cache.look_up(question.asked, question.moment // 1000)
+            self.found[question] = self.cache.look_up(question.asked, question.read // 1000)
 
     def pieces_of(self, asked, octets, missed, now):
         """What an answer has that no reply of the capture carried, as what was kept before."""

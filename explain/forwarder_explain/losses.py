@@ -4,6 +4,7 @@ reply.
 Each is put in again only if an answer rests on it, and one other packet of the same query is in the
 capture.
 """
+import contextlib
 from collections import defaultdict
 
 from . import carried, messages
@@ -15,7 +16,9 @@ from .traffic import QUERY_FLAGS, Question, Reply
 
 NOBODY = bytes(4), 9  # the client of questions that the capture lost
 PROMPT = 50  # milliseconds before the end of a try in which what follows may be its end
+AFTER = 500  # milliseconds after the end of a try in which the next one has begun
 CUT = b"\x83\x80\0\1\0\0\0\0\0\0"  # of a cut reply with one question, after its identifier
+LONGEST = (1 << 32) - 1  # seconds that a record can say
 MOST_KEPT = 64  # replies to no known query, for one question
 
 
@@ -103,16 +106,39 @@ class Losses:
         none if any reply was captured."""
         if answer.moment - query.moment > 1000 * (self.configuration.limits["ask_ms"] - PROMPT):
             return []
+        if not self.has_no_reply(query, answer):
+            return []
+        return [self.made_of(query, answer, answer.moment - 1)]
+
+    def earlier_reply_lost(self, query, question, answer):
+        """The lost reply to a query whose time was over when a question came that is answered from what it
+        brought: nothing was asked again. Of how long it lived the answer shows what was left."""
+        since = 1000 * (self.configuration.limits["ask_ms"] + AFTER)
+        if question.moment - query.moment < since or not self.has_no_reply(query, answer):
+            return []
+        reply = self.made_of(query, answer, query.moment + 1)
+        passed = -(-(question.moment // 1000 - reply.moment // 1000) // 1000)
+        reply.octets = living_longer(reply.octets, passed)
+        if not self.carries(reply, query.asked, answer):
+            query.replies.remove(reply)
+            return []
+        return [reply]
+
+    def has_no_reply(self, query, answer):
+        """Whether the capture has no end of a query, and what an answer has may be of a reply to it."""
         if query.ending or any(map(fits, query.replies)) or messages.is_cut(answer.octets):
-            return []
+            return False
         asked = messages.question_of(answer.octets)
-        if asked is None or asked.of() != query.asked.of() or not any(answer.octets[6:10]) or self.is_forged(answer):
-            return []
+        is_same = asked is not None and asked.of() == query.asked.of()
+        return is_same and any(answer.octets[6:10]) and not self.is_forged(answer)
+
+    def made_of(self, query, answer, moment):
+        """A lost reply to a query, with what an answer has."""
         flags = (0x8180 | messages.code(answer.octets)).to_bytes(2, "big")
-        reply = Reply(answer.moment - 1, query, query.server, query.octets[:2] + flags + answer.octets[4:])
+        reply = Reply(moment, query, query.server, query.octets[:2] + flags + answer.octets[4:])
         reply.is_lost = True
         query.replies.append(reply)
-        return [reply]
+        return reply
 
     def is_forged(self, answer):
         """Whether a record of an answer came only in messages that the service has to drop."""
@@ -138,6 +164,15 @@ class Losses:
             if piece is None or abs(piece.end() - answer.moment // 1000 - 1000 * record.seconds) > 2000:
                 return False
         return bool(records)
+
+
+def living_longer(octets, seconds):
+    """A message whose records live some seconds longer; itself if they can't be read."""
+    longer = bytearray(octets)
+    with contextlib.suppress(messages.Malformed):
+        for record in messages.records(octets):
+            longer[record.at : record.at + 4] = min(record.seconds + seconds, LONGEST).to_bytes(4, "big")
+    return bytes(longer)
 
 
 def fits(reply):

@@ -32,14 +32,14 @@ class Given:
 
 
 class Pieces(Follower):
-    """Explains packets. `show` prints a Row: all come in the order of their questions. Once that is
-    done, `leaps` has a line for each time that the clock was set forward, and `span` the moments of
-    the first and the last question."""
+    """Explains packets. `show` prints a Row: all come in the order of their questions. `scripts` takes the
+    scripts, if they are wanted. Once that is done, `leaps` has a line for each time that the clock was set
+    forward, and `span` the moments of the first and the last question."""
 
     context, most_context = CONTEXT, 2 * PIECE
 
-    def __init__(self, options, settings, show):
-        self.leaps, self.span = [], []
+    def __init__(self, options, settings, show, scripts=None):
+        self.leaps, self.span, self.scripts = [], [], scripts
         super().__init__(options, settings, show, lambda *_: None, self.leaps.append)
         self.intake, self.is_told, self.queries.counts_all = Given(), True, True
         # The numbers of chosen questions that were not shown, and rows before their turn.
@@ -66,6 +66,10 @@ class Pieces(Follower):
         self.numbers.update(zip(found, self.count))
         self.has_chosen = self.has_chosen or bool(found)
         return found
+
+    def keep_script(self, text, rows):
+        if self.scripts:
+            self.scripts.put(text, rows)
 
     def tell(self, row):
         self.rows.append(row)

@@ -8,6 +8,7 @@ is past its end, of another route or of another question.
 from collections import defaultdict
 
 from .carried import MOST_ALIASES
+from .configuration import shown
 from .lateness import LATE, SOON, Lateness
 from .lines import FIRST_MOMENT, Line
 from .messages import Malformed, code, records
@@ -200,11 +201,28 @@ class Repairs:
         self.insert(order, each.moment if note == "never left" else moment, "failed", each, note)
         return True
 
+    def may_follow(self, each, query):
+        """Whether a captured query may be of a later try than a query of the script: the turn of its server
+        comes before all tries were made."""
+        servers = [shown(server) for server in self.window.configuration.route_of(query.asked.key).servers]
+        if query.transport == "tcp" or each.server not in servers:
+            return True
+        steps = (servers.index(shown(query.server)) - servers.index(each.server)) % len(servers) or len(servers)
+        return self.number_of(each) + steps <= self.limits["tries"]
+
+    def number_of(self, each):
+        """The number of a try of the script among those for its question."""
+        number, line = 1, each.line
+        tries = {other.closed: other for other in self.by_question[self.window.asked_in(each)] if other.closed}
+        while line in tries:
+            number, line = number + 1, tries[line].line
+        return number
+
     def unexplained(self, query):
         """A captured query that the script does not make."""
         moment, of = self.window.maker.moment(query), query.asked.of()
         each = self.open_at(of, (query.moment, 1e9))
-        if each:
+        if each and self.may_follow(each, query):
             return self.end_try(each, query, moment)
         for question in self.asking(of, query.moment - SOON * 1000, query.moment):
             if self.take_later(question, of, query):
@@ -284,7 +302,8 @@ class Repairs:
             and micros <= each_.answer.moment < until
             and self.says_failure(each_.answer)
         ]
-        if (later and later[0] in self.pairing.unexplained) or waiting:
+        leads_on = later and later[0] in self.pairing.unexplained and self.may_follow(each, later[0])
+        if leads_on or waiting:
             return (
                 self.end_try(each, later[0] if later else waiting[0].answer, moment)
                 if self.not_due(each, later, waiting)

@@ -19,7 +19,7 @@ class Part(NamedTuple):
     """What a window shows. `results` are by question. `others` are the captured queries that its script
     does not make, and `is_step` says of each captured query whether it does. `never_left` are the
     moments of the script's queries that could not be sent, `accepted` the milliseconds at which
-    replies were read.
+    replies were read. `script` is its script, if that is wanted.
 
     In `answers` are the questions whose answers were exchanged, each with its answer. The next
     window begins at the moment `ends`. Events are places, until `of_events` puts them there.
@@ -33,6 +33,7 @@ class Part(NamedTuple):
     is_step: list
     never_left: list
     accepted: list
+    script: str
 
     def of_events(self, events):
         """The part with events for their places, which get their answers."""
@@ -56,6 +57,7 @@ class Round(Cutter):
 
     def __init__(self, configuration, traffic, last, base, restarted, keep, since):
         self.base, self.keep, self.since, self.kept, self.anew = base, keep, since, base, []
+        self.keeps_scripts = False
         super().__init__(configuration, traffic, last, restarted)
 
     def follow(self):
@@ -63,8 +65,8 @@ class Round(Cutter):
         begins = self.place_of(self.base.moment)
         events = self.events[begins:]
         self.history = Continued(self.configuration, events, self.base, self.losses, self.restarts)
-        cache, preferred = self.history.cache, self.history.preferred
-        self.cuts = [Cut(begins, list(cache.entries.values()), dict(preferred), self.base.anew)]
+        kept, preferred = list(self.history.cache.entries.values()), dict(self.history.preferred)
+        self.cuts = [Cut(begins, kept, preferred, self.base.anew, self.history.had_before)]
         self.lines, self.octets, self.total, self.kept = 0, 0, [0, 0], self.base
         self.history.follow(lambda place, kept: self.at_event(begins + place, kept))
         self.history.from_before = [(held, begins + place) for held, place in self.history.from_before]
@@ -87,7 +89,7 @@ class Round(Cutter):
     def begun_before(self):
         """When the service began anew before the base, if what followed shows it; else None."""
         eras = self.history.eras
-        found = [(sign.since, eras.latest(sign.until)) for sign in eras.signs]
+        found = [(sign.since, eras.moment_of(sign)) for sign in eras.signs]
         return max((moment for since, moment in found if since < moment < self.base.moment), default=None)
 
     def at_event(self, place, cache):
@@ -165,6 +167,7 @@ class Round(Cutter):
             is_step=[(places[query], query in window.pairing.line_of) for query in queries],
             never_left=left,
             accepted=[(places[reply], window.maker.micros(line.moment) // 1000) for reply, line in read],
+            script=window.script.text(window.lines, window.pairs) if self.keeps_scripts else "",
         )
 
 

@@ -113,7 +113,8 @@ class Teller:
         if reason == 9:
             return f"the deadline of {self.limits['deadline_ms']:,} ms: {self.tries(question, result)}"
         if reason == 12:
-            return f"expired data, since {failed}: {self.tries(question, result)}" + self.aliases(result.octets)
+            before = ", kept since before the capture" if result.same == comparing.BEFORE else ""
+            return f"expired data{before}, since {failed}: {self.tries(question, result)}" + self.aliases(result.octets)
         return self.answered(question, result)
 
     def failed(self, result):

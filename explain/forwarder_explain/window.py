@@ -15,6 +15,7 @@ from .traffic import Ending, Query, Question, Reply
 from .wording import duration
 
 MOST_RUNS, MOST_EQUAL = 150, 3  # of a script, and of one with equal lines
+EXPIRED_DATA = 12  # the reason
 INPUTS = ("client", "reply", "failed")  # the lines of what came to the service
 
 
@@ -200,6 +201,8 @@ class Window:
         ):
             line, reason, octets = None, None, b""
         same = self.compared(question, octets, line)
+        if same == comparing.BEFORE and self.history.rests_on.get(question) == comparing.EXPIRED:
+            reason = EXPIRED_DATA
         attempts, joined = self.attempts(question, line) if line is not None else (self.open_tries(question), False)
         own = self.maker.line_of.get(question)
         late = max([self.late(question, line), *(attempt.late for attempt in attempts)])

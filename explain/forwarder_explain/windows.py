@@ -26,10 +26,12 @@ LEAST_LINES = 64  # of a window with a full cache, for which what it needs and w
 
 
 class Cut:
-    """Where a window begins, and what was kept then; `anew` if the service began anew there."""
+    """Where a window begins, and what was kept then; `anew` if the service began anew there. `had_before` says
+    whether it has been there since before the capture."""
 
-    def __init__(self, place, entries, preferred, anew=False):
+    def __init__(self, place, entries, preferred, anew=False, had_before=True):
         self.place, self.entries, self.preferred, self.anew = place, entries, preferred, anew
+        self.had_before = had_before and not anew
 
 
 class Cutter:
@@ -103,7 +105,8 @@ class Cutter:
         if place - 1 > self.cuts[-1].place and self.misses_what_left(self.events[place - 1], cache):
             self.cut(place - 1, cache)
         if place == 0:
-            self.cuts[0].anew = anew
+            first = self.cuts[0]
+            first.anew, first.had_before = anew, first.had_before and not anew
         elif anew or self.lines >= self.most_lines(cache) or self.octets + size >= AIM_OCTETS:
             self.cut(place, cache, anew)
         self.lines += 1
@@ -111,7 +114,8 @@ class Cutter:
 
     def cut(self, place, cache, anew=False):
         """Lets a window begin at a place, with what is kept now."""
-        self.cuts.append(Cut(place, list(cache.entries.values()), dict(self.history.preferred), anew))
+        kept, preferred = list(cache.entries.values()), dict(self.history.preferred)
+        self.cuts.append(Cut(place, kept, preferred, anew, self.history.had_before))
         self.lines = self.octets = 0
         cache.left.clear()
 
@@ -158,7 +162,8 @@ class Cutter:
         before = self.needed(cut, end, events)
         has_ended = end < len(self.events) and self.events[end] in self.restarts
         span = self.events[cut.place].moment, self.events[end].moment if has_ended else self.last
-        window = Window(self.configuration, self.history, program, events, judged, (before, cut.preferred), span)
+        preferred = self.history.first_asked | cut.preferred if cut.had_before else cut.preferred
+        window = Window(self.configuration, self.history, program, events, judged, (before, preferred), span)
         window.has_ended, window.unheard, window.stalls = has_ended, unheard, self.stalls
         return window
 

@@ -21,6 +21,16 @@ def short_answers():
     return scene.pcap()
 
 
+def unreadable_after_a_silence():
+    """A server is silent, and later an answer comes as if from the service, whose record is cut."""
+    scene = Scene()
+    scene.question(0, ONE, 1, WWW)
+    scene.query(0.2, FIRST, WWW)
+    scene.question(5000, OTHER, 2, WWW)
+    scene.udp(5000.2, FORWARDER, OTHER, message(2, REPLY, WWW, [address(300, 192, 0, 2, 80)])[:-2])
+    return scene.pcap()
+
+
 def from_port_0():
     """A question and a forged reply come from port 0, to which nothing can be sent."""
     scene = Scene()
@@ -125,6 +135,7 @@ def taken_late():
 
 ALL = [
     short_answers,
+    unreadable_after_a_silence,
     from_port_0,
     a_server_asks,
     one_port,

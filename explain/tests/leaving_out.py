@@ -33,6 +33,7 @@ FAULTS = {
     "a_server_asks": {4, 5},
     "forged_reply_used": {0, 2, 3},
     "forged_next_to_losses": set(),
+    "failed_and_told": {3, 4, 5},
 }
 
 

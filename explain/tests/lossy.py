@@ -121,6 +121,38 @@ def lost_in_the_cache():
     return scene.pcap()
 
 
+def given_up():
+    """A try fails for a reason that the capture does not have, as where ICMP was left out, and the next server is
+    asked. A query to one server after the other would take a third try: nothing called for that."""
+    scene, name = Scene(), asked("a.example.com")
+    scene.question(0, ONE, 1, WWW)
+    scene.query(0.2, FIRST, WWW)
+    port = scene.query(3.2, SECOND, WWW)
+    scene.reply(13.2, SECOND, port, WWW, answers=[address(300, 192, 0, 2, 80)])
+    scene.answer(14, ONE, 1, WWW, answers=[address(300, 192, 0, 2, 80)])
+    # The second server is preferred now.
+    scene.question(5000, ONE, 2, name)
+    scene.query(5000.2, SECOND, name)
+    scene.query(5003.2, FIRST, name)
+    port = scene.query(5006.2, SECOND, name)
+    scene.reply(5016.2, SECOND, port, name, answers=[address(60, 192, 0, 2, 81)])
+    scene.answer(5017, ONE, 2, name, answers=[address(60, 192, 0, 2, 81)])
+    return scene.pcap()
+
+
+def failed_and_told():
+    """A fault: both tries for a name are silent, its question fails, and later the name has an address that no
+    reply brought."""
+    scene = Scene()
+    scene.question(0, ONE, 1, WWW)
+    scene.query(0.2, FIRST, WWW)
+    scene.query(1001.2, SECOND, WWW)
+    scene.answer(2002.2, ONE, 1, WWW, 0x8182)
+    scene.question(5000, OTHER, 2, WWW)
+    scene.answer(5000.2, OTHER, 2, WWW, answers=[address(55, 192, 0, 2, 81)])
+    return scene.pcap()
+
+
 def forged_next_to_losses():
     """Faults: forged replies are answered, and the query is missing, or the reply that fits. One is
     from another address, one under another identifier, one for another question, one is itself a
@@ -159,5 +191,7 @@ ALL = [
     lost_question_of_a_restart,
     lost_refused_question,
     lost_in_the_cache,
+    given_up,
+    failed_and_told,
     forged_next_to_losses,
 ]

@@ -126,6 +126,21 @@ def stood_still():
     return scene.pcap()
 
 
+def stood_still_at_the_beginning():
+    """The capture begins while the service stands still: what was kept before lives as the answer says when its
+    question was read, not when that came. So it is with who is asked first."""
+    scene, old, www = Scene(), asked("old.example.com"), asked("www.example.com")
+    scene.question(0, ONE, 1, old)
+    scene.question(100, OTHER, 2, www)
+    scene.answer(4000.2, ONE, 1, old, answers=[address(46, 192, 0, 2, 70)])
+    port = scene.query(4000.3, SECOND, www)
+    scene.reply(4010.3, SECOND, port, www, answers=[address(60, 192, 0, 2, 80)])
+    scene.answer(4011, OTHER, 2, www, answers=[address(60, 192, 0, 2, 80)])
+    scene.question(6000, ONE, 3, old)
+    scene.answer(6000.2, ONE, 3, old, answers=[address(44, 192, 0, 2, 70)])
+    return scene.pcap()
+
+
 def stood_still_twice():
     """One question waits over two spans in which the service stands still: in the first one its reply
     comes, and the time of its try ends; in the second one the reply to the next try. Another question
@@ -250,6 +265,7 @@ ALL = [
     read_a_little_late,
     stood_still,
     stood_still_over_an_end,
+    stood_still_at_the_beginning,
     stood_still_twice,
     stood_still_past_the_deadline,
     stood_still_and_asked_anew,

@@ -105,6 +105,17 @@ def numbers_lead_to_lines(program):
     yield "2", page.lines_of("2"), [lines[4:6]]
 
 
+def a_file_that_was_there(program):
+    """A page takes the place of a longer file that others may read."""
+    with tempfile.TemporaryDirectory() as folder:
+        path = pathlib.Path(folder) / "page.html"
+        path.write_text(100_000 * "old")
+        path.chmod(0o644)
+        words = ["--program", program, "--html", path, "office.toml", "answers.pcap"]
+        subprocess.run([HERE.parent / "forwarder-explain", *words], cwd=CAPTURES, capture_output=True, check=True)
+        yield "mode", (oct(path.stat().st_mode & 0o777), "old" in path.read_text()), ("0o600", False)
+
+
 def a_page_of_a_few(program):
     """Filters choose what is in the page, and a folder may be its capture."""
     lines = (CAPTURES / "answers.expected").read_text().splitlines()
@@ -158,4 +169,4 @@ def much_is_bounded(program):
     yield "bar", (len(bar), len(page.items) < 120), (20, True)
 
 
-ALL = [numbers_lead_to_lines, a_page_of_a_few, names_of_strangers, much_is_bounded]
+ALL = [numbers_lead_to_lines, a_file_that_was_there, a_page_of_a_few, names_of_strangers, much_is_bounded]

@@ -4,6 +4,8 @@ import io
 import os
 import pathlib
 import re
+import subprocess
+import tempfile
 import time
 import unittest.mock
 
@@ -79,6 +81,48 @@ def each_form(program):
         yield words, *runs
 
 
+def files_of(program, settings, octets, packets):
+    """The page and the scripts of a capture in pieces of so many packets, and the status."""
+    with tempfile.TemporaryDirectory() as name, in_pieces(packets):
+        folder = pathlib.Path(name)
+        words = ["--html", str(folder / "page"), "--script", str(folder / "script")]
+        _, said, status = explained(program, settings, "many.pcap", octets, words)
+        scripts = sorted(folder.glob("script*"), key=lambda path: int(path.suffix[1:] or 0))
+        return (folder / "page").read_text(), [path.read_bytes() for path in scripts], (said, status)
+
+
+def replies_of(program, scripts):
+    """What is answered to which client when scripts are run."""
+    found = set()
+    for script in scripts:
+        ran = subprocess.run([program, "replay"], input=script, capture_output=True, check=True)
+        lines = (line.split(" ") for line in ran.stdout.decode().splitlines())
+        found.update((words[3], words[5]) for words in lines if words[1] == "reply" and words[3] != "0.0.0.1:9")
+    return found
+
+
+def pages_and_scripts(program):
+    """In pieces the page is the same, and what the scripts answer, all together. If an answer differs, the one
+    script has that."""
+    settings, octets = configuration.read(CAPTURES / "office.toml", program), many.many(600, 4.0)
+    page, scripts, ended = files_of(program, settings, octets, WHOLE)
+    in_parts, parts, *rest = files_of(program, settings, octets, 400)
+    yield "page", (in_parts, *rest), (page, ended)
+    yield "scripts", (len(scripts), len(parts) > 3), (1, True)
+    answered = replies_of(program, scripts)
+    yield "answers", (len(answered) > 590, replies_of(program, parts)), (True, answered)
+    place = octets.rindex(bytes.fromhex("c00c000100010000")) + 8
+    octets = octets[:place] + b"\1\x2d" + octets[place + 2 :]  # 301 seconds
+    page, scripts, _ = files_of(program, settings, octets, WHOLE)
+    in_parts, parts, (_, status) = files_of(program, settings, octets, 400)
+    yield "page of a fault", (in_parts, status), (page, 1)
+    wrong = [re.search(rb"\n# the question of line \d+ was (answered \w+)\n# and the step (answers (\w+))\n", each)
+             for each in (*scripts, *parts)]
+    yield "a fault", [found and found.group(1, 2) for found in wrong], [wrong[0].group(1, 2)] * 2
+    right = wrong[1].group(3).decode()
+    yield "replayed", right in {octets for _, octets in replies_of(program, parts)}, True
+
+
 def full_cache():
     """Eight names fill a cache of eight. Each further one takes the place of the name that was used least
     recently: n8 that of n0, n9 that of n2, since n1 was used meanwhile, n0 that of n3, and n2 that of n4."""
@@ -129,4 +173,4 @@ def nothing_grows(program):
     yield most, most[1] < 1.2 * most[0], True
 
 
-ALL = [stored_captures, each_form, what_left_a_full_cache, nothing_grows]
+ALL = [stored_captures, each_form, pages_and_scripts, what_left_a_full_cache, nothing_grows]

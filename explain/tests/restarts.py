@@ -87,6 +87,37 @@ def rejected():
     return scene.pcap()
 
 
+def restarted_near_an_end():
+    """The first that a new process asks had 600 ms left in the cache, which could be nearly its end; the
+    second one had minutes left. What the first one brought is answered from the cache in between."""
+    scene, mail = Scene(), asked("mail.example.com")
+    scene.fetched(0, ONE, 1, WWW, 5, (192, 0, 2, 80))
+    scene.fetched(1000, ONE, 2, mail, 300, (192, 0, 2, 25))
+    scene.fetched(4400, OTHER, 3, WWW, 60, (192, 0, 2, 81))
+    # Accepted at 4410 ms: 60 - 0.390 s are left.
+    scene.question(4800, ONE, 4, WWW)
+    scene.answer(4800.2, ONE, 4, WWW, answers=[address(59, 192, 0, 2, 81)])
+    scene.fetched(6000, OTHER, 5, mail, 300, (192, 0, 2, 25))
+    return scene.pcap()
+
+
+def second_preferred():
+    """The capture begins when the second server is preferred, until that is silent. A new process begins with the
+    first one, to which nothing can be sent then."""
+    scene, new, chat = Scene(), asked("new.example.com"), asked("chat.example.com")
+    scene.fetched(0, ONE, 1, WWW, 300, (192, 0, 2, 80), server=SECOND)
+    scene.question(2000, ONE, 2, new)
+    scene.query(2000.2, SECOND, new)
+    port = scene.query(3001.2, FIRST, new)
+    scene.reply(3011.2, FIRST, port, new, answers=[address(60, 192, 0, 2, 81)])
+    scene.answer(3012, ONE, 2, new, answers=[address(60, 192, 0, 2, 81)])
+    scene.fetched(5000, OTHER, 3, chat, 60, (192, 0, 2, 82))
+    scene.question(9000, ONE, 4, WWW)
+    scene.unreachable(9000.1, "10.0.0.53", ONE, "10.0.0.53:53")
+    scene.fetched(12000, ONE, 5, WWW, 300, (192, 0, 2, 80), server=SECOND)
+    return scene.pcap()
+
+
 def restart_not_shown():
     """Between the two questions the service begins anew, so there is no expired data. Only
     --restarted says so."""
@@ -102,9 +133,11 @@ def restart_not_shown():
 ALL = [
     restarted,
     restarted_in_flight,
+    restarted_near_an_end,
     refused,
     refused_alone,
     refused_in_a_long_capture,
     rejected,
+    second_preferred,
     restart_not_shown,
 ]

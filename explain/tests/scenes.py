@@ -172,6 +172,25 @@ def kept_before_ends():
     return scene.pcap()
 
 
+def expired_before():
+    """The capture begins when both servers are silent: expired data, of which it has no reply, is answered
+    twice. A fault: the third time it is another address. Another name was answered alive, and then expired."""
+    scene, old, new = Scene(), asked("old.example.com"), asked("new.example.com")
+    scene.question(5000, OTHER, 8, new)
+    scene.answer(5000.2, OTHER, 8, new, answers=[address(5, 192, 0, 2, 81)])
+    scene.question(15000, OTHER, 9, new)
+    scene.query(15000.2, FIRST, new)
+    scene.query(16001.2, SECOND, new)
+    scene.answer(17002.2, OTHER, 9, new, answers=[address(30, 192, 0, 2, 81)])
+    for place, last in enumerate((70, 70, 71)):
+        at = 10000 * place
+        scene.question(at, ONE, 1 + place, old)
+        scene.query(at + 0.2, FIRST, old)
+        scene.query(at + 1001.2, SECOND, old)
+        scene.answer(at + 2002.2, ONE, 1 + place, old, answers=[address(30, 192, 0, 2, last)])
+    return scene.pcap()
+
+
 def kept_before_differs():
     """A fault: what was kept before the capture has another address five seconds later."""
     scene = Scene()
@@ -285,6 +304,7 @@ ALL = [
     connections,
     kept_before,
     kept_before_ends,
+    expired_before,
     kept_before_differs,
     two_seconds_more,
     without_resolution,

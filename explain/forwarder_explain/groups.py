@@ -1,0 +1,226 @@
+"""The questions to which the numbers of a page lead, and their lines.
+
+They are taken one after another, in the order of their moments, and only as many of them are kept as the
+page shows: the first ones of each number.
+"""
+import tempfile
+from html import escape
+
+from . import comparing
+from .capture import Unreadable
+from .configuration import address_text
+from .tally import MOST_COUNTED, OTHERS, REASONS, reason_of, reason_text
+from .wording import counted, moment_text
+
+MOST_LINES, MOST_OF_BAR = 100, 20  # lines to which a number leads, and a part of a bar
+MOST_BARS = 75
+STEPS = (1, 2, 5, 10, 30, 60, 120, 300, 600, 1800, 3600, 7200, 21600, 43200, 86400, 604800)  # seconds of a bar
+PARTS = (86400, 21600, 3600, 600, 60, 10, 1)  # seconds of the bars that are counted until the last question
+# How a question ended: the colour of each.
+FATES = {
+    "from the cache": "#7fb2dd",
+    "asked of a server": "#2f7d32",
+    "denied by the configuration": "#a9a9a4",
+    "expired data": "#e0b03a",
+    "failed": "#c6402f",
+    "without an answer": "#5d4a66",
+    "not the step's answer": "#d6259a",
+}
+CACHED, ASKED, DENIED, EXPIRED, FAILED, UNANSWERED, WRONG = FATES
+WITHOUT = {
+    comparing.REFUSED: "refused by the service's machine",
+    comparing.ENDED: "the service ended first",
+    comparing.GONE: "the connection ended first",
+    comparing.UNANSWERED: "no answer was captured",
+    comparing.OPEN: "no answer",
+    comparing.DROPPED: "dropped: no question",
+}
+
+
+class Group:
+    """Questions to which one number leads: how many there are, and the first of them. Its number in
+    the page is None as long as nothing leads there."""
+
+    def __init__(self, most):
+        self.number, self.count, self.places, self.most = None, 0, [], most
+
+    def add(self, place):
+        """Takes a question; gives whether its line is shown."""
+        self.count += 1
+        is_shown = len(self.places) < self.most
+        if is_shown:
+            self.places.append(place)
+        return is_shown
+
+    def join(self, other):
+        """Takes the questions of another group."""
+        self.count += other.count
+        self.places = sorted(self.places + other.places)[: self.most]
+
+
+class Lines:
+    """Lines in a file without a name, which nobody else can read."""
+
+    def __init__(self):
+        self.places = []
+        try:
+            self.file = tempfile.TemporaryFile("w+", encoding="utf-8", newline="\n")
+        except OSError as fault:
+            raise Unreadable(fault.strerror, tempfile.gettempdir()) from None
+
+    def put(self, place, line):
+        self.places.append(place)
+        try:
+            self.file.write(line.replace("\n", "&#10;") + "\n")
+        except OSError as fault:
+            raise Unreadable(fault.strerror, tempfile.gettempdir()) from None
+
+    def __iter__(self):
+        self.file.seek(0)
+        return zip(self.places, (line.rstrip("\n") for line in self.file))
+
+
+class Groups:
+    """All groups, each by what it is of: a bar by its moment and fate, others by two words."""
+
+    def __init__(self):
+        self.found, self.linked, self.kinds, self.lines, self.number = {}, {}, {}, Lines(), 0
+        # The moments of the first and the last question, and how long a bar of the page is, and one that is
+        # counted until then, in microseconds.
+        self.span, self.bar, self.step = None, 1_000_000, 1_000_000
+
+    def add(self, row):
+        """Takes the next question."""
+        self.reach(row.question.moment)
+        shown = [self.group(key).add(self.number) for key in set(self.keys_of(row))]
+        if any(shown):
+            self.lines.put(self.number, line_of(row))
+        self.number += 1
+
+    def group(self, key):
+        if key not in self.found:
+            is_of_bar = isinstance(key[0], int)
+            self.found[key] = Group(MOST_OF_BAR if is_of_bar else MOST_LINES)
+            if not is_of_bar:
+                self.kinds[key[0]] = self.kinds.get(key[0], 0) + 1
+        return self.found[key]
+
+    def reach(self, moment):
+        """Takes in the moment of a question. The more time there is between the first and the last one, the
+        longer are the bars."""
+        first, last = self.span or (moment, moment)
+        first, last = self.span = min(first, moment), max(last, moment)
+        if (last - first) // self.bar < MOST_BARS - 1:
+            return
+        fitting = (each for each in STEPS if (last - first) // (1_000_000 * each) < MOST_BARS - 1)
+        step = next(fitting, STEPS[-1])
+        self.bar = 1_000_000 * step
+        part = 1_000_000 * next(each for each in PARTS if step % each == 0)
+        if part > self.step:
+            self.lengthen(part)
+
+    def lengthen(self, step):
+        """Puts bars together into longer ones."""
+        self.step = step
+        bars = {key: group for key, group in self.found.items() if isinstance(key[0], int)}
+        self.found = {key: group for key, group in self.found.items() if key not in bars}
+        for (moment, fate), group in sorted(bars.items()):
+            self.group((moment // step * step, fate)).join(group)
+
+    def end(self):
+        """Takes it that all questions have come; gives when the first bar begins, and how long each is."""
+        if self.span is None:
+            return 0, self.step
+        self.lengthen(self.bar)
+        return self.span[0] // self.step * self.step, self.step
+
+    def keys_of(self, row):
+        """All that a question is counted under, in words."""
+        fate, client = fate_of(row), self.known("client", address_text(row.question.peer[0]))
+        yield fate, ""
+        yield row.question.moment // self.step * self.step, fate
+        yield "reason", reason_text(*reason_of(row.result))
+        yield "client", client
+        if fate == CACHED:
+            yield "from the cache, of client", client
+        if row.failed():
+            yield "failed, of client", client
+        if fate in (EXPIRED, FAILED, UNANSWERED, WRONG):
+            yield "failure", self.known("failure", failure_of(row, fate))
+        for attempt in row.result.attempts:
+            server = f"{attempt.server}{' over TCP' if attempt.transport == 'tcp' else ''}"
+            yield "server", server
+            if attempt.how != "answered":
+                yield "failed, at server", server
+
+    def known(self, kind, of):
+        """Of what kind of group a question is counted: after very many these are the others."""
+        if (kind, of) in self.found or self.kinds.get(kind, 0) < MOST_COUNTED:
+            return of
+        return OTHERS if isinstance(of, str) else (OTHERS, *("" for _ in of[1:]))
+
+    def link(self, key, text):
+        """A number with a link to its lines; without one if there is none."""
+        group = self.found.get(key)
+        if group is None:
+            return escape(text)
+        if group.number is None:
+            group.number = len(self.linked)
+            self.linked[key] = group
+        return f'<a href="#g{group.number}">{escape(text)}</a>'
+
+    def style(self):
+        """By which a chosen group hides the lines of all others."""
+        return "".join(f"#g{each}:target~ol>li:not(.g{each}){{display:none}}" for each in range(len(self.linked)))
+
+    def headings(self):
+        """What is above the lines of a chosen group."""
+        for (kind, of), group in self.linked.items():
+            kind = moment_text(kind)[:19] if isinstance(kind, int) else kind
+            of = ", ".join(of) if isinstance(of, tuple) else of
+            what = f"the first {len(group.places)} of " if group.count > len(group.places) else ""
+            said = f"{kind}{': ' if of else ''}{of}: {what}{counted(group.count, 'question')}"
+            yield f'<p class="chosen" id="g{group.number}"><b>{escape(said)}</b> · <a href="#lines">all lines</a></p>'
+
+    def listed(self):
+        """Each line that belongs to a group, with its groups as classes."""
+        classes = {}
+        for group in self.linked.values():
+            for place in group.places:
+                classes.setdefault(place, []).append(f"g{group.number}")
+        for place, line in self.lines:
+            if place in classes:
+                yield f'<li class="{" ".join(classes[place])}" {line}</li>'
+
+
+def line_of(row):
+    """What is shown of a question, from its style on."""
+    differs = "\n".join(row.differs()) if row.result.same == comparing.DIFFERENT else ""
+    more = f"<pre>{escape(differs)}</pre>" if differs else ""
+    return f'style="border-color:{FATES[fate_of(row)]}">{escape(row.line())}{more}'
+
+
+def fate_of(row):
+    """One of FATES."""
+    result = row.result
+    if result.same == comparing.DIFFERENT:
+        return WRONG
+    if row.answer is None:
+        return UNANSWERED
+    if result.reason == 12:
+        return EXPIRED
+    if row.code not in ("NOERROR", "NXDOMAIN"):
+        return FAILED
+    if result.reason == 13:
+        return DENIED
+    return ASKED if result.attempts else CACHED
+
+
+def failure_of(row, fate):
+    """The name, the type, and why it failed."""
+    why = REASONS.get(row.result.reason, fate)
+    if row.answer is None:
+        why = WITHOUT.get(row.result.same, fate)
+    elif fate != EXPIRED:
+        why = f"{row.code}, {why}"
+    return row.name.lower(), row.kind, why
