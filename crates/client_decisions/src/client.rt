@@ -1,5 +1,4 @@
-//! The decision on a client's message. The public function is `on_client`, the last in this file. A
-//! message takes this way:
+//! The decision on a client's message. The public function is `on_client`. A message takes this way:
 //!
 //! 1. `on_client`: nothing, `refuse_message`, or `serve_message` for exactly one question.
 //! 2. `serve_message` calls `serve`: `refuse` for an unserved kind, otherwise `look`.

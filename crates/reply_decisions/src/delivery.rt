@@ -1,5 +1,5 @@
-//! The decision on a message on a path to a server. The public function is `on_delivery`, the last
-//! in this file. A reply takes this way:
+//! The decision on a message on a path to a server. The public function is `on_delivery`. A reply
+//! takes this way:
 //!
 //! 1. `on_delivery`: nothing if no ask on the path is live; otherwise the octets are judged.
 //! 2. `on_verdict`: nothing for a stranger's, `attempt::fail` for a failure, or `on_whole`.

@@ -1,5 +1,5 @@
 //! The decision on a reply whose aliases lead on to a name that it does not answer, or that is of
-//! another route. `send_on`, the last in this file, is called by `delivery::on_message`:
+//! another route. `delivery::on_message` calls `send_on`:
 //!
 //! 1. `send_on` makes the pieces ready for the cache, and `fates::fates_of` looks each waiting
 //!    question up at that name: each gets its reply, or waits on.
