@@ -22,7 +22,7 @@ use Rattle.wires.specs.Wire.{Arrival, nothing, client_datagram, client_stream, c
 use Rattle.serving_loop.specs.Events.{Taken, PutsItsActions, step_in, steps_in, joined, AreChains, Turn, taken_in_turn, taken_in, client_message, server_message, client_octets, server_octets, client_octets_with, server_octets_with, completed, events_of, IsTurn, IsCutShort, AreTurns}
 use Rattle.serving_loop.specs.Serving.{Standing, Does, Adds, capped, report_of_all, report_in_turn, report_in, lost_in, refused_in, missed_by, missed_in, Serves}
 use Rattle.serving_loop.specs.Handing.{Ticks}
-use Rattle.serving_loop.specs.Streams.{left_on, events_by, client_left_with, server_left_with, Follows, Tracks, Arrives, TakesArrival, TakesTurn, TakesRounds}
+use Rattle.serving_loop.specs.Streams.{left_on, events_by, client_left_with, server_left_with, Follows, Tracks, Arrives, TakesArrival, TakesTurn, TakesTurns}
 use Rattle.serving_loop.proofs.Journal.{then_then, then_silence, reports_nothing, reports_on, adds_none, adds_more, lost_append, refused_append}
 use Rattle.serving_loop.proofs.Handling.{run_append, all_append, does_more}
 
@@ -256,10 +256,10 @@ module _ {A : Type 0} (wanted : ℕ) (s : Streams A) (x y : Standing) (so_far : 
       counts : y.counts ≡ record { turns = wanted; lost = capped (lost_in (taken_in so_far.all_turns)); refused_puts = capped (refused_in (taken_in so_far.all_turns)); refused_arrivals = capped (missed_in so_far.all_turns) }
       counts i = record { turns = (so_far.does.turns ∙ ap (λ (v : Served). v.turns) zeros) i; lost = lost i; refused_puts = refused i; refused_arrivals = missed i }
 
-  pub turns_end : TakesRounds wanted (Ok y.counts) x y
+  pub turns_end : TakesTurns wanted (Ok y.counts) x y
   turns_end = record { serves = all_served; same_forwarder = so_far.does.same_forwarder; same_wire = so_far.does.same_wire }
 
-pub turns_cut : PiecesContinue → {A : Type 0} (wanted count : ℕ) (s s' : Streams A) (e : AllocError) (x y z : Standing) → count < wanted → TurnsSoFar count s x y → TakesTurn s (Err e) s' y z → TakesRounds wanted (Err e) x z
+pub turns_cut : PiecesContinue → {A : Type 0} (wanted count : ℕ) (s s' : Streams A) (e : AllocError) (x y z : Standing) → count < wanted → TurnsSoFar count s x y → TakesTurn s (Err e) s' y z → TakesTurns wanted (Err e) x z
 turns_cut law wanted count s s' e x y z below so_far h =
     let past = map (λ (t : Turn). t.arrival) so_far.all_turns in
     let does = does_turn x y h.mid z so_far.all_turns h.turn so_far.does h.arrives h.does in

@@ -146,7 +146,7 @@ pub record TakesTurn {A : Type 0} (s : Streams A) (result : Result (Unit {0}) Al
   pub err : OnErr result (StopsShort s turn)
 
 -- Turns were taken, with nothing counted before: the effect of a call of `serve`.
-pub record TakesRounds (wanted : ℕ) (result : Result Served AllocError) (before after : Standing) : Type 0 where
+pub record TakesTurns (wanted : ℕ) (result : Result Served AllocError) (before after : Standing) : Type 0 where
   pub serves : before.counts ≡ record { turns = wanted; lost = 0; refused_puts = 0; refused_arrivals = 0 }
       → Serves before.running before.report wanted result after.running after.report
   pub same_forwarder : after.of_forwarder ≡ before.of_forwarder

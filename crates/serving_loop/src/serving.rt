@@ -5,7 +5,7 @@ ghost use Rattle.wires.specs.Wire.{journal, arrival_of, path_gone};
 ghost use Rattle.serving_loop.specs.Events.{IsPiece};
 ghost use Rattle.serving_loop.specs.Serving.{standing, Serves};
 ghost use Rattle.serving_loop.specs.Streams.{events_by, Follows, ServesEvents, TakesArrival};
-ghost use Rattle.serving_loop.specs.Streams.{TakesTurn, TakesRounds};
+ghost use Rattle.serving_loop.specs.Streams.{TakesTurn, TakesTurns};
 
 use crate::counts::Served;
 use crate::looping::Loop;
@@ -48,13 +48,13 @@ pub fn serve<H: BuildHasher + Drop, A: Allocator + Copy, W: Wire<A>>(
         forwarder,
         counts,
     };
-    serving.take_rounds(alloc, turns)
+    serving.take_turns(alloc, turns)
 }
 
 impl<H: BuildHasher + Drop, A: Allocator + Copy, W: Wire<A>> Loop<'_, '_, H, A, W> {
     /// Takes `turns` turns, of which the first begins without streams. Returns the counts.
-    fn take_rounds(&mut self, alloc: A, turns: u64) -> Result<Served, AllocError>
-        ensures { TakesRounds turns result (standing W.report W.fault_count self.old)
+    fn take_turns(&mut self, alloc: A, turns: u64) -> Result<Served, AllocError>
+        ensures { TakesTurns turns result (standing W.report W.fault_count self.old)
             (standing W.report W.fault_count self.new) }
     {
         let mut streams = Streams {

@@ -3,7 +3,7 @@ use Rattle.std.proofs.lemmas.Result.{err_from_is_err_and}
 use Rattle.tcp_frames.proofs.CallerLemmas.{pieces_continue}
 use Rattle.serving_loop.specs.Serving.{standing}
 use Rattle.serving_loop.proofs.Turns.{TurnsSoFar, turns_none, turns_more, turns_end, turns_cut}
-use Rattle.serving_loop.proofs.looping.Loop.take_rounds.Goals as goal
+use Rattle.serving_loop.proofs.looping.Loop.take_turns.Goals as goal
 
 pub loop-turn-init : goal.loop-turn-init
 loop-turn-init g c = turns_none _ _ c.new.ensures.empty c.new-2.ensures.empty
