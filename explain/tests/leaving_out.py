@@ -25,6 +25,7 @@ NOT_TOLD = {"one_identifier_without_a_question", "stood_still_past_the_deadline"
 # Of captures with a fault the packets without which nothing shows it: the question, its answer, and what was used.
 FAULTS = {
     "two_seconds_more": {4, 5},
+    "two_seconds_less": {4, 6, 7},
     "past_its_end": {4, 5},
     "another_route": {0, 3},
     "forgotten_alias": {0, 3},

@@ -215,6 +215,18 @@ def two_seconds_more():
     return scene.pcap()
 
 
+def two_seconds_less():
+    """A fault: a lifetime of two seconds too few. One of a second too few is none."""
+    scene = Scene()
+    www = asked("www.example.com")
+    scene.fetched(0, ONE, 1, www, 300, (192, 0, 2, 80))
+    # Accepted at 10 ms: 300 - 4.990 s are left, and then 300 - 5.990 s.
+    for at, number, left in ((5000, 2, 294), (6000, 3, 292)):
+        scene.question(at, OTHER, number, www)
+        scene.answer(at + 0.2, OTHER, number, www, answers=[address(left, 192, 0, 2, 80)])
+    return scene.pcap()
+
+
 def without_resolution():
     """A pcapng whose interface does not say its unit of time: microseconds."""
     scene = Scene()
@@ -307,6 +319,7 @@ ALL = [
     expired_before,
     kept_before_differs,
     two_seconds_more,
+    two_seconds_less,
     without_resolution,
     repeated,
     past_its_end,
