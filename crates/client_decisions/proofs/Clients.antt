@@ -1,5 +1,5 @@
 -- The decision on a client's message that no entry answers.
-use Rattle.std.proofs.Common.{◌≡◌, ◌≢◌, ℕ, ◌<◌, ◌≤◌, length, List, true, false, refl, sym, ap, ◌∙◌, arith, ◌+◌, [], ◌∷◌, ◌++◌, Option, Some, None}
+use Rattle.std.proofs.Common.{◌≡◌, ◌≢◌, ℕ, ◌<◌, ◌≤◌, length, List, true, false, sym, ap, ◌∙◌, arith, ◌+◌, [], ◌∷◌, ◌++◌, Option, Some, None}
 use Rattle.std.specs.Prelude.{nat_le, ◌==◌, Box}
 use Rattle.std.proofs.lemmas.Bool.{cond-true, cond-false, le-leb, lt-leb, ne_eqb}
 use Rattle.std.proofs.lemmas.List.{append-nil}
@@ -22,7 +22,6 @@ use Rattle.step_table.specs.Steps.{Done, with_promoted, idle_step, reply_step, f
 use Rattle.alias_chains.specs.LookingUp.{LookUp}
 use Rattle.step_table.specs.Clients.{row_of_request, row_of_opening, row_of_new_inquiry, row_of_inquiry, row_of_waiting, waits_with}
 use Rattle.step_values.specs.Values.{Action}
-use Rattle.step_values.specs.declared.action.Why.{Why}
 use Rattle.step_values.specs.declared.action.Why.TheVariants.{BadOpcode, QuestionsFull}
 use Rattle.step_values.specs.declared.event.Client.{Client}
 use Rattle.step_actions.specs.declared.decision.Change.TheVariants.{Join, Open}

@@ -1,10 +1,10 @@
 -- The fates of those that wait for one question, among all that wait.
-use Rattle.std.proofs.Common.{◌≡◌, List, [], ◌∷◌, Bool, true, false, cond, Option, Some, None, refl, sym, ap, ◌∙◌}
+use Rattle.std.proofs.Common.{◌≡◌, List, [], ◌∷◌, Bool, true, false, cond, Some, refl, sym, ap, ◌∙◌}
 use Rattle.std.specs.Prelude.{filter, map}
 use Rattle.std.specs.List.{cons_option}
 use Rattle.std.proofs.lemmas.Simd.{map-map}
 use Rattle.dns_message.specs.Values.{Question}
-use Rattle.waiting_questions.specs.Onward.{Onward, redirected}
+use Rattle.waiting_questions.specs.Onward.{redirected}
 use Rattle.waiting_questions.specs.Values.{Waiting, waits_for}
 use Rattle.waiting_questions.specs.Settling.{left_by, settled, settled_by}
 use Rattle.waiting_questions.proofs.CallerLemmas.{settled_by_function}

@@ -6,7 +6,6 @@ use Rattle.record_cache.specs.Values.{Held}
 use Rattle.dns_message.specs.Questions.{asked_at}
 use Rattle.waiting_questions.specs.Onward.{Onward}
 use Rattle.waiting_questions.specs.Values.{Waiting}
-use Rattle.alias_chains.specs.LookingUp.{LookUp}
 use Rattle.alias_chains.specs.Looked.{chain_of}
 use Rattle.alias_chains.proofs.CallerLemmas.{look_up_holds, held_holds}
 use Rattle.step_table.specs.State.{StepStart}

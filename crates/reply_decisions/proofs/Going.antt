@@ -8,7 +8,7 @@ use Rattle.record_cache.specs.Values.{Held}
 use Rattle.waiting_questions.specs.Onward.{redirected}
 use Rattle.waiting_questions.specs.Values.{Waiting}
 use Rattle.alias_chains.specs.LookingUp.{LookUpEnd, LookUp, ends, too_long, missed}
-use Rattle.step_table.specs.Steps.{Fate, waits}
+use Rattle.step_table.specs.Steps.{waits}
 use Rattle.step_table.specs.Clients.{fate_missed, fate_at, fate_of}
 
 pub all_append : {X : Type 0} (P : X → Type 0) (xs ys : List X) → AllByRecursion P xs → AllByRecursion P ys → AllByRecursion P (xs ++ ys)

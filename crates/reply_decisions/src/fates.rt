@@ -87,7 +87,7 @@ impl<'a, A: Allocator + Copy> Fates<'a, A> {
 
     /// Puts the fate of one more question last, and the slots that its look-up used.
     fn put(&mut self, fate: WaitingFate<'a, A>, used: &Slots<'_, A>) -> Result<(), AllocError>
-        ensures each { IfOk result (λ _. self.new.each ≡ self.old.each ++ fate_now fate ∷ []) }
+        ensures each { IfOk result (λ _. self.new.each ≡ self.old.each ++ fate_now fate.entry ∷ []) }
         ensures used { IfOk result (λ _. self.new.used ≡ self.old.used ++ used.now) }
     {
         self.each.push(fate)?;

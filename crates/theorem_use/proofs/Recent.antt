@@ -30,11 +30,11 @@ use Rattle.step_history.specs.History.{is_restart, moment_at, Carries}
 use Rattle.step_history.specs.Carried.{then_carried, NotReplaced}
 use Rattle.step_table.specs.State.{State, start}
 use Rattle.waiting_questions.specs.Values.{Waiting, waits_for}
-use Rattle.alias_chains.specs.LookingUp.{LookUp, promoted_all}
+use Rattle.alias_chains.specs.LookingUp.{LookUp, promoted_all, goes_on}
 use Rattle.alias_chains.specs.Offering.{put_all, unkept_of, held_at}
 use Rattle.step_table.specs.Steps.{Done, with_preferred_server}
 use Rattle.step_table.specs.Row.{effective}
-use Rattle.step_table.specs.Replies.{fate_by, goes_on, looked_by, used_by, timeout_of, row_of_end, row_of_acceptance, row_of_delivery}
+use Rattle.step_table.specs.Replies.{fate_by, looked_by, used_by, timeout_of, row_of_end, row_of_acceptance, row_of_delivery}
 use Rattle.theorem_cache.specs.Kept.{IsKept, CanBeKept}
 use Rattle.theorem_cache.proofs.CallerLemmas.{all_among, kept_later, promotions_keep_cached, promotions_leave}
 use Rattle.theorem_sound.specs.Explains.{Explains}
@@ -342,7 +342,7 @@ module _ (c : Config) (past : List Step) (w : List (List ℕ)) (s : State) (x : 
           abbrev Along : List Slot → Type 0
           Along used = LooksAlong (Unit {0}) n ts q used
 
-          goes_along : (held : List Held) (wanted : Question) → wanted ≡ q → Along (goes_on c n s.cache.entries held wanted).used
+          goes_along : (held : List Held) (wanted : Question) → wanted ≡ q → Along (goes_on c.routes n s.cache.entries held wanted).used
           goes_along held wanted is = cond_both (nat_le (length held) most_aliases) _ _ (λ (l : LookUp). Along l.used)
               (λ t. looked (look_up_leads (Unit {0}) c.routes n s.cache.capacity ts s.cache.entries x.cache.held stay (most_aliases - length held) held wanted (inr tt))
               (uses_few c.routes n s.cache.entries (most_aliases - length held) held wanted))

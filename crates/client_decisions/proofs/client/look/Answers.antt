@@ -1,4 +1,4 @@
-use Rattle.std.proofs.Common.{◌≡◌, ◌∙◌, [], List, ap, sym, subst}
+use Rattle.std.proofs.Common.{◌≡◌, ◌∙◌, [], ap, sym, subst}
 use Rattle.std.specs.List.{AllByRecursion}
 use Rattle.answer_builder.specs.Answers.{IsEarlier}
 use Rattle.plain_values.specs.Borrowed.{lent}
@@ -27,7 +27,7 @@ fate_of-requires g c =
     (later_entries c.start.inside.kept.now.moment c.start.inside.moment c.start.inside.kept.now.cache.entries c.start.invariant.1
     c.start.invariant.0.accepted))
     [] c.args.request.now.wanted tt) in
-    earlier
+    record { earlier = earlier }
 
 pub wait-requires-clause-missed : goal.wait-requires-clause-missed
 wait-requires-clause-missed g c =
@@ -75,7 +75,7 @@ returns-in-Reply g c = record {
       fate_row t.config t.moment t.words c.args.request.now t.state _ _
       (subst (λ (r : StepStart). AllByRecursion (IsOnRoute r.config) r.state.cache.entries) c.start.view_is
       c.start.invariant.0.cache.on_routes)
-      (c.into_slots-in-Reply.ensures ∙ ap (λ (l : LookUp). l.used) exact)
+      (c.into_slots.ensures ∙ ap (λ (l : LookUp). l.used) exact)
       (ap (fate_in c.args.request.now c.in_ok-looked.looked) (sym c.in-Reply.is) ∙ c.in_ok-fate.ensures.fate
       ∙ ap (λ (l : LookUp). Rattle.step_table.specs.Clients.fate_of t.config t.moment c.args.request.now l) exact));
 }

@@ -1,6 +1,6 @@
 use Rattle.std.proofs.Common.{◌≡◌, ◌∙◌, ◌<◌, ◌≤◌, length, ap, arith, refl}
-use Rattle.step_table.specs.State.{StepStart}
-use Rattle.step_table.specs.Clients.{waits_with}
+use Rattle.step_table.specs.State.{StepStart, start}
+use Rattle.step_table.specs.Clients.{row_of_waiting, waits_with}
 use Rattle.step_table.specs.Steps.{with_promoted}
 use Rattle.client_decisions.proofs.Clients.{full_row, waiting_row}
 use Rattle.step_actions.proofs.CallerLemmas.{decides_by}
@@ -17,7 +17,9 @@ returns g c = record {
       c.start.view_is in let test = c.if-len-config.false in grind (arith, count, waiting, test, limit)) in
       decides_by c.admit.result _ _ _ (rw c.in_ok-waiting.ensures at c.admit.ensures.decides) (λ rooms.
       waiting_row c.args.start.now.config c.args.start.now.moment c.args.start.now.words
-      (waits_with c.args.request.now c.args.looked) (with_promoted c.args.looked.used c.args.start.now.state) _ room refl);
+      (waits_with c.args.request.now c.args.looked) (with_promoted c.into_slots-2.result c.args.start.now.state) _ room refl
+      ∙ (λ i. row_of_waiting (start c.args.start.now.config c.args.start.now.moment c.args.start.now.words
+      (with_promoted (c.into_slots-2.ensures i) c.args.start.now.state)) (waits_with c.args.request.now c.args.looked)));
 }
 
 pub returns-then-len-config : goal.returns-then-len-config
@@ -31,5 +33,7 @@ returns-then-len-config g c = record {
       c.start.view_is in let test = c.if-len-config.true in grind (arith, count, waiting, test, limit)) in
       decides_by c.refuse.result _ _ _ c.refuse.ensures.decides (λ rooms.
       full_row c.args.start.now.config c.args.start.now.moment c.args.start.now.words c.args.request.now c.args.looked
-      (with_promoted c.args.looked.used c.args.start.now.state) _ full refl);
+      (with_promoted c.into_slots.result c.args.start.now.state) _ full refl
+      ∙ (λ i. row_of_waiting (start c.args.start.now.config c.args.start.now.moment c.args.start.now.words
+      (with_promoted (c.into_slots.ensures i) c.args.start.now.state)) (waits_with c.args.request.now c.args.looked)));
 }

@@ -8,11 +8,10 @@ use Rattle.answer_builder.specs.Answers.{IsEarlier}
 use Rattle.outstanding.specs.Lists.{on_path as ask_on, without_path}
 use Rattle.suffix_routes.specs.Serving.{serving_route_of}
 use Rattle.step_table.specs.State.{StepStart, start}
-use Rattle.waiting_questions.specs.Values.{Waiting, waits_for}
-use Rattle.step_table.specs.Steps.{Fate}
+use Rattle.waiting_questions.specs.Values.{waits_for}
 use Rattle.alias_chains.specs.Offering.{held_at}
 use Rattle.step_actions.specs.Kept.{HoldsEarlier}
-use Rattle.step_actions.specs.Decision.{IfFollows, IsRouted, IsSentEarlier}
+use Rattle.step_actions.specs.Decision.{IfFollows, IsRouted}
 use Rattle.alias_chains.proofs.CallerLemmas.{walk_first, held_now}
 use Rattle.step_table.proofs.CallerLemmas.{All-filter}
 use Rattle.reply_decisions.proofs.Earlier.{behind_holds}

@@ -39,9 +39,9 @@ returns-clause-each g c =
     c.in_ok-looked.ensures.exact
     ∙ (λ i. goes_on (c.cache_at.ensures i).config.routes (c.cache_at.ensures i).moment (c.cache_at.ensures i).cache.entries
     (c.in_ok-held.ensures i) (c.question-question.ensures i)) in
-    IfOk-weaker c.put.result _ _ (λ _ e.
+    IfOk-weaker c.put-2.result _ _ (λ _ e.
     e ∙ ap (λ (f : Fate). c.args.self.now.each ++ f ∷ []) (c.in_ok-fate.ensures ∙ ap (fate_of t.config t.moment x) exact))
-    c.put.ensures.each
+    c.put-2.ensures.each
 
 pub returns-clause-used : goal.returns-clause-used
 returns-clause-used g c =
@@ -53,6 +53,6 @@ returns-clause-used g c =
     c.in_ok-looked.ensures.exact
     ∙ (λ i. goes_on (c.cache_at.ensures i).config.routes (c.cache_at.ensures i).moment (c.cache_at.ensures i).cache.entries
     (c.in_ok-held.ensures i) (c.question-question.ensures i)) in
-    IfOk-weaker c.put.result _ _ (λ _ e.
+    IfOk-weaker c.put-2.result _ _ (λ _ e.
     e ∙ ap (λ (ss : List Slot). c.args.self.now.used ++ ss) (c.into_slots.ensures ∙ ap (λ (l : LookUp). l.used) exact))
-    c.put.ensures.used
+    c.put-2.ensures.used
