@@ -17,7 +17,7 @@ mod Matching
 mod FromCache
 mod StaleLookUps
 mod Denied
-mod PieceWithTtl
+mod WithTtls
 mod Whole
 mod Eras
 mod Carried
