@@ -1,7 +1,7 @@
 pub mod Seeing
 pub mod Targets
 pub mod Few
-pub mod PastEnds
+pub mod StaleLookUps
 pub mod Behind
 pub mod CallerLemmas
 pub mod Offering

@@ -1,5 +1,5 @@
 pub mod LookingUp
-pub mod PastEnds
+pub mod StaleLookUps
 pub mod Offering
 pub mod Seen
 pub mod Laws

@@ -7,8 +7,8 @@ mod laws;
 mod looked;
 mod looking;
 mod offers;
-mod past_ends;
 mod slots;
+mod stale_look_up;
 mod used;
 
 pub use chain::{chain_of, copies};
@@ -19,5 +19,5 @@ pub use laws::{
 pub use looked::{LookUp, LookUpEnd};
 pub use looking::look_up;
 pub use offers::{held_from, offer_all};
-pub use past_ends::look_up_past;
 pub use slots::{Slots, SlotsRef, promote_all};
+pub use stale_look_up::look_up_stale;

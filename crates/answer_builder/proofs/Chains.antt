@@ -7,22 +7,22 @@ use Rattle.std.specs.Option.{option_copied, IfSome}
 use Rattle.dns_message.specs.Values.{Record}
 use Rattle.dns_message.specs.Borrowed.{records_in}
 use Rattle.record_cache.specs.Values.{Held}
-use Rattle.answer_builder.specs.Values.{Told}
-use Rattle.answer_builder.specs.Answers.{answers_of, told_at, told_stale, sections_told}
+use Rattle.answer_builder.specs.Values.{PieceWithTtl}
+use Rattle.answer_builder.specs.Answers.{answers_of, with_ttl, with_stale_ttls, sections_with_ttls}
 use Rattle.answer_builder.specs.Building.{end_of, ending, listed}
 use Rattle.plain_values.specs.Borrowed.{lent}
 
-ending_is : (chain : List Told) → ending (flat_map answers_of chain) (end_of chain) ≡ sections_told chain
+ending_is : (chain : List PieceWithTtl) → ending (flat_map answers_of chain) (end_of chain) ≡ sections_with_ttls chain
 ending_is [] = refl
 ending_is (t ∷ chain) = refl
 
 -- the sections with the records of a chain that end with its last piece
-pub told_ending : (chain : List Told) (records : List Record) (last : Option Told)
-    → records ≡ flat_map answers_of chain → last ≡ end_of chain → ending records last ≡ sections_told chain
-told_ending chain records last all is = (λ i. ending (all i) (is i)) ∙ ending_is chain
+pub pieces_ending : (chain : List PieceWithTtl) (records : List Record) (last : Option PieceWithTtl)
+    → records ≡ flat_map answers_of chain → last ≡ end_of chain → ending records last ≡ sections_with_ttls chain
+pieces_ending chain records last all is = (λ i. ending (all i) (is i)) ∙ ending_is chain
 
 -- the last of the pieces, if any
-pub last_is : (chain : List Told) → slice_get chain (length chain - 1) ≡ end_of chain
+pub last_is : (chain : List PieceWithTtl) → slice_get chain (length chain - 1) ≡ end_of chain
 last_is [] = refl
 last_is (t ∷ []) = refl
 last_is (t ∷ other ∷ chain) =
@@ -35,9 +35,9 @@ last_is (t ∷ other ∷ chain) =
 pub told_more : {X Y : Type 0} (f : X → Y) (before items more : List Y) (y : Y) (xs : List X) (i : ℕ) (x : X)
     → i < length xs → x ≡ get_or xs i x → y ≡ f x → items ≡ before ++ map f (take i xs) → more ≡ items ++ y ∷ []
     → more ≡ before ++ map f (take (i + 1) xs)
-told_more {X = X} {Y = Y} f before items more y xs i x lt is told so_far pushed =
+told_more {X = X} {Y = Y} f before items more y xs i x lt is pieces so_far pushed =
     let next : map f (take i xs) ++ y ∷ [] ≡ map f (take (i + 1) xs) =
-    (λ j. map f (take i xs) ++ told j ∷ []) ∙ sym (map-append f (take i xs) (x ∷ []))
+    (λ j. map f (take i xs) ++ pieces j ∷ []) ∙ sym (map-append f (take i xs) (x ∷ []))
     ∙ (λ j. map f (take i xs ++ is j ∷ [])) ∙ sym (ap (map f) (take_more xs i x lt)) in
     pushed ∙ (λ j. so_far j ++ y ∷ []) ∙ append_assoc before (map f (take i xs)) (y ∷ [])
     ∙ ap (λ (zs : List Y). before ++ zs) next
@@ -64,9 +64,9 @@ of_rest P zero (x ∷ xs) all = all
 of_rest P (suc n) (x ∷ xs) all = of_rest P n xs all.1
 
 -- none expired
-pub none_past : (moment : ℕ) (chain : List Held) → told_stale (length chain) moment chain ≡ map (told_at moment) chain
+pub none_past : (moment : ℕ) (chain : List Held) → with_stale_ttls (length chain) moment chain ≡ map (with_ttl moment) chain
 none_past moment [] = refl
-none_past moment (h ∷ chain) = ap (λ (told : List Told). told_at moment h ∷ told) (none_past moment chain)
+none_past moment (h ∷ chain) = ap (λ (pieces : List PieceWithTtl). with_ttl moment h ∷ pieces) (none_past moment chain)
 
 -- ---- held pieces, borrowed, by what is left of them
 
@@ -84,11 +84,11 @@ one_more r s refs =
 
 -- the end of their TTLs is that of the last of them
 pub last_lent : (moment : ℕ) (refs : List (Bor Held))
-    → end_of (map (told_at moment) (lent refs)) ≡ option_map (told_at moment) (last_of_lent refs)
+    → end_of (map (with_ttl moment) (lent refs)) ≡ option_map (with_ttl moment) (last_of_lent refs)
 last_lent moment [] = refl
 last_lent moment (r ∷ []) = refl
 last_lent moment (r ∷ s ∷ refs) =
-    last_lent moment (s ∷ refs) ∙ ap (λ (last : Option Held). option_map (told_at moment) last) (one_more r s refs)
+    last_lent moment (s ∷ refs) ∙ ap (λ (last : Option Held). option_map (with_ttl moment) last) (one_more r s refs)
 
 -- each was accepted by then, so the last was
 pub last_earlier : (P : Held → Type 0) (refs : List (Bor Held)) → AllByRecursion P (lent refs)

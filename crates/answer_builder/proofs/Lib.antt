@@ -1,4 +1,4 @@
 pub mod Texts
 pub mod Chains
 pub mod Worked
-pub mod WorkedPast
+pub mod WorkedStaleTtls

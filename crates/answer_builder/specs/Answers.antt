@@ -8,7 +8,7 @@ use Rattle.dns_message.specs.Borrowed.{questions_of}
 use Rattle.trust_rank.specs.Values.{Body, rows, no_data, denied, Piece}
 use Rattle.record_cache.specs.Values.{Held}
 use Rattle.record_cache.specs.Ageing.{is_alive, seconds_left}
-use Rattle.answer_builder.specs.Values.{Told, Asked, Sections}
+use Rattle.answer_builder.specs.Values.{PieceWithTtl, Asked, Sections}
 
 -- ---- the records of a piece, with these seconds to live
 
@@ -48,36 +48,36 @@ rcode_of (denied soa) = 3
 -- ---- pieces and their seconds in an answer
 
 -- the piece with its whole seconds left: RFC 1035 3.2.1, RFC 2181 5.2
-abbrev pub told_at : ℕ → Held → Told
-told_at moment h = record { piece = h.piece; seconds = seconds_left moment h }
+abbrev pub with_ttl : ℕ → Held → PieceWithTtl
+with_ttl moment h = record { piece = h.piece; seconds = seconds_left moment h }
 
 -- a living piece with its whole seconds left, an expired piece with 30 seconds: RFC 8767 4
-abbrev pub told_past : ℕ → Held → Told
-told_past moment h = record { piece = h.piece; seconds = if is_alive moment h then seconds_left moment h else 30 }
+abbrev pub with_stale_ttl : ℕ → Held → PieceWithTtl
+with_stale_ttl moment h = record { piece = h.piece; seconds = if is_alive moment h then seconds_left moment h else 30 }
 
--- the first `past` pieces with their seconds left; of the rest, expired pieces get 30
-abbrev pub told_stale : ℕ → ℕ → List Held → List Told
-told_stale past moment chain = map (told_at moment) (take past chain) ++ map (told_past moment) (drop past chain)
+-- the first `stale_from` pieces with their seconds left; of the rest, expired pieces get 30
+abbrev pub with_stale_ttls : ℕ → ℕ → List Held → List PieceWithTtl
+with_stale_ttls stale_from moment chain = map (with_ttl moment) (take stale_from chain) ++ map (with_stale_ttl moment) (drop stale_from chain)
 
 -- ---- a chain: aliases, each at the name that the one before leads to, then a set or denial
 
 -- all records of a piece have its seconds
-abbrev pub answers_of : Told → List Record
+abbrev pub answers_of : PieceWithTtl → List Record
 answers_of t = set_records t.seconds t.piece
 
 -- the last piece of a chain that begins with t
-abbrev pub last_of : Told → List Told → Told
+abbrev pub last_of : PieceWithTtl → List PieceWithTtl → PieceWithTtl
 last_of t [] = t
 last_of t (other ∷ chain) = last_of other chain
 
 -- the authority section after a chain that ends in this piece
-abbrev pub authority_of : Told → List Record
+abbrev pub authority_of : PieceWithTtl → List Record
 authority_of t = soa_records t.seconds t.piece.body
 
 -- aliases and set as answers, in order; the SOA of a denial at the end as authority
-abbrev pub sections_told : List Told → Sections
-sections_told [] = record { answers = []; authority = []; rcode = 0 }
-sections_told (t ∷ chain) = record {
+abbrev pub sections_with_ttls : List PieceWithTtl → Sections
+sections_with_ttls [] = record { answers = []; authority = []; rcode = 0 }
+sections_with_ttls (t ∷ chain) = record {
   answers = flat_map answers_of (t ∷ chain);
   authority = authority_of (last_of t chain);
   rcode = rcode_of (last_of t chain).piece.body;
@@ -85,10 +85,10 @@ sections_told (t ∷ chain) = record {
 
 -- the sections from held pieces, with their seconds left
 abbrev pub sections_of : ℕ → List Held → Sections
-sections_of moment chain = sections_told (map (told_at moment) chain)
+sections_of moment chain = sections_with_ttls (map (with_ttl moment) chain)
 
 -- aliases, and a name error without SOA: RFC 2308 2.1
-abbrev pub local_sections : List Told → Sections
+abbrev pub local_sections : List PieceWithTtl → Sections
 local_sections chain = record { answers = flat_map answers_of chain; authority = []; rcode = 3 }
 
 -- the piece was accepted at the moment or before

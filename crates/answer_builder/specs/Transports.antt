@@ -7,7 +7,7 @@ use Rattle.answer_builder.specs.declared.asked.Transport.TheVariants.{Udp, Tcp}
 use Rattle.answer_builder.specs.declared.fault.Fault.{Fault}
 use Rattle.answer_builder.specs.declared.fault.Fault.TheVariants.{TooLarge}
 use Rattle.answer_builder.specs.Values.{Asked, Sections}
-use Rattle.answer_builder.specs.Answers.{told_at, told_stale, sections_told, sections_of, local_sections, full_answer}
+use Rattle.answer_builder.specs.Answers.{with_ttl, with_stale_ttls, sections_with_ttls, sections_of, local_sections, full_answer}
 use Rattle.answer_builder.specs.Answers.{cut_answer}
 
 -- more than 512 octets are cut: RFC 1035 4.2.1
@@ -31,10 +31,10 @@ text_of a s transport = sent_over transport (written (full_answer a s)) (written
 abbrev pub answer_of : Asked → List Held → ℕ → Transport → Result (List ℕ) Fault
 answer_of a chain moment transport = text_of a (sections_of moment chain) transport
 
--- the answer with expired pieces from index `past` on at 30 seconds (RFC 8767 4), and at 0 before
+-- the answer with expired pieces from index `stale_from` on at 30 seconds (RFC 8767 4), and at 0 before
 abbrev pub stale_answer_of : Asked → List Held → ℕ → ℕ → Transport → Result (List ℕ) Fault
-stale_answer_of a chain past moment transport = text_of a (sections_told (told_stale past moment chain)) transport
+stale_answer_of a chain stale_from moment transport = text_of a (sections_with_ttls (with_stale_ttls stale_from moment chain)) transport
 
 -- the answer from aliases to a name whose route denies
 abbrev pub local_answer_of : Asked → List Held → ℕ → Transport → Result (List ℕ) Fault
-local_answer_of a aliases moment transport = text_of a (local_sections (map (told_at moment) aliases)) transport
+local_answer_of a aliases moment transport = text_of a (local_sections (map (with_ttl moment) aliases)) transport

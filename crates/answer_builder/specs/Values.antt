@@ -12,7 +12,7 @@ pub record Asked : Type 0 where
   pub question : Option Question
 
 -- a piece, and its seconds in an answer
-pub record Told : Type 0 where
+pub record PieceWithTtl : Type 0 where
   pub piece : Piece
   pub seconds : ℕ
 

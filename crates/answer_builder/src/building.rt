@@ -9,9 +9,9 @@ ghost use Rattle.answer_builder.specs.Transports.{answer_of, local_answer_of, st
 
 use crate::asked::{Asked, AskedRef, Transport};
 use crate::fault::Fault;
+use crate::pieces::with_stale_ttls;
 use crate::sections::Sections;
 use crate::text::{UDP_LIMIT, header_of, put_bare};
-use crate::told::told_stale;
 use dns_message::MessageParts;
 use plain_values::Octets;
 use record_cache::Held;
@@ -40,24 +40,24 @@ pub fn build<A: Allocator + Copy>(
     build_stale(alloc, asked, chain, chain.len(), moment, transport)
 }
 
-/// The octets of the answer of `build`, but with expired pieces: from index `past` on, which is at
+/// The octets of the answer of `build`, but with expired pieces: from index `stale_from` on, which is at
 /// most their number, each expired piece has 30 seconds left (RFC 8767 4); all further pieces have
 /// their seconds left, 0 if expired. Faults are the faults of `build`.
 pub fn build_stale<A: Allocator + Copy>(
     alloc: A,
     asked: &Asked<A>,
     chain: &[Held<A>],
-    past: usize,
+    stale_from: usize,
     moment: u64,
     transport: Transport,
 ) -> Result<Octets<A>, Fault>
     requires opcode { asked.now.opcode < 16 }
     requires earlier { AllByRecursion (IsEarlier moment) chain.now }
-    requires within { past ≤ length chain.now }
-    ensures { Gives (λ text. text) result (stale_answer_of asked.now chain.now past moment transport) }
+    requires within { stale_from ≤ length chain.now }
+    ensures { Gives (λ text. text) result (stale_answer_of asked.now chain.now stale_from moment transport) }
 {
-    let told = told_stale(alloc, chain, past, moment)?;
-    built(alloc, asked, &Sections::stale(alloc, &told)?, transport)
+    let pieces = with_stale_ttls(alloc, chain, stale_from, moment)?;
+    built(alloc, asked, &Sections::stale(alloc, &pieces)?, transport)
 }
 
 /// The octets of the answer to a question whose opcode has 4 bits, from its aliases to a name whose
@@ -79,8 +79,8 @@ pub fn build_local<A: Allocator + Copy>(
     requires earlier { AllByRecursion (IsEarlier moment) aliases.now }
     ensures { Gives (λ text. text) result (local_answer_of asked.now aliases.now moment transport) }
 {
-    let told = told_stale(alloc, aliases, aliases.len(), moment)?;
-    built(alloc, asked, &Sections::denied(alloc, &told)?, transport)
+    let pieces = with_stale_ttls(alloc, aliases, aliases.len(), moment)?;
+    built(alloc, asked, &Sections::denied(alloc, &pieces)?, transport)
 }
 
 /// The octets of the answer that has these sections.

@@ -4,14 +4,14 @@
 mod asked;
 mod building;
 mod fault;
+mod pieces;
 mod records;
 mod sections;
 mod text;
-mod told;
 
 pub use asked::{Asked, AskedRef, Transport};
 pub use building::{build, build_local, build_stale, failure, put_failure};
 pub use fault::Fault;
+pub use pieces::PieceWithTtl;
 pub use sections::Sections;
 pub use text::UDP_LIMIT;
-pub use told::ToldRef;

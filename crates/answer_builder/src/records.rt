@@ -6,11 +6,11 @@ ghost use Rattle.std.specs.Option.{IfSome};
 ghost use Rattle.dns_message.specs.Borrowed.{data_of, records_in};
 ghost use Rattle.dns_message.specs.Data.{IsShaped};
 ghost use Rattle.trust_rank.specs.Values.{unboxed};
-ghost use Rattle.answer_builder.specs.Answers.{aged, answers_of, authority_of, rcode_of, record_of, told_at, IsEarlier};
+ghost use Rattle.answer_builder.specs.Answers.{aged, answers_of, authority_of, rcode_of, record_of, with_ttl, IsEarlier};
 ghost use Rattle.answer_builder.specs.Building.{listed};
 ghost use Rattle.plain_values.specs.Borrowed.{lent};
 
-use crate::told::ToldRef;
+use crate::pieces::PieceWithTtl;
 use dns_message::codes::NXDOMAIN;
 use dns_message::{DataRef, Record, RowsRef};
 use record_cache::Held;
@@ -18,12 +18,12 @@ use std::alloc::{AllocError, Allocator};
 use trust_rank::{Body, Piece};
 
 /// The records of a set; `None` for a denial.
-pub(crate) fn set_of<'a, A: Allocator>(told: &ToldRef<'a, A>) -> Option<RowsRef<'a, A>>
-    ensures { listed result ≡ answers_of told.now }
+pub(crate) fn set_of<'a, A: Allocator>(pieces: &PieceWithTtl<'a, A>) -> Option<RowsRef<'a, A>>
+    ensures { listed result ≡ answers_of pieces.now }
 {
-    let piece = told.piece;
+    let piece = pieces.piece;
     match (piece.kind, &piece.body) {
-        (Some(kind), Body::Rows(rows)) => Some(rows_of(piece, kind, rows.data(), told.seconds)),
+        (Some(kind), Body::Rows(rows)) => Some(rows_of(piece, kind, rows.data(), pieces.seconds)),
         _ => None,
     }
 }
@@ -31,13 +31,13 @@ pub(crate) fn set_of<'a, A: Allocator>(told: &ToldRef<'a, A>) -> Option<RowsRef<
 /// The records of a chain, set after set.
 pub(crate) fn sets_of<'a, A: Allocator + Copy>(
     alloc: A,
-    chain: &[ToldRef<'a, A>],
+    chain: &[PieceWithTtl<'a, A>],
 ) -> Result<Vec<RowsRef<'a, A>, A>, AllocError>
     ensures { IfOk result (λ sets. records_in sets.items ≡ flat_map answers_of chain.now) }
 {
     let mut sets = Vec::with_capacity(alloc, chain.len())?;
-    for told in chain {
-        if let Some(set) = set_of(told) {
+    for pieces in chain {
+        if let Some(set) = set_of(pieces) {
             sets.push(set)?;
         }
     }
@@ -53,11 +53,11 @@ pub(crate) fn sets_at<'a, A: Allocator + Copy>(
 ) -> Result<Vec<RowsRef<'a, A>, A>, AllocError>
     requires { AllByRecursion (IsEarlier moment) (lent chain.now) }
     ensures { IfOk result (λ sets. records_in sets.items ≡ flat_map answers_of
-        (map (told_at moment) (lent chain.now))) }
+        (map (with_ttl moment) (lent chain.now))) }
 {
     let mut sets = Vec::with_capacity(alloc, chain.len())?;
     for held in chain {
-        if let Some(set) = set_of(&ToldRef::at(held, moment)) {
+        if let Some(set) = set_of(&PieceWithTtl::at(held, moment)) {
             sets.push(set)?;
         }
     }
@@ -65,14 +65,14 @@ pub(crate) fn sets_at<'a, A: Allocator + Copy>(
 }
 
 /// The SOA of a denial, if any; a set has none.
-pub(crate) fn soa_of<'a, A: Allocator>(told: &ToldRef<'a, A>) -> Option<RowsRef<'a, A>>
-    ensures { listed result ≡ authority_of told.now }
+pub(crate) fn soa_of<'a, A: Allocator>(pieces: &PieceWithTtl<'a, A>) -> Option<RowsRef<'a, A>>
+    ensures { listed result ≡ authority_of pieces.now }
 {
-    let piece = told.piece;
+    let piece = pieces.piece;
     match &piece.body {
         Body::Rows(_) => None,
-        Body::NoData(soa) => aged(soa, told.seconds),
-        Body::Denied(soa) => aged(soa, told.seconds),
+        Body::NoData(soa) => aged(soa, pieces.seconds),
+        Body::Denied(soa) => aged(soa, pieces.seconds),
     }
 }
 

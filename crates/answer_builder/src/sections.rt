@@ -4,7 +4,7 @@ ghost use Rattle.std.specs.Prelude.{◌≡◌, ◌<◌, ◌∷◌, [], IfOk};
 ghost use Rattle.std.specs.List.{AllByRecursion};
 ghost use Rattle.std.specs.Option.{option_copied};
 ghost use Rattle.dns_message.specs.Borrowed.{records_in};
-ghost use Rattle.answer_builder.specs.Answers.{local_sections, sections_of, sections_told, IsEarlier};
+ghost use Rattle.answer_builder.specs.Answers.{local_sections, sections_of, sections_with_ttls, IsEarlier};
 ghost use Rattle.answer_builder.specs.Building.{ending};
 ghost use Rattle.answer_builder.specs.Faults.{Gives};
 ghost use Rattle.answer_builder.specs.Sets.{records_at};
@@ -13,9 +13,9 @@ ghost use Rattle.plain_values.specs.Borrowed.{lent};
 
 use crate::asked::{AskedRef, Transport};
 use crate::fault::Fault;
+use crate::pieces::{PieceWithTtl, last_at};
 use crate::records::{rcode_of, set_of, sets_at, sets_of, soa_of};
 use crate::text::{header_of, put_text};
-use crate::told::{ToldRef, last_at};
 use dns_message::codes::NXDOMAIN;
 use dns_message::{MessageParts, RowsRef};
 use record_cache::Held;
@@ -65,7 +65,7 @@ impl<'a, A: Allocator + Copy> Sections<'a, A> {
         ensures { IfOk result (λ sections. sections ≡ sections_of moment (lent chain.now)) }
     {
         if let [held] = chain {
-            return Ok(Sections::of_one(&ToldRef::at(held, moment)));
+            return Ok(Sections::of_one(&PieceWithTtl::at(held, moment)));
         }
         let sets = sets_at(alloc, chain, moment)?;
         let last = last_at(chain, moment);
@@ -74,11 +74,11 @@ impl<'a, A: Allocator + Copy> Sections<'a, A> {
 
     /// The sections of the answer from pieces with the seconds that it gives them, some of which
     /// may be stale (RFC 8767 4). It allocates as `answer` does.
-    pub fn stale(alloc: A, chain: &[ToldRef<'a, A>]) -> Result<Sections<'a, A>, AllocError>
-        ensures { IfOk result (λ sections. sections ≡ sections_told chain.now) }
+    pub fn stale(alloc: A, chain: &[PieceWithTtl<'a, A>]) -> Result<Sections<'a, A>, AllocError>
+        ensures { IfOk result (λ sections. sections ≡ sections_with_ttls chain.now) }
     {
-        if let [told] = chain {
-            return Ok(Sections::of_one(told));
+        if let [pieces] = chain {
+            return Ok(Sections::of_one(pieces));
         }
         let sets = sets_of(alloc, chain)?;
         Ok(Sections::ending(Sets::Each(sets), chain.last()))
@@ -87,15 +87,15 @@ impl<'a, A: Allocator + Copy> Sections<'a, A> {
     /// The sections of the answer from one piece, without a list of it: most answers from the cache
     /// are such.
     #[inline(always)]
-    fn of_one(told: &ToldRef<'a, A>) -> Sections<'a, A>
-        ensures { result ≡ sections_told (told.now ∷ []) }
+    fn of_one(pieces: &PieceWithTtl<'a, A>) -> Sections<'a, A>
+        ensures { result ≡ sections_with_ttls (pieces.now ∷ []) }
     {
-        Sections::ending(Sets::Only(set_of(told)), Some(told))
+        Sections::ending(Sets::Only(set_of(pieces)), Some(pieces))
     }
 
     /// The sections with these sets that end with this piece, if any.
     #[inline(always)]
-    fn ending(sets: Sets<'a, A>, last: Option<&ToldRef<'a, A>>) -> Sections<'a, A>
+    fn ending(sets: Sets<'a, A>, last: Option<&PieceWithTtl<'a, A>>) -> Sections<'a, A>
         ensures { result ≡ ending (records_at sets.entry) (option_copied last.entry) }
     {
         match last {
@@ -104,17 +104,17 @@ impl<'a, A: Allocator + Copy> Sections<'a, A> {
                 soa: None,
                 rcode: 0,
             },
-            Some(told) => Sections {
+            Some(pieces) => Sections {
                 sets,
-                soa: soa_of(told),
-                rcode: rcode_of(told.piece),
+                soa: soa_of(pieces),
+                rcode: rcode_of(pieces.piece),
             },
         }
     }
 
     /// The sections of the answer from aliases that lead to a name whose route denies, with the
     /// seconds that it gives them: a name error without SOA (RFC 2308 2.1).
-    pub fn denied(alloc: A, aliases: &[ToldRef<'a, A>]) -> Result<Sections<'a, A>, AllocError>
+    pub fn denied(alloc: A, aliases: &[PieceWithTtl<'a, A>]) -> Result<Sections<'a, A>, AllocError>
         ensures { IfOk result (λ sections. sections ≡ local_sections aliases.now) }
     {
         let sets = sets_of(alloc, aliases)?;

@@ -5,7 +5,7 @@ use Rattle.std.specs.List.{remove, All}
 use Rattle.std.proofs.lemmas.Bool.{cases_lt}
 use Rattle.std.proofs.lemmas.List.{length-set, get_or-set_same, get_or-set_other, get_or_append_left, get_or-append_right}
 use Rattle.std.proofs.lemmas.List.Edits.{length-remove, get_or-remove_below, get_or-remove_above}
-use Rattle.arrival_order.specs.Turns.{AreNumbered, IsBehindAll}
+use Rattle.arrival_order.specs.Numbering.{AreNumbered, IsBehindAll}
 
 -- one more key, last, whose number is not below the others
 module _ (numbers keys : List ℕ) (key number : ℕ) (numbered : AreNumbered numbers keys) (behind : IsBehindAll numbers keys number) (new : All (λ k. k ≢ key) keys) (room : key < length numbers) where

@@ -3,7 +3,7 @@
 ghost use Rattle.std.specs.Prelude.{◌≡◌, ◌≢◌, ◌<◌, ◌≤◌, ◌==◌, ◌∷◌, ◌++◌, [], true, drop, length, OnOk, position};
 ghost use Rattle.std.specs.Prelude.{slice_get, slice_index};
 ghost use Rattle.std.specs.List.{remove, All, Contains};
-ghost use Rattle.arrival_order.specs.Turns.{AreNumbered, IsBehindAll};
+ghost use Rattle.arrival_order.specs.Numbering.{AreNumbered, IsBehindAll};
 
 use std::alloc::{AllocError, Allocator, Global};
 use std::collections::VecDeque;
@@ -22,7 +22,7 @@ pub struct ArrivalOrder<A: Allocator = Global> {
 impl<A: Allocator> Model for ArrivalOrder<A> {
     ghost use Rattle.std.specs.Prelude.{length, nat_lt};
     ghost use Rattle.std.specs.VecDeque.{deque_len, deque_capacity};
-    ghost use Rattle.arrival_order.specs.Turns.{AreNumbered, ArrivalOrder};
+    ghost use Rattle.arrival_order.specs.Numbering.{AreNumbered, ArrivalOrder};
 
     ghost Value = { ArrivalOrder };
 

@@ -15,7 +15,7 @@ use Rattle.outstanding.specs.declared.ask.Path.{Path}
 use Rattle.outstanding.specs.Draws.{udp_draw}
 use Rattle.outstanding.specs.Lists.{of_question}
 use Rattle.outstanding.specs.Values.{Ask}
-use Rattle.step_table.specs.State.{State, turn}
+use Rattle.step_table.specs.State.{State, start}
 use Rattle.waiting_questions.specs.Values.{Waiting}
 use Rattle.step_table.specs.Attempts.{preferred_on, peer_at, over_udp, ask_by, first_ask, first_ask_on}
 use Rattle.step_table.specs.Steps.{Done, with_promoted, idle_step, reply_step, failed, gives_up, taking_step, asks, tcp_count}
@@ -34,13 +34,13 @@ use Rattle.step_actions.specs.Decision.{changed}
 -- ---- a message without a question that is served
 
 pub dropped_row : (c : Config) (n : ℕ) (words : List ℕ) (client : Client) (octets : List ℕ) (s : State) (d : Done)
-    → is_taken octets ≡ false → d ≡ idle_step n s → d ≡ row_of_request (turn c n words s) client octets
+    → is_taken octets ≡ false → d ≡ idle_step n s → d ≡ row_of_request (start c n words s) client octets
 dropped_row c n words client octets s d dropped d_is = d_is ∙ sym (cond-false (is_taken octets) _ _ dropped)
 
 pub opcode_row : (c : Config) (n : ℕ) (words : List ℕ) (client : Client) (octets : List ℕ) (s : State) (h : Header)
     (d : Done) → is_taken octets ≡ true → h ≡ header_in octets → h.opcode ≢ 0
     → d ≡ reply_step n (failed client (asked_in h None) BadOpcode) s
-    → d ≡ row_of_request (turn c n words s) client octets
+    → d ≡ row_of_request (start c n words s) client octets
 opcode_row c n words client octets s h d taken is other d_is =
     d_is ∙ ap (λ (g : Header). reply_step n (failed client (asked_in g None) BadOpcode) s) is
     ∙ sym (cond-false ((header_in octets).opcode == 0) _ _
@@ -50,17 +50,17 @@ opcode_row c n words client octets s h d taken is other d_is =
 -- ---- a question that waits
 
 pub joined_row : (c : Config) (n : ℕ) (words : List ℕ) (x : Waiting) (s : State) (r : Option Ask) (a : Ask) (d : Done)
-    → r ≡ Some a → d ≡ taking_step n x None s → d ≡ row_of_inquiry (turn c n words s) x r
-joined_row c n words x s r a d is d_is = d_is ∙ sym (ap (row_of_inquiry (turn c n words s) x) is)
+    → r ≡ Some a → d ≡ taking_step n x None s → d ≡ row_of_inquiry (start c n words s) x r
+joined_row c n words x s r a d is d_is = d_is ∙ sym (ap (row_of_inquiry (start c n words s) x) is)
 
 pub new_row : (c : Config) (n : ℕ) (words : List ℕ) (x : Waiting) (s : State) (r : Option Ask) (d : Done) → r ≡ None
-    → d ≡ row_of_new_inquiry (turn c n words s) x → d ≡ row_of_inquiry (turn c n words s) x r
-new_row c n words x s r d is d_is = d_is ∙ sym (ap (row_of_inquiry (turn c n words s) x) is)
+    → d ≡ row_of_new_inquiry (start c n words s) x → d ≡ row_of_inquiry (start c n words s) x r
+new_row c n words x s r d is d_is = d_is ∙ sym (ap (row_of_inquiry (start c n words s) x) is)
 
 -- there is room for it
 pub waiting_row : (c : Config) (n : ℕ) (words : List ℕ) (x : Waiting) (s : State) (d : Done)
-    → length s.waiting < c.limits.questions → d ≡ row_of_inquiry (turn c n words s) x (of_question x.wanted s.asks)
-    → d ≡ row_of_waiting (turn c n words s) x
+    → length s.waiting < c.limits.questions → d ≡ row_of_inquiry (start c n words s) x (of_question x.wanted s.asks)
+    → d ≡ row_of_waiting (start c n words s) x
 waiting_row c n words x s d room d_is = d_is ∙ sym
     (cond-false (nat_le c.limits.questions (length s.waiting)) _ _
     (lt-leb c.limits.questions (length s.waiting) room))
@@ -73,7 +73,7 @@ fails_alike why (Some s) x = refl
 -- without room among the questions
 pub full_row : (c : Config) (n : ℕ) (words : List ℕ) (o : Option Onward) (x : Waiting) (s : State) (d : Done)
     → c.limits.questions ≤ length s.waiting → d ≡ reply_step n (gives_up QuestionsFull x) s
-    → d ≡ row_of_waiting (turn c n words s) (waits_on o x)
+    → d ≡ row_of_waiting (start c n words s) (waits_on o x)
 full_row c n words o x s d full d_is =
     d_is
     ∙ ap (λ (a : Action). reply_step n a s) (fails_alike QuestionsFull o x)
@@ -85,7 +85,7 @@ pub asked_first : (c : Config) (n : ℕ) (words : List ℕ) (q : Question) (rout
     (draw : Option (ℕ × ℕ)) (drawn : Option (ℕ × Path)) (ask : Option Ask) → server ≡ preferred_on s route
     → draw ≡ udp_draw words s.asks None
     → drawn ≡ over_udp draw → ask ≡ ask_by n q route server 1 (peer_at c route server) drawn
-    → ask ≡ first_ask (turn c n words s) q route
+    → ask ≡ first_ask (start c n words s) q route
 asked_first c n words q route s server draw drawn ask server_is draw_is drawn_is is =
     is ∙ (λ i. ask_by n q route (server_is i) 1 (peer_at c route (server_is i)) (drawn_is i))
     ∙ (λ i. ask_by n q route (preferred_on s route) 1 (peer_at c route (preferred_on s route)) (over_udp (draw_is i)))
@@ -94,13 +94,13 @@ asked_first c n words q route s server draw drawn ask server_is draw_is drawn_is
 pub opened_row : (c : Config) (n : ℕ) (words : List ℕ) (x : Waiting) (s : State) (used : List Slot) (route : ℕ)
     (q : Question) (a : Option Ask) (d : Done) → length s.asks < c.limits.inquiries
     → serving_route_of c x.wanted.name ≡ Some route → q ≡ x.wanted
-    → a ≡ first_ask (turn c n words s) q route → d ≡ row_of_opening n x (with_promoted used s) a
-    → d ≡ row_of_new_inquiry (turn c n words (with_promoted used s)) x
+    → a ≡ first_ask (start c n words s) q route → d ≡ row_of_opening n x (with_promoted used s) a
+    → d ≡ row_of_new_inquiry (start c n words (with_promoted used s)) x
 opened_row c n words x s used route q a d room on q_is a_is d_is =
     d_is
     ∙ ap (row_of_opening n x (with_promoted used s)) (a_is
-    ∙ ap (λ (z : Question). first_ask (turn c n words s) z route) q_is
-    ∙ sym (ap (first_ask_on (turn c n words (with_promoted used s)) x.wanted) on))
+    ∙ ap (λ (z : Question). first_ask (start c n words s) z route) q_is
+    ∙ sym (ap (first_ask_on (start c n words (with_promoted used s)) x.wanted) on))
     ∙ sym (cond-false (nat_le c.limits.inquiries (length s.asks)) _ _ (lt-leb c.limits.inquiries (length s.asks) room))
 
 -- a question that waits, and its ask

@@ -21,7 +21,7 @@ use Rattle.negative_cache.proofs.CallerLemmas.{found_fits}
 use Rattle.suffix_routes.specs.Serving.{serving_route_of}
 use Rattle.dns_message.specs.Questions.{asked_at}
 use Rattle.alias_chains.specs.LookingUp.{LookUpEnd, ends, too_long, missed, LookUp, missing, look_up_behind, look_up_after, one_too_many, through, look_up}
-use Rattle.step_table.specs.State.{State, turn}
+use Rattle.step_table.specs.State.{State, start}
 use Rattle.waiting_questions.specs.Values.{Waiting}
 use Rattle.step_table.specs.Steps.{Fate, with_promoted}
 use Rattle.step_table.specs.Clients.{row_of_fate, fate_missed, fate_of, row_of_look_up, row_of_route}
@@ -217,15 +217,15 @@ module _ (c : Config) (n : ℕ) (x : Waiting) (s : State) (seen : Seen)
 -- no route is looked for before the look-up: a name without one meets nothing
 pub looked_row : (c : Config) (n : ℕ) (words : List ℕ) (x : Waiting) (s : State)
     → AllByRecursion (IsOnRoute c) s.cache.entries
-    → row_of_look_up (turn c n words s) x (look_up c.routes n s.cache.entries most_aliases [] x.wanted)
-    ≡ row_of_route (turn c n words s) x (serving_route_of c x.wanted.name)
+    → row_of_look_up (start c n words s) x (look_up c.routes n s.cache.entries most_aliases [] x.wanted)
+    ≡ row_of_route (start c n words s) x (serving_route_of c x.wanted.name)
 looked_row c n words x s on = by (serving_route_of c x.wanted.name) refl
   where
     by : (r : Option ℕ) → serving_route_of c x.wanted.name ≡ r
-        → row_of_look_up (turn c n words s) x (look_up c.routes n s.cache.entries most_aliases [] x.wanted)
-        ≡ row_of_route (turn c n words s) x r
-    by None none = ap (row_of_look_up (turn c n words s) x) (nothing_met c n s.cache.entries on x.wanted none)
-        ∙ ap (λ (o : Option ℕ). row_of_fate (turn c n words s) (fate_missed c n x (missing [] x.wanted) o)) none
+        → row_of_look_up (start c n words s) x (look_up c.routes n s.cache.entries most_aliases [] x.wanted)
+        ≡ row_of_route (start c n words s) x r
+    by None none = ap (row_of_look_up (start c n words s) x) (nothing_met c n s.cache.entries on x.wanted none)
+        ∙ ap (λ (o : Option ℕ). row_of_fate (start c n words s) (fate_missed c n x (missing [] x.wanted) o)) none
     by (Some route) there = refl
 
 -- the entries that it used are promoted, and its fate is the table's
@@ -233,7 +233,7 @@ pub fate_row : (c : Config) (n : ℕ) (words : List ℕ) (x : Waiting) (s : Stat
     → AllByRecursion (IsOnRoute c) s.cache.entries
     → slots ≡ (look_up c.routes n s.cache.entries most_aliases [] x.wanted).used
     → fate ≡ fate_of c n x (look_up c.routes n s.cache.entries most_aliases [] x.wanted)
-    → row_of_fate (turn c n words (with_promoted slots s)) fate
-    ≡ row_of_route (turn c n words s) x (serving_route_of c x.wanted.name)
+    → row_of_fate (start c n words (with_promoted slots s)) fate
+    ≡ row_of_route (start c n words s) x (serving_route_of c x.wanted.name)
 fate_row c n words x s slots fate on slots_are fate_is =
-    (λ i. row_of_fate (turn c n words (with_promoted (slots_are i) s)) (fate_is i)) ∙ looked_row c n words x s on
+    (λ i. row_of_fate (start c n words (with_promoted (slots_are i) s)) (fate_is i)) ∙ looked_row c n words x s on

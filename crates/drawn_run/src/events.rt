@@ -8,7 +8,7 @@ use crate::replies::reply;
 use crate::turns::Turn;
 use plain_values::PlainList;
 use std::alloc::{AllocError, Global};
-use step_values::{Event, Handed, Path};
+use step_values::{Event, Path, StepInput};
 use suffix_routes::Peer;
 
 /// A server outside every configuration.
@@ -35,12 +35,12 @@ pub(crate) fn words(draws: &mut Draws, turn: Turn) -> [u32; 8] {
 
 /// A tick at a moment at which everything before is due. All last ticks have this moment, so a
 /// query sent meanwhile is not due.
-pub(crate) fn last_tick(words: [u32; 8], ledger: &Ledger) -> Handed {
+pub(crate) fn last_tick(words: [u32; 8], ledger: &Ledger) -> StepInput {
     let now = match ledger.waiting.last() {
         Some(question) => question.taken.saturating_add(PAST_ALL),
         None => ledger.moment,
     };
-    Handed {
+    StepInput {
         now,
         words,
         event: Event::Tick,
@@ -54,7 +54,7 @@ pub(crate) fn draw(
     turn: Turn,
     (words, number): ([u32; 8], u32),
     ledger: &Ledger,
-) -> Result<Handed, AllocError> {
+) -> Result<StepInput, AllocError> {
     let now = moment(draws, ledger.moment);
     let choice = draws.below(64);
     let event = if draws.one_in(2000) {
@@ -69,7 +69,7 @@ pub(crate) fn draw(
     } else {
         message(alloc, draws, number)?
     };
-    Ok(Handed { now, words, event })
+    Ok(StepInput { now, words, event })
 }
 
 /// The next moment: mostly a few milliseconds later, sometimes earlier, seldom so much later that

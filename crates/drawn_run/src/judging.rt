@@ -5,7 +5,7 @@ use crate::ledger::{Ledger, Query, Waiting};
 use crate::octets::number16;
 use crate::texts::{drawn_by_udp, drawn_over_tcp, is_dropped, is_query, is_reply};
 use std::alloc::{AllocError, Global};
-use step_values::{Action, Client, Event, Handed, Outcome, Path, Why};
+use step_values::{Action, Client, Event, Outcome, Path, StepInput, Why};
 use suffix_routes::{Limits, Peer};
 
 /// The kinds of a step's actions so far, in their order.
@@ -48,13 +48,13 @@ impl Judge {
     pub(crate) fn judge(
         &mut self,
         limits: Limits,
-        handed: &Handed,
+        input: &StepInput,
         outcome: &Outcome,
     ) -> Result<(), Fault> {
-        self.enter(handed)?;
+        self.enter(input)?;
         for place in 0..outcome.actions.len() {
             if let Some(action) = outcome.actions.get(place) {
-                self.act(handed, action)?;
+                self.act(input, action)?;
             }
         }
         self.end(limits, outcome)
@@ -62,11 +62,11 @@ impl Judge {
 
     /// Notes the event of a step. A client's message may not close a path; after a dropped message
     /// and a restart no action may follow.
-    fn enter(&mut self, handed: &Handed) -> Result<(), AllocError> {
-        self.ledger.pass(handed.now);
+    fn enter(&mut self, input: &StepInput) -> Result<(), AllocError> {
+        self.ledger.pass(input.now);
         self.done = Done::Nothing;
         self.place = 0;
-        match &handed.event {
+        match &input.event {
             Event::Client { client, bytes } if !is_dropped(bytes.as_slice()) => {
                 let octets = bytes.as_slice();
                 self.done = Done::Close;
@@ -88,7 +88,7 @@ impl Judge {
     }
 
     /// Judges one action: a close comes first, then the replies, and last a query.
-    fn act(&mut self, handed: &Handed, action: &Action) -> Result<(), Fault> {
+    fn act(&mut self, input: &StepInput, action: &Action) -> Result<(), Fault> {
         match action {
             Action::CloseUdp { port } => self.close(Path::Udp(*port)),
             Action::CloseTcp { conn } => self.close(Path::Tcp(*conn)),
@@ -101,7 +101,7 @@ impl Judge {
                 server,
                 bytes,
             } => {
-                let drawn = drawn_by_udp(handed.words, &self.ledger);
+                let drawn = drawn_by_udp(input.words, &self.ledger);
                 self.ask((Path::Udp(*port), *server), drawn, bytes.as_slice())
             }
             Action::AskTcp {
@@ -109,7 +109,7 @@ impl Judge {
                 server,
                 bytes,
             } => {
-                let drawn = drawn_over_tcp(handed.words, &self.ledger);
+                let drawn = drawn_over_tcp(input.words, &self.ledger);
                 self.ledger.over_tcp = self.ledger.over_tcp.saturating_add(1);
                 self.ask((Path::Tcp(*conn), *server), drawn, bytes.as_slice())
             }

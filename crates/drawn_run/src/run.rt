@@ -8,7 +8,7 @@ use crate::turns::{TURNS, Turn};
 use forwarder_core::Forwarder;
 use lru::DefaultHasher;
 use std::alloc::{AllocError, Global};
-use step_values::Handed;
+use step_values::StepInput;
 use suffix_routes::{Config, Limits};
 
 /// The seed of all draws.
@@ -75,9 +75,9 @@ impl Run {
         self.judge.ledger.restart();
         for number in 0..EVENTS {
             self.number = self.number.saturating_add(1);
-            let handed = self.next(alloc, turn, (EVENTS - number) as usize)?;
-            let outcome = forwarder.step(handed.now, handed.words, &handed.event)?;
-            self.judge.judge(limits, &handed, &outcome)?;
+            let input = self.next(alloc, turn, (EVENTS - number) as usize)?;
+            let outcome = forwarder.step(input.now, input.words, &input.event)?;
+            self.judge.judge(limits, &input, &outcome)?;
         }
         if self.judge.ledger.left() == 0 {
             Ok(())
@@ -88,7 +88,7 @@ impl Run {
 
     /// The next event, with `left` to come. An event may leave two pieces of work, and a tick does
     /// one.
-    fn next(&mut self, alloc: Global, turn: Turn, left: usize) -> Result<Handed, AllocError> {
+    fn next(&mut self, alloc: Global, turn: Turn, left: usize) -> Result<StepInput, AllocError> {
         let words = words(&mut self.draws, turn);
         let ledger = &self.judge.ledger;
         if left <= ledger.left().saturating_add(3) {

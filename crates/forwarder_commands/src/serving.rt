@@ -1,12 +1,12 @@
 //! The service: a forwarder over sockets, both of one configuration.
 
 ghost use Rattle.std.specs.Prelude.{◌≡◌, IfOk, IfErr, OnOk};
-ghost use Rattle.step_table.specs.Steps.{start};
-ghost use Rattle.wires.specs.Wire.{telling};
+ghost use Rattle.step_table.specs.Steps.{initial};
+ghost use Rattle.wires.specs.Wire.{journal};
 ghost use Rattle.replay_script.specs.Configs.{IsOfStream};
 ghost use Rattle.forwarder_commands.specs.Commands.{IsFaultOfStream};
-ghost use Rattle.forwarder_commands.specs.Service.{IsWireOf, ServesAndTells, ServesFrom, StopsServing};
-ghost use Rattle.forwarder_commands.specs.Service.{telling_of};
+ghost use Rattle.forwarder_commands.specs.Service.{IsWireOf, ServesAndReports, ServesFrom, StopsServing};
+ghost use Rattle.forwarder_commands.specs.Service.{journal_of};
 
 use crate::counted::Counted;
 use crate::fault::Fault;
@@ -39,7 +39,7 @@ where
     R: Print + Net + Clock + RandomSource,
     A: Allocator + Copy,
     T: Write,
-    ensures serves { OnOk result (ServesFrom (record { config = config; state = start config }) turns.number
+    ensures serves { OnOk result (ServesFrom (record { config = config; state = initial config }) turns.number
         (T.contents writer.old) (T.contents writer.new)) }
     ensures fault { IfErr result IsFaultOfStream }
 {
@@ -71,7 +71,7 @@ fn forwarder_of<R: RandomSource, A: Allocator + Copy>(
     alloc: A,
     config: Config<A>,
 ) -> Result<Forwarder<RandomState, A>, ReplayFault>
-    ensures new { IfOk result (λ forwarder. forwarder ≡ record { config = config; state = start config }) }
+    ensures new { IfOk result (λ forwarder. forwarder ≡ record { config = config; state = initial config }) }
     ensures fault { IfErr result IsOfStream }
 {
     let hasher = RandomState::new(rt)?;
@@ -89,17 +89,17 @@ fn serve_as_one<R: Net + Clock, A: Allocator + Copy, T: Write>(
     writer: &mut T,
 ) -> Result<(), Fault>
     requires { wire.old.deadline ≡ forwarder.old.config.limits.deadline_ms }
-    ensures stops { IfErr result (StopsServing forwarder.old (telling_of wire.old) turns forwarder.new
-        (telling_of wire.new) (T.contents writer.old) (T.contents writer.new)) }
-    ensures serves { OnOk result (ServesAndTells forwarder.old (telling_of wire.old) turns forwarder.new
-        (telling_of wire.new) (T.contents writer.old) (T.contents writer.new)) }
+    ensures stops { IfErr result (StopsServing forwarder.old (journal_of wire.old) turns forwarder.new
+        (journal_of wire.new) (T.contents writer.old) (T.contents writer.new)) }
+    ensures serves { OnOk result (ServesAndReports forwarder.old (journal_of wire.old) turns forwarder.new
+        (journal_of wire.new) (T.contents writer.old) (T.contents writer.new)) }
     ensures fault { IfErr result IsFaultOfStream }
 {
-    serve_and_tell(alloc, wire, forwarder, turns, writer)
+    serve_and_report(alloc, wire, forwarder, turns, writer)
 }
 
 /// Serves `turns` turns over a wire, and writes a line with the counts.
-fn serve_and_tell<H, A, W, T>(
+fn serve_and_report<H, A, W, T>(
     alloc: A,
     wire: &mut W,
     forwarder: &mut Forwarder<H, A>,
@@ -114,11 +114,11 @@ where
     // An `Err` comes of `serve`, and then nothing is written; or of the writer, and then all turns
     // were served.
     ensures stops { IfErr result (StopsServing forwarder.old
-        (telling (W.told wire.old) (W.fault_count wire.old)) turns forwarder.new
-        (telling (W.told wire.new) (W.fault_count wire.new)) (T.contents writer.old) (T.contents writer.new)) }
-    ensures serves { OnOk result (ServesAndTells forwarder.old
-        (telling (W.told wire.old) (W.fault_count wire.old)) turns forwarder.new
-        (telling (W.told wire.new) (W.fault_count wire.new)) (T.contents writer.old) (T.contents writer.new)) }
+        (journal (W.report wire.old) (W.fault_count wire.old)) turns forwarder.new
+        (journal (W.report wire.new) (W.fault_count wire.new)) (T.contents writer.old) (T.contents writer.new)) }
+    ensures serves { OnOk result (ServesAndReports forwarder.old
+        (journal (W.report wire.old) (W.fault_count wire.old)) turns forwarder.new
+        (journal (W.report wire.new) (W.fault_count wire.new)) (T.contents writer.old) (T.contents writer.new)) }
 {
     let served = match serve(alloc, wire, forwarder, turns) {
         Ok(served) => served,

@@ -5,7 +5,7 @@ use Rattle.suffix_routes.specs.Values.{Config}
 use Rattle.step_values.specs.Values.{Event, Action, actions_of, Outcome}
 use Rattle.trust_rank.specs.declared.slot.Slot.{Slot}
 use Rattle.trust_rank.specs.Values.{Piece}
-use Rattle.step_table.specs.State.{State, turn}
+use Rattle.step_table.specs.State.{State, start}
 use Rattle.alias_chains.specs.LookingUp.{promoted_all}
 use Rattle.alias_chains.specs.Offering.{put_all, unkept_of, pieces_of}
 use Rattle.step_table.specs.Steps.{offering_step, with_promoted, with_entries}
@@ -59,19 +59,19 @@ carried_out n rooms s d mid after unkept first second count =
 -- an outcome that is what was decided
 pub row_is : {A : Type 0} (c : Config) (s s' : State) (now n : ℕ) (words : List ℕ) (e : Event)
     (d : Option (Decision A)) (next : Decision A) (o : Outcome) → n ≡ effective now s → HandsOctets e
-    → IsDecided (turn c n words s) e d → d ≡ Some next
+    → IsDecided (start c n words s) e d → d ≡ Some next
     → ((rooms : List Bool) × IsOutcome c (next_of n rooms s next) o s')
     → Row c s (record { now = now; words = words; event = e }) o s'
 row_is {A} c s s' now n words e d next o moment octets decided is out =
     let rooms = out.0 in
     let done = out.1 in
-    let happens : Happens (turn c n words s) e (next_of n rooms s next) =
-    subst (IsDecided (turn c n words s) e) is decided rooms in
+    let happens : Happens (start c n words s) e (next_of n rooms s next) =
+    subst (IsDecided (start c n words s) e) is decided rooms in
     record {
       octets = octets;
-      happens = subst (λ (m : ℕ). Happens (turn c m words s) e
+      happens = subst (λ (m : ℕ). Happens (start c m words s) e
           (record { actions = o.actions; unkept = o.unkept; state = s' })) moment
-          (subst (Happens (turn c n words s) e) (sym done.done) happens);
+          (subst (Happens (start c n words s) e) (sym done.done) happens);
       more = done.more;
     }
 

@@ -45,15 +45,15 @@ later_same c m n k asks le all = All-weaker (IsKeptAsk c m k) (IsKeptAsk c n k) 
 -- ---- questions, later
 
 in_turn_put : (m : ℕ) (xs : List Waiting) (y : Waiting) → AreTakenInTurn xs → AllByRecursion (λ x. x.taken ≤ m) xs → m ≤ y.taken → AreTakenInTurn (xs ++ y ∷ [])
-in_turn_put m [] y turn all le = (tt, tt)
-in_turn_put m (x ∷ xs) y turn all le =
-    (All-append (λ (z : Waiting). x.taken ≤ z.taken) xs (y ∷ []) turn.0 (let at : x.taken ≤ m = all.0 in omega (arith, at, le), tt), in_turn_put m xs y turn.1 all.1 le)
+in_turn_put m [] y start all le = (tt, tt)
+in_turn_put m (x ∷ xs) y start all le =
+    (All-append (λ (z : Waiting). x.taken ≤ z.taken) xs (y ∷ []) start.0 (let at : x.taken ≤ m = all.0 in omega (arith, at, le), tt), in_turn_put m xs y start.1 all.1 le)
 
 in_turn_left : (test : Waiting → Bool) (xs : List Waiting) → AreTakenInTurn xs → AreTakenInTurn (filter test xs)
-in_turn_left test [] turn = tt
-in_turn_left test (x ∷ xs) turn = elim (test x) as (λ v. AreTakenInTurn (cond v (x ∷ filter test xs) (filter test xs))) [
-  | true ↦ (All-filter (λ (y : Waiting). x.taken ≤ y.taken) test xs turn.0, in_turn_left test xs turn.1)
-  | false ↦ in_turn_left test xs turn.1
+in_turn_left test [] start = tt
+in_turn_left test (x ∷ xs) start = elim (test x) as (λ v. AreTakenInTurn (cond v (x ∷ filter test xs) (filter test xs))) [
+  | true ↦ (All-filter (λ (y : Waiting). x.taken ≤ y.taken) test xs start.0, in_turn_left test xs start.1)
+  | false ↦ in_turn_left test xs start.1
 ]
 
 fewer : {X : Type 0} (test : X → Bool) (xs : List X) → length (filter test xs) ≤ length xs
@@ -164,16 +164,16 @@ same_taken : (P : ℕ → Type 0) (q : Question) (fates : List (Option Onward)) 
 same_taken P q fates xs all = all_settled (λ (x : Waiting). P x.taken) (λ o. Unit {0}) (λ s x any h. h) q fates xs (any_fate fates) all
 
 one_in_turn : (x : Waiting) (rest : List Waiting) → AllByRecursion (λ y. x.taken ≤ y.taken) rest → AreTakenInTurn rest → (o : Option Onward) → AreTakenInTurn (cons_option (left_by o x) rest)
-one_in_turn x rest after turn None = turn
-one_in_turn x rest after turn (Some s) = (after, turn)
+one_in_turn x rest after start None = start
+one_in_turn x rest after start (Some s) = (after, start)
 
 in_turn_settled : (q : Question) (fates : List (Option Onward)) (xs : List Waiting) → AreTakenInTurn xs → AreTakenInTurn (settled q fates xs)
-in_turn_settled q fates [] turn = tt
-in_turn_settled q [] (x ∷ xs) turn = turn
-in_turn_settled q (fate ∷ fates) (x ∷ xs) turn =
+in_turn_settled q fates [] start = tt
+in_turn_settled q [] (x ∷ xs) start = start
+in_turn_settled q (fate ∷ fates) (x ∷ xs) start =
     cond_both (waits_for q x) (cons_option (left_by fate x) (settled q fates xs)) (x ∷ settled q (fate ∷ fates) xs) AreTakenInTurn
-    (λ _. one_in_turn x (settled q fates xs) (same_taken (λ t. x.taken ≤ t) q fates xs turn.0) (in_turn_settled q fates xs turn.1) fate)
-    (λ _. (same_taken (λ t. x.taken ≤ t) q (fate ∷ fates) xs turn.0, in_turn_settled q (fate ∷ fates) xs turn.1))
+    (λ _. one_in_turn x (settled q fates xs) (same_taken (λ t. x.taken ≤ t) q fates xs start.0) (in_turn_settled q fates xs start.1) fate)
+    (λ _. (same_taken (λ t. x.taken ≤ t) q (fate ∷ fates) xs start.0, in_turn_settled q (fate ∷ fates) xs start.1))
 
 one_no_more : (x : Waiting) (rest xs : List Waiting) → length rest ≤ length xs → (o : Option Onward) → length (cons_option (left_by o x) rest) ≤ length (x ∷ xs)
 one_no_more x rest xs less None = omega (arith, less)

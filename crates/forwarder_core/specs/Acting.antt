@@ -1,7 +1,7 @@
 -- The effects of an event and of a change.
 use Rattle.std.specs.Prelude.{◌≡◌, ℕ, ◌^◌, ◌≤◌, Result, IfOk, OnOk, OnErr, IsOk}
 use Rattle.std.specs.declared.alloc.AllocError.{AllocError}
-use Rattle.step_values.specs.Values.{Handed, Outcome}
+use Rattle.step_values.specs.Values.{StepInput, Outcome}
 use Rattle.step_table.specs.State.{Running}
 use Rattle.step_table.specs.Row.{TakesNoMemory, effective, Row}
 use Rattle.step_actions.specs.declared.decision.Change.{Change}
@@ -10,11 +10,11 @@ use Rattle.step_actions.specs.Decision.{FitsChange, changed}
 
 -- The forwarder acted on an event by the event's row of the table. If memory ran out nothing
 -- changed; events without allocations never run out of memory.
-pub record Acts (before : Running) (handed : Handed) (result : Result Outcome AllocError)
+pub record Acts (before : Running) (input : StepInput) (result : Result Outcome AllocError)
     (after : Running) : Type 0 where
-  pub row : IfOk result (λ outcome. Row before.config before.state handed outcome after.state)
+  pub row : IfOk result (λ outcome. Row before.config before.state input outcome after.state)
   pub config : after.config ≡ before.config
-  pub no_memory : TakesNoMemory before.config (effective handed.now before.state) before.state handed.event
+  pub no_memory : TakesNoMemory before.config (effective input.now before.state) before.state input.event
       → IsOk result
   pub err : OnErr result (after ≡ before)
 

@@ -10,40 +10,40 @@ use record_cache::LookUpSlot;
 use reply_decisions::{on_delivery, on_failed_path, on_tick};
 use std::alloc::{AllocError, Allocator};
 use std::hash::BuildHasher;
-use step_actions::{Decision, TurnRef};
+use step_actions::{Decision, StepStartRef};
 use step_values::Event;
 
 /// The decision on an event; `None` for a restart. The slot may be any: it serves a look-up, and
 /// the decision may borrow it.
 pub(crate) fn decide<'a, 's, H: BuildHasher + Drop, A: Allocator + Copy>(
-    turn: &TurnRef<'a, H, A>,
+    start: &StepStartRef<'a, H, A>,
     slot: &'s mut LookUpSlot,
     event: &Event<A>,
 ) -> Result<Option<Decision<'a, 's, A>>, AllocError>
-    ensures row { IfOk result (λ next. IsDecided turn.now (event_of event.now) next) }
-    ensures no_memory { TakesNoMemory turn.now.config turn.now.moment turn.now.state (event_of event.now)
+    ensures row { IfOk result (λ next. IsDecided start.now (event_of event.now) next) }
+    ensures no_memory { TakesNoMemory start.now.config start.now.moment start.now.state (event_of event.now)
         → IsDecidedQuietly result }
-    ensures fits { IfOk result (λ next. IfSome next (λ some. CanChange turn.now.config turn.now.moment
-        turn.now.state some)) }
+    ensures fits { IfOk result (λ next. IfSome next (λ some. CanChange start.now.config start.now.moment
+        start.now.state some)) }
     ensures octets { IfOk result (λ _. HandsOctets (event_of event.now)) }
 {
     match event {
         Event::Client { client, bytes } => {
             let octets = bytes.as_slice();
-            let next = on_client(turn, slot, *client, octets)?;
+            let next = on_client(start, slot, *client, octets)?;
             Ok(Some(next))
         }
         Event::Delivery { path, from, bytes } => {
             let octets = bytes.as_slice();
-            let next = on_delivery(turn, *path, *from, octets)?;
+            let next = on_delivery(start, *path, *from, octets)?;
             Ok(Some(next))
         }
         Event::PathFailed { path } => {
-            let next = on_failed_path(turn, *path)?;
+            let next = on_failed_path(start, *path)?;
             Ok(Some(next))
         }
         Event::Tick => {
-            let next = on_tick(turn)?;
+            let next = on_tick(start)?;
             Ok(Some(next))
         }
         Event::Restart => Ok(None),

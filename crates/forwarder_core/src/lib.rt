@@ -7,4 +7,4 @@ mod forwarder;
 mod lists;
 
 pub use forwarder::Forwarder;
-pub use step_values::{Action, Actions, Client, Event, Handed, Outcome, Path, Step, Why};
+pub use step_values::{Action, Actions, Client, Event, Outcome, Path, Step, StepInput, Why};

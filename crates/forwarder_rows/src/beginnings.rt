@@ -2,8 +2,8 @@
 
 ghost use Rattle.std.specs.Prelude.{◌≤◌};
 
-use crate::script::{Heap, Runner, Script, handed_in, run_again, run_first};
-use forwarder_core::{Event, Handed};
+use crate::script::{Heap, Runner, Script, input_in, run_again, run_first};
+use forwarder_core::{Event, StepInput};
 use plain_values::PlainList;
 use replay_script::{MOST_LINES, ReplayFault};
 use std::alloc::AllocError;
@@ -24,9 +24,9 @@ pub(crate) fn tell_beginnings<W: Write>(
 ) -> Result<(), ReplayFault>
     requires { number ≤ MOST_LINES }
 {
-    let handed = handed_in(script, number, line)?;
+    let input = input_in(script, number, line)?;
     let mut forwarder = run_first(script, number.saturating_sub(1))?;
-    hand_beginnings(script, &mut forwarder, number, &handed, writer)
+    hand_beginnings(script, &mut forwarder, number, &input, writer)
 }
 
 /// Makes a step with each beginning of a message on a forwarder that has run the lines before.
@@ -34,13 +34,13 @@ fn hand_beginnings<'a, W: Write>(
     script: Script<'a, '_>,
     forwarder: &mut Runner<'a>,
     number: u32,
-    handed: &Handed<Heap<'a>>,
+    input: &StepInput<Heap<'a>>,
     writer: &mut W,
 ) -> Result<(), ReplayFault>
     requires { number ≤ MOST_LINES }
 {
-    for end in 0..octets_of(&handed.event).len() {
-        if is_idle_at(script.heap, forwarder, handed, end)? {
+    for end in 0..octets_of(&input.event).len() {
+        if is_idle_at(script.heap, forwarder, input, end)? {
             continue;
         }
         if end < LEAST {
@@ -63,11 +63,11 @@ pub(crate) fn octets_of<'e>(event: &'e Event<Heap<'_>>) -> &'e [u8] {
 fn is_idle_at<'a>(
     heap: Heap<'a>,
     forwarder: &mut Runner<'a>,
-    handed: &Handed<Heap<'a>>,
+    input: &StepInput<Heap<'a>>,
     end: usize,
 ) -> Result<bool, ReplayFault> {
-    let event = cut_to(heap, &handed.event, end)?;
-    let outcome = forwarder.step(handed.now, handed.words, &event)?;
+    let event = cut_to(heap, &input.event, end)?;
+    let outcome = forwarder.step(input.now, input.words, &event)?;
     Ok(outcome.actions.is_empty())
 }
 

@@ -4,8 +4,8 @@
 ghost use Rattle.std.specs.Prelude.{◌≤◌};
 
 use crate::beginnings::octets_of;
-use crate::script::{Heap, Runner, Script, handed_in, lines_of};
-use forwarder_core::{Handed, Outcome};
+use crate::script::{Heap, Runner, Script, input_in, lines_of};
+use forwarder_core::{Outcome, StepInput};
 use replay_script::{MOST_LINES, ReplayFault};
 use std::io::Write;
 
@@ -76,8 +76,8 @@ pub(crate) fn run_narrow<'a, W: Write>(
 ) -> Result<(), ReplayFault>
     requires { number ≤ MOST_LINES }
 {
-    let handed = handed_in(script, number, line)?;
-    let lines = narrow_lines(script, forwarder, number, &handed)?;
+    let input = input_in(script, number, line)?;
+    let lines = narrow_lines(script, forwarder, number, &input)?;
     writer.write_all(&lines)?;
     Ok(())
 }
@@ -87,11 +87,11 @@ fn narrow_lines<'a>(
     script: Script<'a, '_>,
     forwarder: &mut Runner<'a>,
     number: u32,
-    handed: &Handed<Heap<'a>>,
+    input: &StepInput<Heap<'a>>,
 ) -> Result<Vec<u8>, ReplayFault> {
-    let octets = octets_of(&handed.event).len();
+    let octets = octets_of(&input.event).len();
     script.heap.refuse_above(octets.saturating_add(SPARE));
-    let outcome = forwarder.step(handed.now, handed.words, &handed.event);
+    let outcome = forwarder.step(input.now, input.words, &input.event);
     script.heap.refuse_above(usize::MAX);
     told_of(script, number, &outcome?)
 }

@@ -2,8 +2,8 @@
 
 ghost use Rattle.std.specs.Prelude.{◌≤◌};
 
-use crate::script::{Heap, Runner, Script, handed_in, lines_of, read_in, run_first};
-use forwarder_core::{Event, Handed, Outcome, Step};
+use crate::script::{Heap, Runner, Script, input_in, lines_of, read_in, run_first};
+use forwarder_core::{Event, Outcome, Step, StepInput};
 use network_model::run_list;
 use replay_script::{MOST_LINES, ReplayFault};
 use std::io::Write;
@@ -108,8 +108,8 @@ fn done_at<'a>(
 ) -> Result<Vec<u8>, ReplayFault>
     requires { number ≤ MOST_LINES }
 {
-    let handed = handed_in(script, number, line)?;
-    let outcome = forwarder.step(handed.now, handed.words, &handed.event)?;
+    let input = input_in(script, number, line)?;
+    let outcome = forwarder.step(input.now, input.words, &input.event)?;
     told_of(script, number, &outcome)
 }
 
@@ -119,32 +119,32 @@ fn run_behind<'a>(
     number: u32,
 ) -> Result<Vec<Step<Heap<'a>>, Heap<'a>>, ReplayFault> {
     let config = read_in(script)?;
-    let handed = handed_behind(script, number)?;
-    Ok(run_list(script.heap, &config, &handed)?)
+    let input = input_after(script, number)?;
+    Ok(run_list(script.heap, &config, &input)?)
 }
 
 /// The inputs of the lines after line `number`, up to a refused line.
-fn handed_behind<'a>(
+fn input_after<'a>(
     script: Script<'a, '_>,
     number: u32,
-) -> Result<Vec<Handed<Heap<'a>>, Heap<'a>>, ReplayFault> {
-    let mut handed = Vec::new(script.heap);
+) -> Result<Vec<StepInput<Heap<'a>>, Heap<'a>>, ReplayFault> {
+    let mut input = Vec::new(script.heap);
     let mut lines = script.events.split(|octet| *octet == b'\n');
     for before in 0..MOST_LINES {
         let Some(line) = lines.next() else {
-            return Ok(handed);
+            return Ok(input);
         };
         if before < number {
             continue;
         }
-        handed.reserve(1)?;
-        match handed_in(script, before + 1, line) {
-            Ok(entry) => handed.push_reserved(entry),
-            Err(ReplayFault::Line(_)) => return Ok(handed),
+        input.reserve(1)?;
+        match input_in(script, before + 1, line) {
+            Ok(entry) => input.push_reserved(entry),
+            Err(ReplayFault::Line(_)) => return Ok(input),
             Err(fault) => return Err(fault),
         }
     }
-    Ok(handed)
+    Ok(input)
 }
 
 /// An outcome as text: its printed lines, the number of pieces not kept, and whether more is due.

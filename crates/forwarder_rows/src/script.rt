@@ -2,10 +2,10 @@
 
 ghost use Rattle.std.specs.Prelude.{◌≤◌};
 
-use forwarder_core::{Forwarder, Handed, Outcome};
+use forwarder_core::{Forwarder, Outcome, StepInput};
 use lru::DefaultHasher;
 use refusing_allocator::Refusing;
-use replay_script::{MOST_LINES, ReplayFault, handed_by, parts, print, read_config};
+use replay_script::{MOST_LINES, ReplayFault, input_of_line, parts, print, read_config};
 use std::alloc::Global;
 use std::io::Write;
 use suffix_routes::Config;
@@ -133,23 +133,23 @@ pub(crate) fn run_again<'a>(
         let Some(line) = lines.next() else {
             return Ok(());
         };
-        let handed = handed_in(script, before + 1, line)?;
-        let _outcome = forwarder.step(handed.now, handed.words, &handed.event)?;
+        let input = input_in(script, before + 1, line)?;
+        let _outcome = forwarder.step(input.now, input.words, &input.event)?;
     }
     Ok(())
 }
 
 /// The input of a line.
-pub(crate) fn handed_in<'a>(
+pub(crate) fn input_in<'a>(
     script: Script<'a, '_>,
     number: u32,
     line: &[u8],
-) -> Result<Handed<Heap<'a>>, ReplayFault>
+) -> Result<StepInput<Heap<'a>>, ReplayFault>
     requires { number ≤ MOST_LINES }
 {
-    let mut handed = handed_by(script.heap, number, line)?;
-    handed.words = script.way.words().unwrap_or(handed.words);
-    Ok(handed)
+    let mut input = input_of_line(script.heap, number, line)?;
+    input.words = script.way.words().unwrap_or(input.words);
+    Ok(input)
 }
 
 /// The lines of an outcome in a row.

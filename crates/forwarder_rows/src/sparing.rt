@@ -2,8 +2,8 @@
 
 ghost use Rattle.std.specs.Prelude.{◌≤◌};
 
-use crate::script::{Heap, Runner, Script, Way, handed_in, lines_of, run_first};
-use forwarder_core::{Event, Handed, Outcome};
+use crate::script::{Heap, Runner, Script, Way, input_in, lines_of, run_first};
+use forwarder_core::{Event, Outcome, StepInput};
 use replay_script::{MOST_LINES, ReplayFault};
 use std::io::Write;
 
@@ -17,7 +17,7 @@ struct Trial<'t, 'a, 's> {
     /// The number of the line, from 1.
     number: u32,
     /// The input of the line.
-    handed: &'t Handed<Heap<'a>>,
+    input: &'t StepInput<Heap<'a>>,
 }
 
 /// The refused allocations of a step.
@@ -110,14 +110,14 @@ pub(crate) fn run_line<'a, W: Write>(
 ) -> Result<(), ReplayFault>
     requires { number ≤ MOST_LINES }
 {
-    let handed = handed_in(script, number, line)?;
+    let input = input_in(script, number, line)?;
     let trial = Trial {
         script,
         number,
-        handed: &handed,
+        input: &input,
     };
     let whole = made_with(&trial, forwarder, Refused::One(0))?;
-    tell_first(writer, number, is_of_client(&handed.event), &whole)?;
+    tell_first(writer, number, is_of_client(&input.event), &whole)?;
     writer.write_all(&whole.lines)?;
     refuse_each(&trial, &whole, writer)
 }
@@ -258,9 +258,9 @@ fn made_with<'a>(
     forwarder: &mut Runner<'a>,
     refused: Refused,
 ) -> Result<Made, ReplayFault> {
-    let handed = trial.handed;
+    let input = trial.input;
     refused.begin(trial.script.heap);
-    let outcome = forwarder.step(handed.now, handed.words, &handed.event);
+    let outcome = forwarder.step(input.now, input.words, &input.event);
     let is_spared = refused.end(trial.script.heap);
     match outcome {
         Ok(outcome) if is_spared => made_of(trial, End::Spared, &outcome),
@@ -274,8 +274,8 @@ fn made_again<'a>(
     trial: &Trial<'_, 'a, '_>,
     forwarder: &mut Runner<'a>,
 ) -> Result<Made, ReplayFault> {
-    let handed = trial.handed;
-    let outcome = forwarder.step(handed.now, handed.words, &handed.event)?;
+    let input = trial.input;
+    let outcome = forwarder.step(input.now, input.words, &input.event)?;
     made_of(trial, End::Again, &outcome)
 }
 

@@ -5,7 +5,7 @@ pub mod Climbing
 pub mod SlotBySlot
 pub mod Fitting
 pub mod Keeping
-pub mod PastEnds
+pub mod StaleLookUps
 pub mod Forgetting
 pub mod Ways
 pub mod Worked

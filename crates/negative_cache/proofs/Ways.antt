@@ -11,7 +11,7 @@ use Rattle.negative_cache.specs.Finding.{found, found_or}
 use Rattle.negative_cache.specs.Stale.{stale}
 use Rattle.negative_cache.specs.BySlot.{Slots, only, slots_of, typed_entry, alias_at, nearest_error, entry_within, alias_within}
 use Rattle.negative_cache.proofs.Keeping.{by_slot}
-use Rattle.negative_cache.proofs.PastEnds.{by_slot_within}
+use Rattle.negative_cache.proofs.StaleLookUps.{by_slot_within}
 
 module _ (at : CacheAt) (q : Question) (held : AreHeld at.cache) where
   abbrev slots : Slots

@@ -7,6 +7,6 @@ mod run;
 
 pub use recorded::Recorded;
 pub use run::run_list;
-pub use script_wire::{ScriptRound, ScriptWire};
+pub use script_wire::{ScriptTurn, ScriptWire};
 pub use serving_loop::{Served, serve};
 pub use wires::{Arrival, Wire, WireFault};

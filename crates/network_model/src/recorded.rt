@@ -3,14 +3,14 @@
 ghost use Rattle.std.specs.Prelude.{◌≡◌, ◌∷◌, ◌++◌, [], IfOk, OnOk, OnErr};
 ghost use Rattle.step_values.specs.Values.{Outcome};
 ghost use Rattle.step_table.specs.Row.{Row};
-ghost use Rattle.step_table.specs.Steps.{start};
+ghost use Rattle.step_table.specs.Steps.{initial};
 ghost use Rattle.theorem_use.specs.Service.{ServesTruly};
 
 use forwarder_core::Forwarder;
 use std::alloc::{AllocError, Allocator, Global};
 use std::hash::BuildHasher;
 use std::marker::Model;
-use step_values::{Handed, Step};
+use step_values::{Step, StepInput};
 use suffix_routes::Config;
 
 /// A forwarder and its steps since it was new. They serve truly at each moment.
@@ -35,7 +35,7 @@ impl<H: BuildHasher + Drop, A: Allocator + Copy> Recorded<H, A> {
     /// A new forwarder, without steps.
     pub fn new(alloc: A, config: Config<A>, hasher: H) -> Result<Recorded<H, A>, AllocError>
         ensures { IfOk result (λ recorded. recorded
-            ≡ record { running = record { config = config; state = start config }; steps = [] }) }
+            ≡ record { running = record { config = config; state = initial config }; steps = [] }) }
     {
         let forwarder = Forwarder::new(alloc, config, hasher)?;
         Ok(Recorded {
@@ -53,20 +53,18 @@ impl<H: BuildHasher + Drop, A: Allocator + Copy> Recorded<H, A> {
     }
 
     /// Makes a step, and stores its input and outcome.
-    pub fn step(&mut self, handed: Handed<A>) -> Result<(), AllocError>
+    pub fn step(&mut self, input: StepInput<A>) -> Result<(), AllocError>
         ensures ok { OnOk result ((outcome : Outcome)
             × (self.new.steps
-            ≡ self.old.steps ++ record { handed = handed; outcome = outcome } ∷ [])
-            × Row self.old.running.config self.old.running.state handed outcome
+            ≡ self.old.steps ++ record { input = input; outcome = outcome } ∷ [])
+            × Row self.old.running.config self.old.running.state input outcome
             self.new.running.state) }
         ensures config { self.new.running.config ≡ self.old.running.config }
         ensures err { OnErr result (self.new ≡ self.old) }
     {
         self.steps.reserve(1)?;
-        let outcome = self
-            .forwarder
-            .step(handed.now, handed.words, &handed.event)?;
-        self.steps.push_reserved(Step { handed, outcome });
+        let outcome = self.forwarder.step(input.now, input.words, &input.event)?;
+        self.steps.push_reserved(Step { input, outcome });
         Ok(())
     }
 }

@@ -2,25 +2,25 @@
 
 ghost use Rattle.std.specs.Prelude.{◌≡◌, map, IfOk};
 ghost use Rattle.step_table.specs.State.{State};
-ghost use Rattle.step_table.specs.Steps.{start};
+ghost use Rattle.step_table.specs.Steps.{initial};
 ghost use Rattle.theorem_sound.specs.Runs.{Run};
 ghost use Rattle.theorem_use.specs.Service.{ServesTruly};
 
 use forwarder_core::Forwarder;
 use lru::DefaultHasher;
 use std::alloc::{AllocError, Allocator};
-use step_values::{Handed, Step};
+use step_values::{Step, StepInput};
 use suffix_routes::Config;
 
 /// The steps of a new forwarder with these inputs in order.
 pub fn run_list<A: Allocator + Copy>(
     alloc: A,
     config: &Config<A>,
-    handed: &[Handed<A>],
+    input: &[StepInput<A>],
 ) -> Result<Vec<Step<A>, A>, AllocError>
-    ensures handed { IfOk result (λ steps. map (λ s. s.handed) steps.items ≡ handed.now) }
+    ensures input { IfOk result (λ steps. map (λ s. s.input) steps.items ≡ input.now) }
     ensures run { IfOk result (λ steps. (last : State)
-        × Run config.now (start config.now) steps.items last) }
+        × Run config.now (initial config.now) steps.items last) }
     // With one list of owners of the replies: each reply is right for its owner's question. Each
     // step reports whether more is due, and the questions without a reply are no more than may
     // wait. The listed asks are apart, each goes to a right server, and each is wanted by a waiting
@@ -31,11 +31,11 @@ pub fn run_list<A: Allocator + Copy>(
     let own = config.copy(alloc)?;
     let mut forwarder = Forwarder::new(alloc, own, DefaultHasher::default())?;
     let mut steps = Vec::new(alloc);
-    for entry in handed {
+    for entry in input {
         let entry = entry.copy(alloc)?;
         let outcome = forwarder.step(entry.now, entry.words, &entry.event)?;
         steps.push(Step {
-            handed: entry,
+            input: entry,
             outcome,
         })?;
     }

@@ -93,8 +93,8 @@ pub record Placed (s : Slab Ask) (by_path by_question by_arrival : List ℕ) (pa
   pub at_path : IsAt (to_path path) s by_path i
   pub path_is : slice_index by_path i ≡ key
   pub at_question : IsAt (to_question (question_key a.question)) s by_question j
-  pub turn_in : t < length by_arrival
-  pub turn_is : slice_index by_arrival t ≡ key
+  pub arrival_rank_in : t < length by_arrival
+  pub arrival_rank_is : slice_index by_arrival t ≡ key
 
 module _ (s : Slab Ask) (by_path by_question by_arrival : List ℕ) (indexed : AreIndexed s by_path by_question by_arrival) where
   pub has_question : (key : ℕ) (a : Ask) → get s key ≡ Some a → (j : ℕ) → IsGap (to_question (question_key a.question)) s by_question j → ⊥
@@ -117,17 +117,17 @@ module _ (s : Slab Ask) (by_path by_question by_arrival : List ℕ) (indexed : A
         paths_rise = rises_left by_path i key placed.at_path.in_range placed.path_is s s' indexed.paths updates path_cmp (λ a. a.path) indexed.paths_rise;
         questions = covers_left by_question j key placed.at_question.in_range question_place s s' indexed.questions updates;
         questions_rise = rises_left by_question j key placed.at_question.in_range question_place s s' indexed.questions updates key_cmp (λ a. question_key a.question) indexed.questions_rise;
-        turns = covers_left by_arrival t key placed.turn_in placed.turn_is s s' indexed.turns updates;
+        turns = covers_left by_arrival t key placed.arrival_rank_in placed.arrival_rank_is s s' indexed.turns updates;
       }
 
       pub take_asks : asks_under s' (remove by_arrival t) ≡ without_path path (asks_under s by_arrival)
       take_asks =
-          same_under s s' (remove by_arrival t) (same_left by_arrival t key placed.turn_in placed.turn_is s s' indexed.turns updates)
+          same_under s s' (remove by_arrival t) (same_left by_arrival t key placed.arrival_rank_in placed.arrival_rank_is s s' indexed.turns updates)
           ∙ without_in path_cmp path_total (λ a. a.path) path (λ a. same_path a.path path) (λ a. same_path_is a.path path) s by_path by_arrival indexed.paths indexed.paths_rise indexed.turns
-          i placed.at_path a first t placed.turn_in (placed.turn_is ∙ sym placed.path_is)
+          i placed.at_path a first t placed.arrival_rank_in (placed.arrival_rank_is ∙ sym placed.path_is)
 
       pub take_len : length (asks_under s' (remove by_arrival t)) + 1 ≡ length (asks_under s by_arrival)
-      take_len = omega (arith, length_under s' (remove by_arrival t) take_indexed.turns.present, length_under s by_arrival indexed.turns.present, length-remove by_arrival t placed.turn_in)
+      take_len = omega (arith, length_under s' (remove by_arrival t) take_indexed.turns.present, length_under s by_arrival indexed.turns.present, length-remove by_arrival t placed.arrival_rank_in)
 
 -- ---- by lists of keys
 

@@ -148,10 +148,10 @@ impl<A: Allocator> Table<A> {
         let Ok(question) = place_of(&self.asks, &self.by_question, self.asks[key].key()) else {
             unreachable!();
         };
-        let turn = self.by_arrival.place_of(key);
+        let arrival_rank = self.by_arrival.place_of(key);
         take_key(&mut self.by_path, place);
         take_key(&mut self.by_question, question);
-        self.by_arrival.take(turn);
+        self.by_arrival.take(arrival_rank);
         Some(self.asks.remove(key))
     }
 

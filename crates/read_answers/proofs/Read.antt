@@ -10,8 +10,8 @@ use Rattle.dns_message.proofs.CallerLemmas.{one_message_is_spelled}
 use Rattle.trust_rank.specs.Values.{Body, rows, no_data, denied, Piece}
 use Rattle.record_cache.specs.Values.{Held}
 use Rattle.record_cache.specs.Ageing.{seconds_left}
-use Rattle.answer_builder.specs.Values.{Told, Asked, Sections, asked_in}
-use Rattle.answer_builder.specs.Answers.{record_of, records_in, aged, soa_records, rcode_of, told_at}
+use Rattle.answer_builder.specs.Values.{PieceWithTtl, Asked, Sections, asked_in}
+use Rattle.answer_builder.specs.Answers.{record_of, records_in, aged, soa_records, rcode_of, with_ttl}
 use Rattle.answer_builder.specs.Answers.{answers_of, last_of, authority_of, sections_of, full_answer}
 use Rattle.answer_builder.specs.Answers.{cut_answer}
 use Rattle.step_history.specs.History.{Look, moment_at}
@@ -40,7 +40,7 @@ each_shown t o kind (datum ∷ each) =
 
 -- the records of a piece that is a set
 set_shown : (t : ℕ) (o : Held) (kind : ℕ) (each : List (List ℕ)) → o.piece.slot.kind ≡ Some kind
-    → o.piece.body ≡ rows each → IsWholeSet t o (answers_of (told_at t o))
+    → o.piece.body ≡ rows each → IsWholeSet t o (answers_of (with_ttl t o))
 set_shown t o kind each kind_is body = record {
   kind = kind;
   each = each;
@@ -76,7 +76,7 @@ no_records ttl p (Some kind) (denied soa) h = refl
 no_records ttl p None body h = refl
 
 end_shown : (t : ℕ) (o : Held) (q : Question) (body : Body) → o.piece.body ≡ body → EndsChain q o.piece body
-    → EndWith t o body (answers_of (told_at t o)) (soa_records (seconds_left t o) body) (rcode_of body)
+    → EndWith t o body (answers_of (with_ttl t o)) (soa_records (seconds_left t o) body) (rcode_of body)
 end_shown t o q (rows each) is h = (set_shown t o q.kind each h.kind is, refl, refl)
 end_shown t o q (no_data soa) is h = (
   no_records (seconds_left t o) o.piece o.piece.slot.kind o.piece.body
@@ -94,11 +94,11 @@ end_shown t o q (denied soa) is h = (
 -- ---- the aliases
 
 aliases_shown : (l : Look) (t : ℕ) (q last : Question) (os : List Held) (end : Held) → FollowsAliases l q os last
-    → BeginWith t os (flat_map answers_of (map (told_at t) (os ++ end ∷ []))) (answers_of (told_at t end))
-aliases_shown l t q last [] end h = append-nil (answers_of (told_at t end))
+    → BeginWith t os (flat_map answers_of (map (with_ttl t) (os ++ end ∷ []))) (answers_of (with_ttl t end))
+aliases_shown l t q last [] end h = append-nil (answers_of (with_ttl t end))
 aliases_shown l t q last (o ∷ os) end h = (
-  answers_of (told_at t o),
-  flat_map answers_of (map (told_at t) (os ++ end ∷ [])),
+  answers_of (with_ttl t o),
+  flat_map answers_of (map (with_ttl t) (os ++ end ∷ [])),
   refl,
   set_shown t o 5 (h.4.datum ∷ []) h.2.kind h.4.body,
   aliases_shown l t (asked_at q h.3) last os end h.5,
@@ -106,25 +106,25 @@ aliases_shown l t q last (o ∷ os) end h = (
 
 -- ---- sections
 
-last_told : (t : ℕ) (x : Told) (os : List Held) (end : Held) → last_of x (map (told_at t) (os ++ end ∷ []))
-    ≡ told_at t end
+last_told : (t : ℕ) (x : PieceWithTtl) (os : List Held) (end : Held) → last_of x (map (with_ttl t) (os ++ end ∷ []))
+    ≡ with_ttl t end
 last_told t x [] end = refl
-last_told t x (o ∷ os) end = last_told t (told_at t o) os end
+last_told t x (o ∷ os) end = last_told t (with_ttl t o) os end
 
 -- the sections of a chain are those of its pieces in order, and of its last piece
 answers_are : (t : ℕ) (os : List Held) (end : Held)
-    → (sections_of t (os ++ end ∷ [])).answers ≡ flat_map answers_of (map (told_at t) (os ++ end ∷ []))
+    → (sections_of t (os ++ end ∷ [])).answers ≡ flat_map answers_of (map (with_ttl t) (os ++ end ∷ []))
 answers_are t [] end = refl
 answers_are t (o ∷ os) end = refl
 
 authority_is : (t : ℕ) (os : List Held) (end : Held)
     → (sections_of t (os ++ end ∷ [])).authority ≡ soa_records (seconds_left t end) end.piece.body
 authority_is t [] end = refl
-authority_is t (o ∷ os) end = ap authority_of (last_told t (told_at t o) os end)
+authority_is t (o ∷ os) end = ap authority_of (last_told t (with_ttl t o) os end)
 
 rcode_is : (t : ℕ) (os : List Held) (end : Held) → (sections_of t (os ++ end ∷ [])).rcode ≡ rcode_of end.piece.body
 rcode_is t [] end = refl
-rcode_is t (o ∷ os) end = ap (λ (x : Told). rcode_of x.piece.body) (last_told t (told_at t o) os end)
+rcode_is t (o ∷ os) end = ap (λ (x : PieceWithTtl). rcode_of x.piece.body) (last_told t (with_ttl t o) os end)
 
 -- ---- messages
 
@@ -144,12 +144,12 @@ chain_shown l h q last os end t follows ends = record {
     question = refl;
     additional = refl;
   };
-  rest = answers_of (told_at t end);
-  begins = subst (λ (rs : List Record). BeginWith t os rs (answers_of (told_at t end))) (sym (answers_are t os end))
+  rest = answers_of (with_ttl t end);
+  begins = subst (λ (rs : List Record). BeginWith t os rs (answers_of (with_ttl t end))) (sym (answers_are t os end))
       (aliases_shown l t q last os end follows);
-  ends = subst (λ (rs : List Record). EndWith t end end.piece.body (answers_of (told_at t end)) rs
+  ends = subst (λ (rs : List Record). EndWith t end end.piece.body (answers_of (with_ttl t end)) rs
       (sections_of t (os ++ end ∷ [])).rcode) (sym (authority_is t os end))
-      (subst (λ (code : ℕ). EndWith t end end.piece.body (answers_of (told_at t end))
+      (subst (λ (code : ℕ). EndWith t end end.piece.body (answers_of (with_ttl t end))
       (soa_records (seconds_left t end) end.piece.body) code) (sym (rcode_is t os end))
       (end_shown t end last end.piece.body refl ends));
 }

@@ -8,7 +8,7 @@ use Rattle.answer_builder.specs.Values.{asked_in}
 use Rattle.step_values.specs.declared.event.Client.{Client}
 use Rattle.step_history.specs.History.{Look, moment_at}
 use Rattle.step_history.specs.Answers.{Answers}
-use Rattle.theorem_cache.specs.Kept.{CanBeTold, CanBeRepeated}
+use Rattle.theorem_cache.specs.Kept.{CanBeWrittenAt, CanBeRepeated}
 use Rattle.read_answers.specs.Read.{ShowsChain, ShowsQuestion}
 
 -- The question and the pieces of a right answer can be written: names are names, numbers fit their
@@ -17,5 +17,5 @@ use Rattle.read_answers.specs.Read.{ShowsChain, ShowsQuestion}
 abbrev pub AnswersAreRead : Type 0
 AnswersAreRead = (l : Look) (client : Client) (h : Header) (q : Question) (octets : List ℕ)
     (a : Answers l client h q octets) → CanBeRepeated (asked_in h (Some q)) q
-    → AllByRecursion (CanBeTold (moment_at l.now)) (a.aliases ++ a.end ∷ []) → (m : Message) → Spells octets m
+    → AllByRecursion (CanBeWrittenAt (moment_at l.now)) (a.aliases ++ a.end ∷ []) → (m : Message) → Spells octets m
     → ShowsChain h q a.aliases a.end (moment_at l.now) m ⊎ ShowsQuestion h q m

@@ -9,10 +9,10 @@ use Rattle.std.specs.Ordering.{nat_cmp}
 use Rattle.ready_sockets.specs.declared.origin.Origin.{Origin}
 use Rattle.ready_sockets.specs.declared.origin.Origin.TheVariants.{Datagrams, Connections, Client}
 use Rattle.ready_sockets.specs.declared.origin.Origin.TheVariants.{Ask, Server}
-use Rattle.ready_sockets.specs.declared.readiness.Round.{Round}
+use Rattle.ready_sockets.specs.declared.readiness.Tokens.{Tokens}
 use Rattle.ready_sockets.specs.declared.readiness.Ready.{Ready}
-use Rattle.ready_sockets.specs.Rounds.{Gains, InServers, InStreams, IsAmong, Noted, NotedStay}
-use Rattle.ready_sockets.specs.Rounds.{TokensStay}
+use Rattle.ready_sockets.specs.Trying.{Gains, InServers, InStreams, IsAmong, Noted, NotedStay}
+use Rattle.ready_sockets.specs.Trying.{TokensStay}
 use Rattle.ready_sockets.specs.Tokens.{token_of}
 
 inserts_before : (first new : ℕ) (keys : List ℕ) → new < first
@@ -40,10 +40,10 @@ among_with token new (first ∷ keys) among = elim (cases_order new first) [
   ]
 ]
 
-pub tokens_stay : {A : Type 0} (round : Round A) → TokensStay round round
-tokens_stay round = record { last = refl; tokens = λ token among. among }
+pub tokens_stay : {A : Type 0} (tokens_before : Tokens A) → TokensStay tokens_before tokens_before
+tokens_stay tokens_before = record { last = refl; tokens = λ token among. among }
 
-pub tokens_more : {A : Type 0} (token : ℕ) (first before after : Round A) → TokensStay first before
+pub tokens_more : {A : Type 0} (token : ℕ) (first before after : Tokens A) → TokensStay first before
     → Gains token before after → TokensStay first after
 tokens_more token first before after so_far gains = record {
   last = gains.last ∙ so_far.last;
@@ -97,7 +97,7 @@ noted_more (Server conn) first before after so_far more =
     in_servers (token_of (Server conn)) first before after so_far more
 
 -- Sockets that were noted stay noted where others are noted after them.
-tokens_stay_on : {A : Type 0} (first before after : Round A) → TokensStay first before
+tokens_stay_on : {A : Type 0} (first before after : Tokens A) → TokensStay first before
     → TokensStay before after → TokensStay first after
 tokens_stay_on first before after so_far more = record {
   last = more.last ∙ so_far.last;

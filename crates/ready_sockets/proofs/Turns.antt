@@ -5,9 +5,9 @@ use Rattle.std.proofs.Common.{arith}
 use Rattle.std.specs.BTreeSet.{btree_set_len}
 use Rattle.ready_sockets.specs.declared.origin.Origin.{Origin}
 use Rattle.ready_sockets.specs.declared.origin.Origin.TheVariants.{Datagrams}
-use Rattle.ready_sockets.specs.declared.readiness.Round.{Round}
+use Rattle.ready_sockets.specs.declared.readiness.Tokens.{Tokens}
 use Rattle.ready_sockets.specs.declared.readiness.Ready.{Ready}
-use Rattle.ready_sockets.specs.Rounds.{Finds, FindsNow, Gives, GivesOnTurn, HasDatagramsAlone}
+use Rattle.ready_sockets.specs.Trying.{Finds, FindsNow, Gives, GivesOnTurn, HasDatagramsAlone}
 
 -- The turns that are left of four find what all four find.
 pub record FindsAll {A : Type 0} (tried first turn : ℕ) (begun ready : Ready A) : Type 0 where
@@ -61,10 +61,10 @@ no_tokens : (tokens : List ℕ) → length tokens ≡ 0 → tokens ≡ []
 no_tokens [] is = refl
 no_tokens (t ∷ ts) is = absurd (omega (arith, is))
 
-gives_none : {A : Type 0} (round : Round A) → btree_set_len round.tokens ≡ 0
-    → Gives None round round
-gives_none round is =
-    let none : round.tokens.keys ≡ [] = no_tokens round.tokens.keys is in
+gives_none : {A : Type 0} (tokens_before : Tokens A) → btree_set_len tokens_before.tokens ≡ 0
+    → Gives None tokens_before tokens_before
+gives_none tokens_before is =
+    let none : tokens_before.tokens.keys ≡ [] = no_tokens tokens_before.tokens.keys is in
     record {
       tried = rw none refl;
       next = λ origin has token. let there : None ≡ Some _ = rw none at token in absurd cc;

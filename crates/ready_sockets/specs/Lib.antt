@@ -1,3 +1,3 @@
-pub mod Rounds
+pub mod Trying
 pub mod Seen
 pub mod Tokens

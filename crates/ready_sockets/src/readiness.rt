@@ -6,8 +6,8 @@ ghost use Rattle.std.specs.Duration.{as_nanos};
 ghost use Rattle.mio.specs.Events.{capacity as events_capacity};
 ghost use Rattle.mio.specs.Interest.{is_readable, is_writable};
 ghost use Rattle.std.specs.BTreeSet.{btree_set_len};
-ghost use Rattle.ready_sockets.specs.Rounds.{Dropped, Finds, Gives, GivesOnTurn, HasDatagramsAlone};
-ghost use Rattle.ready_sockets.specs.Rounds.{IsBegun, IsNothing, Noted, NotedStay, NotesEvent};
+ghost use Rattle.ready_sockets.specs.Trying.{Dropped, Finds, Gives, GivesOnTurn, HasDatagramsAlone};
+ghost use Rattle.ready_sockets.specs.Trying.{IsBegun, IsNothing, Noted, NotedStay, NotesEvent};
 
 use crate::origin::Origin;
 use mio::event::{Event, Source};
@@ -51,8 +51,8 @@ impl<A: Allocator + Copy> Readiness<A> {
             events: room_for_events(alloc)?,
             ready: Ready {
                 datagrams: true,
-                streams: Round::new(alloc),
-                servers: Round::new(alloc),
+                streams: Tokens::new(alloc),
+                servers: Tokens::new(alloc),
             },
             turn: 0,
         })
@@ -165,9 +165,9 @@ struct Ready<A: Allocator> {
     /// The socket for datagrams of clients.
     datagrams: bool,
     /// The listener and the connections of clients.
-    streams: Round<A>,
+    streams: Tokens<A>,
     /// The sockets and connections of asks.
-    servers: Round<A>,
+    servers: Tokens<A>,
 }
 
 impl<A: Allocator + Copy> Ready<A> {
@@ -231,18 +231,18 @@ impl<A: Allocator + Copy> Ready<A> {
 
 /// Sockets that may be ready, by their tokens; they are tried in turn.
 #[derive(Drop)]
-struct Round<A: Allocator> {
+struct Tokens<A: Allocator> {
     tokens: BTreeSet<usize, A>,
     /// The token of the socket that was tried last.
     last: usize,
 }
 
-impl<A: Allocator> Round<A> {
+impl<A: Allocator> Tokens<A> {
     /// No socket.
-    fn new(alloc: A) -> Round<A>
+    fn new(alloc: A) -> Tokens<A>
         ensures { (result.tokens.keys ≡ []) × (result.last ≡ 0) }
     {
-        Round {
+        Tokens {
             tokens: BTreeSet::new(alloc),
             last: 0,
         }

@@ -5,7 +5,7 @@ use Rattle.std.proofs.lemmas.Bool.{le-leb}
 use Rattle.std.specs.Io.KnownBytes.{Appends}
 use Rattle.std.proofs.KnownBytes.{Appends-nil, Appends-trans}
 use Rattle.suffix_routes.specs.Values.{Config as ConfigValue}
-use Rattle.step_values.specs.Values.{Event, Handed, Outcome, Step}
+use Rattle.step_values.specs.Values.{Event, StepInput, Outcome, Step}
 use Rattle.step_table.specs.State.{State, Running}
 use Rattle.step_table.specs.Row.{Row}
 use Rattle.theorem_sound.specs.Runs.{Run}
@@ -15,19 +15,19 @@ use Rattle.replay_script.specs.declared.fault.ReplayFault.{ReplayFault}
 use Rattle.replay_script.specs.declared.fault.ReplayFault.TheVariants.{Config, Line, Memory, Device}
 use Rattle.replay_script.specs.Lines.{IsLineFault, line_in}
 use Rattle.replay_script.specs.Printing.{Writes, printed_all, printed_steps}
-use Rattle.replay_script.specs.Runs.{RunsLines, AreOfLines, IsRefusedAfter, Ends, Prints, handed_in}
+use Rattle.replay_script.specs.Runs.{RunsLines, AreOfLines, IsRefusedAfter, Ends, Prints, input_in}
 use Rattle.replay_script.specs.Words.{words_of}
 
 -- ---- what a line passes
 
-pub handed_read : (n : ℕ) (line : List ℕ) (now : ℕ) (words : List ℕ) (event : Event) → n ≤ MOST_LINES → words ≡ words_of n
-    → line_in line ≡ Ok (now, event) → handed_in n line ≡ Ok (record { now = now; words = words; event = event })
-handed_read n line now words event few same read =
+pub input_read : (n : ℕ) (line : List ℕ) (now : ℕ) (words : List ℕ) (event : Event) → n ≤ MOST_LINES → words ≡ words_of n
+    → line_in line ≡ Ok (now, event) → input_in n line ≡ Ok (record { now = now; words = words; event = event })
+input_read n line now words event few same read =
     let test : nat_le n MOST_LINES ≡ true = le-leb n MOST_LINES few in
     rw (test, read, same) refl
 
-pub handed_refused : (n : ℕ) (line : List ℕ) → n ≤ MOST_LINES → line_in line ≡ Err Form → handed_in n line ≡ Err Form
-handed_refused n line few read =
+pub input_refused : (n : ℕ) (line : List ℕ) → n ≤ MOST_LINES → line_in line ≡ Err Form → input_in n line ≡ Err Form
+input_refused n line few read =
     let test : nat_le n MOST_LINES ≡ true = le-leb n MOST_LINES few in
     rw (test, read) refl
 
@@ -43,7 +43,7 @@ nothing_run n line more before held Device ends = record { steps = []; config = 
 
 line_fault_ends : (n : ℕ) (line : List ℕ) (fault : ReplayFault) → n ≤ MOST_LINES → IsLineFault n line fault → Ends n (line ∷ []) [] (Err fault)
 line_fault_ends n line (Config fault) few is = absurd is
-line_fault_ends n line (Line refused) few is = (is.0, handed_refused n line few is.1)
+line_fault_ends n line (Line refused) few is = (is.0, input_refused n line few is.1)
 line_fault_ends n line Memory few is = tt
 line_fault_ends n line Device few is = tt
 
@@ -71,16 +71,16 @@ step_prints n t (Err Device) held held' writes = (writes.1.0, inl (refl, writes.
 
 -- A line whose step was made.
 pub line_run : (n : ℕ) (line : List ℕ) (before after : Running) (held held' : Option (List ℕ)) (r : Result (Unit {0}) ReplayFault)
-    (h : Handed) (o : Outcome) → handed_in n line ≡ Ok h → Row before.config before.state h o after.state
+    (h : StepInput) (o : Outcome) → input_in n line ≡ Ok h → Row before.config before.state h o after.state
     → after.config ≡ before.config → Writes held (printed_all n o.actions) r held'
     → RunsLines n (line ∷ []) before held r after held'
-line_run n line before after held held' r h o handed row config writes =
-    let t : Step = record { handed = h; outcome = o } in
+line_run n line before after held held' r h o input row config writes =
+    let t : Step = record { input = h; outcome = o } in
     record {
       steps = t ∷ [];
       config = config;
       run = (after.state, row, refl);
-      lines_are = (handed, tt);
+      lines_are = (input, tt);
       ends = step_ends n line t (printed_all n o.actions) r held held' writes;
       prints = step_prints n t r held held' writes;
     }

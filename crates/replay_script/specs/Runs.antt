@@ -4,9 +4,9 @@ use Rattle.std.specs.Prelude.{IfSome, Result, Ok, Err}
 use Rattle.std.specs.Io.KnownBytes.{Appends}
 use Rattle.suffix_routes.specs.Values.{Config as ConfigValue}
 use Rattle.suffix_routes.specs.Reading.{IsReadIn}
-use Rattle.step_values.specs.Values.{Event, Handed, Step}
+use Rattle.step_values.specs.Values.{Event, StepInput, Step}
 use Rattle.step_table.specs.State.{Running}
-use Rattle.step_table.specs.Steps.{start}
+use Rattle.step_table.specs.Steps.{initial}
 use Rattle.theorem_sound.specs.Runs.{Run}
 use Rattle.theorem_use.specs.Service.{ServesTruly}
 use Rattle.replay_script.specs.declared.events.TheConstants.{MOST_LINES}
@@ -32,13 +32,13 @@ abbrev pub lines_of : List ℕ → List (List ℕ)
 lines_of [] = []
 lines_of (octet ∷ text) = if is_feed octet then [] ∷ lines_of text else begun octet (lines_of text)
 
-abbrev pub with_words : ℕ → Result (ℕ × Event) Refusal → Result Handed Refusal
+abbrev pub with_words : ℕ → Result (ℕ × Event) Refusal → Result StepInput Refusal
 with_words number (Ok timed) = Ok (record { now = timed.0; words = words_of number; event = timed.1 })
 with_words number (Err refusal) = Err refusal
 
 -- the input of the event line with this number; a line after the last allowed number is refused
-abbrev pub handed_in : ℕ → List ℕ → Result Handed Refusal
-handed_in number line = if nat_le number MOST_LINES then with_words number (line_in line) else Err Form
+abbrev pub input_in : ℕ → List ℕ → Result StepInput Refusal
+input_in number line = if nat_le number MOST_LINES then with_words number (line_in line) else Err Form
 
 -- ---- runs of lines, of which the first has this number
 
@@ -47,12 +47,12 @@ abbrev pub AreOfLines : ℕ → List (List ℕ) → List Step → Type 0
 AreOfLines number lines [] = Unit {0}
 AreOfLines number [] (t ∷ steps) = ⊥
 AreOfLines number (line ∷ lines) (t ∷ steps) =
-    (handed_in number line ≡ Ok t.handed) × AreOfLines (number + 1) lines steps
+    (input_in number line ≡ Ok t.input) × AreOfLines (number + 1) lines steps
 
 -- The line after the lines of the steps is refused, and has the number `refused`.
 abbrev pub IsRefusedAfter : ℕ → List (List ℕ) → List Step → ℕ → Type 0
 IsRefusedAfter number [] steps refused = ⊥
-IsRefusedAfter number (line ∷ lines) [] refused = (refused ≡ number) × (handed_in number line ≡ Err Form)
+IsRefusedAfter number (line ∷ lines) [] refused = (refused ≡ number) × (input_in number line ≡ Err Form)
 IsRefusedAfter number (line ∷ lines) (t ∷ steps) refused = IsRefusedAfter (number + 1) lines steps refused
 
 -- The end of a run with these steps: each line was run; or the next is refused; or memory ran out
@@ -106,7 +106,7 @@ pub record RunsScript (script : List ℕ) (held : Option (List ℕ)) (result : R
   pub config : ConfigValue
   pub read : IsReadIn text (Ok config)
   pub after : Running
-  pub runs : RunsLines 1 (lines_of events) (record { config = config; state = start config }) held result after held'
+  pub runs : RunsLines 1 (lines_of events) (record { config = config; state = initial config }) held result after held'
   pub truly : ServesTruly config runs.steps
 
 -- why no line of a script was run

@@ -11,7 +11,7 @@ ghost use Rattle.replay_script.specs.declared.events.Refusal.TheVariants.{Memory
 ghost use Rattle.replay_script.specs.Words.{words_of};
 
 use crate::fault::ReplayFault;
-use forwarder_core::{Client, Event, Handed, Path};
+use forwarder_core::{Client, Event, Path, StepInput};
 use hex::FromHexError;
 use plain_values::{Octets, PlainList};
 use std::alloc::{AllocError, Allocator};
@@ -64,14 +64,18 @@ pub(crate) fn words(line: u32) -> [u32; 8]
 
 /// The moment, words and event of the event line with this number. `Line` if the line has none of
 /// the forms, `Memory` if memory ran out.
-pub fn handed_by<A: Allocator>(alloc: A, number: u32, line: &[u8]) -> Result<Handed<A>, ReplayFault>
+pub fn input_of_line<A: Allocator>(
+    alloc: A,
+    number: u32,
+    line: &[u8],
+) -> Result<StepInput<A>, ReplayFault>
     requires { number ≤ MOST_LINES }
-    ensures words { IfOk result (λ handed. handed.words ≡ words_of number) }
-    ensures read { IfOk result (λ handed. line_in line.now ≡ Ok (handed.now, handed.event)) }
+    ensures words { IfOk result (λ input. input.words ≡ words_of number) }
+    ensures read { IfOk result (λ input. line_in line.now ≡ Ok (input.now, input.event)) }
     ensures refused { IfErr result (IsLineFault number line.now) }
 {
     match timed_event(alloc, line) {
-        Ok(timed) => Ok(Handed {
+        Ok(timed) => Ok(StepInput {
             now: timed.moment,
             words: words(number),
             event: timed.event,

@@ -10,7 +10,7 @@ mod output;
 mod replay;
 
 pub use actions::print;
-pub use events::{MOST_LINES, decimal, handed_by};
+pub use events::{MOST_LINES, decimal, input_of_line};
 pub use fault::ReplayFault;
 pub use input::{config_in, parts, read_config, read_limited};
 pub use replay::replay_run;

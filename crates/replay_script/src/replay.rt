@@ -4,7 +4,7 @@ ghost use Rattle.std.specs.Prelude.{◌≡◌, ◌<◌, ◌≤◌, ◌∷◌, []
 ghost use Rattle.replay_script.specs.Runs.{lines_of, RunsLines, ReplaysText, Replays};
 
 use crate::actions::print_all;
-use crate::events::{MOST_LINES, handed_by};
+use crate::events::{MOST_LINES, input_of_line};
 use crate::fault::ReplayFault;
 use crate::input::{config_in, first_line, parts, read_limited};
 use forwarder_core::Forwarder;
@@ -103,7 +103,7 @@ fn run_line<A: Allocator + Copy, W: Write>(
     ensures { RunsLines number (line.now ∷ []) forwarder.old (W.contents writer.old) result forwarder.new
         (W.contents writer.new) }
 {
-    let handed = handed_by(alloc, number, line)?;
-    let outcome = forwarder.step(handed.now, handed.words, &handed.event)?;
+    let input = input_of_line(alloc, number, line)?;
+    let outcome = forwarder.step(input.now, input.words, &input.event)?;
     print_all(alloc, writer, number, &outcome.actions)
 }

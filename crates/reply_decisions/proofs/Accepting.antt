@@ -29,7 +29,7 @@ use Rattle.outstanding.specs.Values.{Ask}
 use Rattle.step_values.specs.Values.{Action}
 use Rattle.suffix_routes.specs.Serving.{serving_route_of}
 use Rattle.step_texts.specs.Spelling.{Source}
-use Rattle.step_table.specs.State.{State, turn}
+use Rattle.step_table.specs.State.{State, start}
 use Rattle.waiting_questions.specs.Values.{Waiting, waits_for}
 use Rattle.alias_chains.specs.LookingUp.{ends}
 use Rattle.step_values.specs.declared.action.Why.TheVariants.{Answered}
@@ -41,7 +41,7 @@ use Rattle.alias_chains.specs.Offering.{held_at}
 use Rattle.retry_failover.specs.declared.Failure.TheVariants.{Lame}
 use Rattle.step_table.proofs.CallerLemmas.{All-append, header_there, looked_at_end, closed_at_end}
 use Rattle.step_actions.specs.declared.decision.Change.TheVariants.{Close}
-use Rattle.step_actions.specs.Decision.{changed, gives_from, told_from, with_replies, IsRouted}
+use Rattle.step_actions.specs.Decision.{changed, gives_from, reply_from, with_replies, IsRouted}
 use Rattle.reply_decisions.specs.Walked.{IsWalkFor}
 use Rattle.reply_decisions.proofs.Deciding.{closed_is, given_frees}
 use Rattle.alias_chains.proofs.CallerLemmas.{same_pieces}
@@ -209,7 +209,7 @@ module _ (c : Config) (n : ℕ) (a : Ask) (w : Walk) (walk : IsWalkFor c a w) (o
     chain_is = sym (ap (map (held_at n)) closed.whole ∙ map-append (held_at n) closed.aliases (closed.last ∷ []))
 
     -- with the aliases that a question holds
-    told_is : (x : Waiting) → fate_of c n x (unless_many (record { held = x.held ++ more; wanted = x.wanted; met = ends end; used = [] })) ≡ gets (told_from source x)
+    told_is : (x : Waiting) → fate_of c n x (unless_many (record { held = x.held ++ more; wanted = x.wanted; met = ends end; used = [] })) ≡ gets (reply_from source x)
     told_is x = by (nat_le (length (x.held ++ more)) most_aliases) refl
       where
         count : length (x.held ++ more) + 1 ≡ length x.held + length source.chain
@@ -218,7 +218,7 @@ module _ (c : Config) (n : ℕ) (a : Ask) (w : Walk) (walk : IsWalkFor c a w) (o
             let one = length-append more (end ∷ []) in
             let whole : length (more ++ end ∷ []) ≡ length source.chain = ap (λ (hs : List Held). length hs) chain_is in omega (arith, both, one, whole)
 
-        by : (b : Bool) → nat_le (length (x.held ++ more)) most_aliases ≡ b → fate_of c n x (unless_many (record { held = x.held ++ more; wanted = x.wanted; met = ends end; used = [] })) ≡ gets (told_from source x)
+        by : (b : Bool) → nat_le (length (x.held ++ more)) most_aliases ≡ b → fate_of c n x (unless_many (record { held = x.held ++ more; wanted = x.wanted; met = ends end; used = [] })) ≡ gets (reply_from source x)
         by true t =
             let few : length (x.held ++ more) ≤ 8 = leb-true (length (x.held ++ more)) most_aliases t in
             ap (fate_of c n x) (cond-true (nat_le (length (x.held ++ more)) most_aliases) _ _ t)
@@ -241,11 +241,11 @@ module _ (c : Config) (n : ℕ) (a : Ask) (w : Walk) (walk : IsWalkFor c a w) (o
     -- the table's step
     pub accepted_is : (A : Type 0) (words : List ℕ) (rooms : List Bool) (path : Path) (s : State) (used : List Slot) (route server : ℕ) (actions : List Action) (pieces : List Piece) → ask_on path s.asks ≡ Some a
         → used ≡ [] → route ≡ a.route → server ≡ a.server → actions ≡ with_replies (gives_from source a.question) (closes a.path ∷ []) s.waiting → pieces ≡ w.pieces ++ w.authority
-        → offering_step n rooms pieces (record { actions = actions; unkept = 0; state = changed {A = A} n (with_promoted used s) (Close path (Some (record { route = route; server = server }))) }) ≡ row_of_acceptance (turn c n words s) rooms a w
+        → offering_step n rooms pieces (record { actions = actions; unkept = 0; state = changed {A = A} n (with_promoted used s) (Close path (Some (record { route = route; server = server }))) }) ≡ row_of_acceptance (start c n words s) rooms a w
     accepted_is A words rooms path s used route server actions pieces listed none route_is server_is told carried =
         λ i. offering_step n rooms (carried i) (((λ j. record { actions = actions; unkept = 0; state = changed {A = A} n (with_promoted (none j) s) (Close path (Some (record { route = route_is j; server = server_is j }))) }) ∙ done) i)
       where
-        done : record { actions = actions; unkept = 0; state = changed {A = A} n s (Close path (Some (record { route = a.route; server = a.server }))) } ≡ row_of_end (turn c n words (with_preferred_server a s)) a w (fate_by c n s.cache.entries a w) w.end
+        done : record { actions = actions; unkept = 0; state = changed {A = A} n s (Close path (Some (record { route = a.route; server = a.server }))) } ≡ row_of_end (start c n words (with_preferred_server a s)) a w (fate_by c n s.cache.entries a w) w.end
         done =
             closed_is A n path s a (gives_from source a.question) (Some (record { route = a.route; server = a.server })) actions listed told (given_frees source a.question)
             ∙ ap (λ (fates : List Fate). settling_step n (Some a) fates None (with_preferred_server a s)) (sym (fates_are s.cache.entries s.waiting))
@@ -265,8 +265,8 @@ ends_fine {A} e (inr (inr is)) = ap (λ (o : OwnedEnd A). is_lame (end_of o)) is
 
 -- ---- a walk that is lame, and one that isn't
 
-pub lame_row : (c : Config) (n : ℕ) (words : List ℕ) (rooms : List Bool) (a : Ask) (s : State) (w : Walk) → is_lame w.end ≡ true → row_of_walk (turn c n words s) rooms a w ≡ row_of_failure (turn c n words s) a Lame
+pub lame_row : (c : Config) (n : ℕ) (words : List ℕ) (rooms : List Bool) (a : Ask) (s : State) (w : Walk) → is_lame w.end ≡ true → row_of_walk (start c n words s) rooms a w ≡ row_of_failure (start c n words s) a Lame
 lame_row c n words rooms a s w is = cond-true (is_lame w.end) _ _ is
 
-pub accepted_row : (c : Config) (n : ℕ) (words : List ℕ) (rooms : List Bool) (a : Ask) (s : State) (w : Walk) → is_lame w.end ≡ false → row_of_walk (turn c n words s) rooms a w ≡ row_of_acceptance (turn c n words s) rooms a w
+pub accepted_row : (c : Config) (n : ℕ) (words : List ℕ) (rooms : List Bool) (a : Ask) (s : State) (w : Walk) → is_lame w.end ≡ false → row_of_walk (start c n words s) rooms a w ≡ row_of_acceptance (start c n words s) rooms a w
 accepted_row c n words rooms a s w is = cond-false (is_lame w.end) _ _ is

@@ -55,14 +55,14 @@ is_other path (Some a) = not (same_path a.path path)
 -- an ask of the question is listed next to the one on this path exactly where the listed one is
 -- another
 pub asked_beside : (q : Question) (path : Path) (asks : List Ask) (o : Option Ask) → AreInTurn asks → of_question q asks ≡ o → is_some (of_question q (without_path path asks)) ≡ is_other path o
-asked_beside q path asks None turn found = ap is_some (none_stays q path asks found)
-asked_beside q path asks (Some a) turn found = by (same_path a.path path) refl
+asked_beside q path asks None start found = ap is_some (none_stays q path asks found)
+asked_beside q path asks (Some a) start found = by (same_path a.path path) refl
   where
     by : (b : Bool) → same_path a.path path ≡ b → is_some (of_question q (without_path path asks)) ≡ not b
     by true on =
         let path_is : a.path ≡ path = same_path_equal a.path path on in
-        let listed : ask_on path asks ≡ Some a = ap (λ (p : Path). ask_on p asks) (sym path_is) ∙ Rattle.step_table.proofs.CallerLemmas.own_on q asks a turn found in
-        ap is_some (question_free_without_path path q asks a turn listed (found_same q asks a found))
+        let listed : ask_on path asks ≡ Some a = ap (λ (p : Path). ask_on p asks) (sym path_is) ∙ Rattle.step_table.proofs.CallerLemmas.own_on q asks a start found in
+        ap is_some (question_free_without_path path q asks a start listed (found_same q asks a found))
     by false other = ap is_some (other_stays q path asks a other found)
 
 -- ---- the server that is preferred then

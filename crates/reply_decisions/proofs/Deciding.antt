@@ -13,14 +13,14 @@ use Rattle.step_values.specs.declared.action.Why.TheVariants.{Deadline}
 use Rattle.step_values.specs.declared.action.Action.{Action as OwnedAction}
 use Rattle.step_values.specs.Values.{Action, action_of, actions_of}
 use Rattle.trust_rank.specs.declared.slot.Slot.{Slot}
-use Rattle.step_table.specs.State.{State, turn}
+use Rattle.step_table.specs.State.{State, start}
 use Rattle.waiting_questions.specs.Values.{Waiting, waits_for}
 use Rattle.outstanding.specs.Lists.{on_path as ask_on, without_path}
 use Rattle.outstanding.specs.Values.{Ask}
 use Rattle.step_table.specs.Steps.{Done, Fate, gets, waits, reply_in, waiting_in, replies, still_waiting, closes, closing, closing_step, idle_step, ask_list, asks, gives_up, with_preferred_server, tcp_count, fails, with_promoted}
 use Rattle.step_table.specs.Ticks.{expiry_step}
 use Rattle.step_table.specs.Replies.{timeout_of, row_of_verdict, row_of_delivery, verdict_on}
-use Rattle.step_table.specs.Failures.{told_past, found_past, runs_out}
+use Rattle.step_table.specs.Failures.{with_stale_ttl, found_stale, runs_out}
 use Rattle.record_cache.specs.Values.{Held}
 use Rattle.step_texts.specs.Spelling.{Source}
 use Rattle.reply_match.specs.Verdicts.{judge}
@@ -30,7 +30,7 @@ use Rattle.step_actions.specs.declared.decision.Sending.{Sending}
 use Rattle.step_actions.specs.Fates.{Becomes, IsSentOn}
 use Rattle.reply_decisions.specs.Fates.{reply_of, onward_in, Become}
 use Rattle.reply_decisions.proofs.Becoming.{replies_are, waiting_are}
-use Rattle.step_actions.specs.Decision.{left_waiting, with_preferred, without_closed, closed_path, closing_path, changed, gives_from, told_from, left_or_sent, with_reply, with_replies}
+use Rattle.step_actions.specs.Decision.{left_waiting, with_preferred, without_closed, closed_path, closing_path, changed, gives_from, reply_from, left_or_sent, with_reply, with_replies}
 use Rattle.step_table.proofs.CallerLemmas.{ask_on-is}
 
 -- one more action
@@ -107,10 +107,10 @@ pub fails_frees : (why : Why) (q : Question) → Frees q (fails why q)
 fails_frees why q = λ x. one_fate (waits_for q x) (gives_up why x) x
 
 pub lasts_frees : (c : Config) (n : ℕ) (entries : List Held) (q : Question) → Frees q (runs_out c n entries q)
-lasts_frees c n entries q = λ x. one_fate (waits_for q x) (told_past n x (found_past c n entries x)) x
+lasts_frees c n entries q = λ x. one_fate (waits_for q x) (with_stale_ttl n x (found_stale c n entries x)) x
 
 pub given_frees : (d : Source) (q : Question) → Frees q (gives_from d q)
-given_frees d q = λ x. one_fate (waits_for q x) (told_from d x) x
+given_frees d q = λ x. one_fate (waits_for q x) (reply_from d x) x
 
 -- ---- those that waited for an ask are sent on
 
@@ -196,14 +196,14 @@ expired_row A n s x others alone closed actions first is told = (λ i. record { 
 
 -- ---- a delivery
 
-pub idle_unlisted : (c : Config) (n : ℕ) (words : List ℕ) (rooms : List Bool) (from : Peer) (octets : List ℕ) (s : State) (r : Option Ask) (d : Done) → r ≡ None → d ≡ idle_step n s → d ≡ row_of_delivery (turn c n words s) rooms from octets r
-idle_unlisted c n words rooms from octets s r d none is = is ∙ sym (ap (row_of_delivery (turn c n words s) rooms from octets) none)
+pub idle_unlisted : (c : Config) (n : ℕ) (words : List ℕ) (rooms : List Bool) (from : Peer) (octets : List ℕ) (s : State) (r : Option Ask) (d : Done) → r ≡ None → d ≡ idle_step n s → d ≡ row_of_delivery (start c n words s) rooms from octets r
+idle_unlisted c n words rooms from octets s r d none is = is ∙ sym (ap (row_of_delivery (start c n words s) rooms from octets) none)
 
-pub idle_late : (c : Config) (n : ℕ) (words : List ℕ) (rooms : List Bool) (from : Peer) (octets : List ℕ) (s : State) (r : Option Ask) (a : Ask) (d : Done) → r ≡ Some a → nat_lt n (timeout_of c a) ≡ false → d ≡ idle_step n s → d ≡ row_of_delivery (turn c n words s) rooms from octets r
-idle_late c n words rooms from octets s r a d on late is = is ∙ sym (ap (row_of_delivery (turn c n words s) rooms from octets) on ∙ cond-false (nat_lt n (timeout_of c a)) _ _ late)
+pub idle_late : (c : Config) (n : ℕ) (words : List ℕ) (rooms : List Bool) (from : Peer) (octets : List ℕ) (s : State) (r : Option Ask) (a : Ask) (d : Done) → r ≡ Some a → nat_lt n (timeout_of c a) ≡ false → d ≡ idle_step n s → d ≡ row_of_delivery (start c n words s) rooms from octets r
+idle_late c n words rooms from octets s r a d on late is = is ∙ sym (ap (row_of_delivery (start c n words s) rooms from octets) on ∙ cond-false (nat_lt n (timeout_of c a)) _ _ late)
 
-pub judged_is : (c : Config) (n : ℕ) (words : List ℕ) (rooms : List Bool) (from : Peer) (octets : List ℕ) (s : State) (r : Option Ask) (a : Ask) (d : Done) → r ≡ Some a → nat_lt n (timeout_of c a) ≡ true → d ≡ row_of_verdict (turn c n words s) rooms a octets (judge a from octets) → d ≡ row_of_delivery (turn c n words s) rooms from octets r
-judged_is c n words rooms from octets s r a d on live is = is ∙ sym (ap (row_of_delivery (turn c n words s) rooms from octets) on ∙ cond-true (nat_lt n (timeout_of c a)) _ _ live)
+pub judged_is : (c : Config) (n : ℕ) (words : List ℕ) (rooms : List Bool) (from : Peer) (octets : List ℕ) (s : State) (r : Option Ask) (a : Ask) (d : Done) → r ≡ Some a → nat_lt n (timeout_of c a) ≡ true → d ≡ row_of_verdict (start c n words s) rooms a octets (judge a from octets) → d ≡ row_of_delivery (start c n words s) rooms from octets r
+judged_is c n words rooms from octets s r a d on live is = is ∙ sym (ap (row_of_delivery (start c n words s) rooms from octets) on ∙ cond-true (nat_lt n (timeout_of c a)) _ _ live)
 
 pub verdict_is : (c : Config) (n : ℕ) (from : Peer) (octets : List ℕ) (r : Option Ask) (a : Ask) → r ≡ Some a → nat_lt n (timeout_of c a) ≡ true → verdict_on c n from octets r ≡ judge a from octets
 verdict_is c n from octets r a on live = ap (verdict_on c n from octets) on ∙ cond-true (nat_lt n (timeout_of c a)) _ _ live

@@ -14,7 +14,7 @@ use Rattle.record_cache.specs.Values.{Held, Cache}
 use Rattle.answer_builder.specs.Answers.{IsEarlier}
 use Rattle.suffix_routes.specs.Serving.{serving_route_of}
 use Rattle.waiting_questions.specs.Onward.{Onward}
-use Rattle.step_table.specs.State.{State, turn}
+use Rattle.step_table.specs.State.{State, start}
 use Rattle.waiting_questions.specs.Values.{Waiting, waits_for}
 use Rattle.step_table.specs.Attempts.{first_ask_on}
 use Rattle.step_table.specs.Steps.{Done, Fate, waits, still_waiting, with_preferred_server, with_promoted, closing_step, offering_step}
@@ -121,8 +121,8 @@ module _ (c : Config) (n : ℕ) (words : List ℕ) (a : Ask) (w : Walk) (s : Sta
   used_one xs = ap (λ (e : End). flat_map (λ x. (looked_by c n s.cache.entries w x e).used) xs) (sym leads)
 
   sent_by : (asked : Option Question) (next : Option Ask) (used : List Slot)
-      → next ≡ ask_for (turn c n words (closing_state a s)) asked
-      → row_of_sent_on (turn c n words (with_promoted used (with_preferred_server a s))) a fate asked
+      → next ≡ ask_for (start c n words (closing_state a s)) asked
+      → row_of_sent_on (start c n words (with_promoted used (with_preferred_server a s))) a fate asked
       ≡ closing_step n a (fate_then a.question fate asked next) next (with_promoted used (with_preferred_server a s))
   sent_by None next used is = ap (λ (z : Option Ask). closing_step n a fate z
       (with_promoted used (with_preferred_server a s))) (sym is)
@@ -133,19 +133,19 @@ module _ (c : Config) (n : ℕ) (words : List ℕ) (a : Ask) (w : Walk) (s : Sta
 
   accepted_is : (rooms : List Bool) (asked : Option Question) (next : Option Ask) (used : List Slot)
       (pieces : List Piece) → asked ≡ asked_for a s (map fate those)
-      → next ≡ ask_for (turn c n words (closing_state a s)) asked
+      → next ≡ ask_for (start c n words (closing_state a s)) asked
       → used ≡ flat_map (λ x. (looked_behind c n s.cache.entries (map (held_at n) w.pieces) name x).used) those
       → pieces ≡ w.pieces ++ w.authority
       → offering_step n rooms pieces (closing_step n a (fate_then a.question fate asked next) next
-      (with_promoted used (with_preferred_server a s))) ≡ row_of_acceptance (turn c n words s) rooms a w
+      (with_promoted used (with_preferred_server a s))) ≡ row_of_acceptance (start c n words s) rooms a w
   accepted_is rooms asked next used pieces asked_are next_is used_are pieces_are =
       (λ i. offering_step n rooms (pieces_are i) (closing_step n a (fate_then a.question fate asked next) next
       (with_promoted used (with_preferred_server a s))))
       ∙ ap (offering_step n rooms (w.pieces ++ w.authority))
       (sym (sent_by asked next used next_is)
-      ∙ (λ i. row_of_sent_on (turn c n words (with_promoted ((used_are ∙ used_one those) i)
+      ∙ (λ i. row_of_sent_on (start c n words (with_promoted ((used_are ∙ used_one those) i)
       (with_preferred_server a s))) a fate (asked_are i))
-      ∙ sym (ap (row_of_end (turn c n words (with_preferred_server a s)) a w fate) leads))
+      ∙ sym (ap (row_of_end (start c n words (with_preferred_server a s)) a w fate) leads))
 
   -- the decision is the table's: each question is looked up after these aliases, and then it is
   -- known whether there is an ask
@@ -168,16 +168,16 @@ module _ (c : Config) (n : ℕ) (words : List ℕ) (a : Ask) (w : Walk) (s : Sta
         ∙ ap (λ (fs : List Fate). fates_then (asked_for a s fs) next fs) each_then)
 
     pub sent_row : (rooms : List Bool) (met used : List Held) (pieces : List Piece) (d : Done)
-        → next ≡ ask_for (turn c n words (closing_state a s)) (asked_for a s (fates_in xs each))
+        → next ≡ ask_for (start c n words (closing_state a s)) (asked_for a s (fates_in xs each))
         → map (λ h. h.piece.slot) met ≡ flat_map (λ x. (looked_behind c n s.cache.entries aliases name x).used) xs
         → used ≡ met → pieces ≡ w.pieces ++ w.authority
         → d ≡ offering_step n rooms pieces (closing_step n a then next
         (with_promoted (map (λ h. h.piece.slot) used) (with_preferred_server a s)))
-        → d ≡ row_of_acceptance (turn c n words s) rooms a w
+        → d ≡ row_of_acceptance (start c n words s) rooms a w
     sent_row rooms met used pieces d next_is met_used used_is pieces_are d_is =
         d_is
         ∙ accepted_is rooms (asked_for a s (map fate those)) next (map (λ h. h.piece.slot) used) pieces refl
-        (next_is ∙ ap (λ (fs : List Fate). ask_for (turn c n words (closing_state a s)) (asked_for a s fs)) each_then)
+        (next_is ∙ ap (λ (fs : List Fate). ask_for (start c n words (closing_state a s)) (asked_for a s fs)) each_then)
         (ap (map (λ h. h.piece.slot)) used_is ∙ met_used ∙ (λ i. flat_map
         (λ x. (looked_behind c n s.cache.entries (aliases_are i) name x).used) (xs_are i))) pieces_are
 
@@ -260,7 +260,7 @@ module _ (c : Config) (n : ℕ) (words : List ℕ) (a : Ask) (e : Cache) (i : In
   kept_then = kept_without c e i left ws ps m k (Some a.path) kept refl
 
   by_route : (q : Question) (next : Ask) → of_question q (without_path a.path i.asks) ≡ None → (r : Option ℕ)
-      → serving_route_of c q.name ≡ r → first_ask_on (turn c n words (closing_state a now)) q r ≡ Some next
+      → serving_route_of c q.name ≡ r → first_ask_on (start c n words (closing_state a now)) q r ≡ Some next
       → CanFollow c n (closing_state a now) (without_path a.path i.asks) next
   by_route q next new None none is = absurd (cc)
   by_route q next new (Some route) there is =
@@ -270,13 +270,13 @@ module _ (c : Config) (n : ℕ) (words : List ℕ) (a : Ask) (e : Cache) (i : In
 
   by_asked : (asked : Option Question) (next : Ask) → ((q : Question) → asked ≡ Some q
       → of_question q (without_path a.path i.asks) ≡ None)
-      → ask_for (turn c n words (closing_state a now)) asked ≡ Some next
+      → ask_for (start c n words (closing_state a now)) asked ≡ Some next
       → CanFollow c n (closing_state a now) (without_path a.path i.asks) next
   by_asked None next new is = absurd (cc)
   by_asked (Some q) next new is = by_route q next (new q refl) (serving_route_of c q.name) refl is
 
   pub next_follows : (fates : List Fate) (next : Option Ask)
-      → next ≡ ask_for (turn c n words (closing_state a now)) (asked_for a now fates)
+      → next ≡ ask_for (start c n words (closing_state a now)) (asked_for a now fates)
       → IfFollows c n now (without_path a.path i.asks) next
   next_follows fates None is = tt
   next_follows fates (Some next) is =

@@ -10,7 +10,7 @@ use Rattle.dns_message.specs.Values.{Question as QuestionValue}
 use Rattle.outstanding.specs.Lists.{on_path as ask_on, of_question, same_path}
 use Rattle.outstanding.proofs.CallerLemmas.{same_path_reflexive}
 use Rattle.retry_failover.specs.declared.Failure.TheVariants.{TimedOut}
-use Rattle.step_table.specs.State.{State, turn}
+use Rattle.step_table.specs.State.{State, start}
 use Rattle.waiting_questions.specs.Values.{Waiting, waits_for}
 use Rattle.step_table.specs.Failures.{row_of_failure}
 use Rattle.step_table.specs.Steps.{idle_step}
@@ -23,33 +23,33 @@ use Rattle.step_actions.proofs.CallerLemmas.{rest_is}
 use Rattle.step_table.specs.Row.{is_due_at}
 use Rattle.step_table.specs.Ticks.{expiry_step, left_alone, first_item, row_of_item, row_of_tick}
 
-pub tick_idle : (c : Config) (n : ℕ) (words : List ℕ) (s : State) → s.waiting ≡ [] → s.asks ≡ [] → idle_step n s ≡ row_of_tick (turn c n words s)
-tick_idle c n words s none no_ask = λ i. row_of_item (turn c n words s) (first_item c (sym none i) (sym no_ask i))
+pub tick_idle : (c : Config) (n : ℕ) (words : List ℕ) (s : State) → s.waiting ≡ [] → s.asks ≡ [] → idle_step n s ≡ row_of_tick (start c n words s)
+tick_idle c n words s none no_ask = λ i. row_of_item (start c n words s) (first_item c (sym none i) (sym no_ask i))
 
 module _ {A : Type 0} (c : Config) (n : ℕ) (words : List ℕ) (s : State) (d : Due A) where
   -- before its moment nothing is done
-  idle_at : (o : Oldest A) → n < due_from c o → idle_step n s ≡ row_of_item (turn c n words s) (item_of (drop 1 s.waiting) o)
+  idle_at : (o : Oldest A) → n < due_from c o → idle_step n s ≡ row_of_item (start c n words s) (item_of (drop 1 s.waiting) o)
   idle_at (Question x) early = sym (cond-false (nat_le (due_from {A = A} c (Question x)) n) _ _ (lt-leb (due_from {A = A} c (Question x)) n early))
   idle_at (OfAsk a) early = sym (cond-false (nat_le (due_from {A = A} c (OfAsk a)) n) _ _ (lt-leb (due_from {A = A} c (OfAsk a)) n early))
 
-  pub idle_until : IsDueFirst c s.waiting s.asks d → n < d.moment → idle_step n s ≡ row_of_tick (turn c n words s)
-  idle_until first early = idle_at d.oldest (subst (λ (m : ℕ). n < m) first.from early) ∙ sym (ap (row_of_item (turn c n words s)) first.item)
+  pub idle_until : IsDueFirst c s.waiting s.asks d → n < d.moment → idle_step n s ≡ row_of_tick (start c n words s)
+  idle_until first early = idle_at d.oldest (subst (λ (m : ℕ). n < m) first.from early) ∙ sym (ap (row_of_item (start c n words s)) first.item)
 
   -- from its moment on the oldest question is served
   pub question_due : (x : Bor Waiting) → IsDueFirst c s.waiting s.asks d → d.oldest ≡ Question x → d.moment ≤ n
-      → expiry_step n x.now (drop 1 s.waiting) (left_alone x.now.wanted (drop 1 s.waiting) s.asks) s ≡ row_of_tick (turn c n words s)
+      → expiry_step n x.now (drop 1 s.waiting) (left_alone x.now.wanted (drop 1 s.waiting) s.asks) s ≡ row_of_tick (start c n words s)
   question_due x first is late =
       sym (cond-true (nat_le (due_from {A = A} c (Question x)) n) _ _ (le-leb (due_from {A = A} c (Question x)) n
       (subst (λ (m : ℕ). m ≤ n) (first.from ∙ ap (due_from c) is) late)))
-      ∙ sym (ap (row_of_item (turn c n words s)) (first.item ∙ ap (item_of (drop 1 s.waiting)) is))
+      ∙ sym (ap (row_of_item (start c n words s)) (first.item ∙ ap (item_of (drop 1 s.waiting)) is))
 
   -- and the oldest ask
   pub ask_due : (a : Bor Ask) → IsDueFirst c s.waiting s.asks d → d.oldest ≡ OfAsk a → d.moment ≤ n
-      → row_of_failure (turn c n words s) a.now TimedOut ≡ row_of_tick (turn c n words s)
+      → row_of_failure (start c n words s) a.now TimedOut ≡ row_of_tick (start c n words s)
   ask_due a first is late =
       sym (cond-true (nat_le (due_from {A = A} c (OfAsk a)) n) _ _ (le-leb (due_from {A = A} c (OfAsk a)) n
       (subst (λ (m : ℕ). m ≤ n) (first.from ∙ ap (due_from c) is) late)))
-      ∙ sym (ap (row_of_item (turn c n words s)) (first.item ∙ ap (item_of (drop 1 s.waiting)) is))
+      ∙ sym (ap (row_of_item (start c n words s)) (first.item ∙ ap (item_of (drop 1 s.waiting)) is))
 
 module _ {A : Type 0} (c : Config) (s : State) (d : Due A) where
   pub question_there : (x : Bor Waiting) → IsDueFirst c s.waiting s.asks d → d.oldest ≡ Question x → slice_get s.waiting 0 ≡ Some x.now

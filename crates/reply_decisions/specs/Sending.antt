@@ -3,7 +3,7 @@ use Rattle.std.specs.Prelude.{List, map, Option, Some, None}
 use Rattle.dns_message.specs.Values.{Question}
 use Rattle.outstanding.specs.Lists.{without_path}
 use Rattle.outstanding.specs.Values.{Ask}
-use Rattle.step_table.specs.State.{State, Turn}
+use Rattle.step_table.specs.State.{State, StepStart}
 use Rattle.step_table.specs.Attempts.{first_ask_for}
 use Rattle.step_table.specs.Steps.{Fate, with_preferred_server, still_waiting}
 use Rattle.step_table.specs.Replies.{to_be_asked, without_port}
@@ -18,7 +18,7 @@ abbrev pub asked_for : Ask → State → List Fate → Option Question
 asked_for a s fates = to_be_asked (without_path a.path s.asks) (still_waiting fates)
 
 -- the ask for it
-abbrev pub ask_for : Turn → Option Question → Option Ask
+abbrev pub ask_for : StepStart → Option Question → Option Ask
 ask_for t None = None
 ask_for t (Some q) = first_ask_for t q
 

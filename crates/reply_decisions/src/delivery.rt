@@ -21,7 +21,7 @@ ghost use Rattle.outstanding.specs.Lists.{on_path as ask_on};
 ghost use Rattle.step_actions.specs.Decision.{IsQuiet, MeetsRow};
 ghost use Rattle.plain_values.specs.Octets.{AreOctets};
 ghost use Rattle.reply_decisions.specs.Walked.{walk_to, IsRead, IsWalkFor, ShowsOctets};
-ghost use Rattle.step_table.specs.State.{turn};
+ghost use Rattle.step_table.specs.State.{start};
 
 use crate::attempt::fail;
 use crate::sending::send_on;
@@ -33,27 +33,27 @@ use reply_match::{Judged, judge};
 use retry_failover::Failure;
 use std::alloc::{AllocError, Allocator};
 use std::hash::BuildHasher;
-use step_actions::{Change, Decision, Preferred, TurnRef, answers_to, is_live, nothing};
+use step_actions::{Change, Decision, Preferred, StepStartRef, answers_to, is_live, nothing};
 use suffix_routes::Peer;
 use trust_rank::{End, Piece, Walk, pieces};
 
 /// Accepts a reply that answers, with these pieces: all that wait for it are answered, and its
 /// pieces are kept.
 fn accept<'a, 's, H: BuildHasher + Drop, A: Allocator + Copy>(
-    turn: &TurnRef<'a, H, A>,
+    start: &StepStartRef<'a, H, A>,
     ask: &KeyedAsk<A>,
     pieces: PlainList<Piece<A>, A>,
     authority: PlainList<Piece<A>, A>,
 ) -> Result<Decision<'a, 's, A>, AllocError>
-    requires on { ask_on ask.now.path turn.now.state.asks ≡ Some ask.now }
-    ensures decides { (e : EndValue) → has_last e ≡ true → IsWalkFor turn.now.config ask.now (walk_to pieces authority e)
-        → IfOk result (MeetsRow turn.now (λ rooms. row_of_acceptance turn.now rooms ask.now
+    requires on { ask_on ask.now.path start.now.state.asks ≡ Some ask.now }
+    ensures decides { (e : EndValue) → has_last e ≡ true → IsWalkFor start.now.config ask.now (walk_to pieces authority e)
+        → IfOk result (MeetsRow start.now (λ rooms. row_of_acceptance start.now rooms ask.now
         (walk_to pieces authority e))) }
 {
     let walked = pieces.as_slice().len();
-    let held = held_from(turn.alloc, pieces, authority, turn.moment)?;
-    let waiting = &turn.kept.waiting;
-    let actions = answers_to(turn.alloc, ask, &held[..walked], turn.moment, waiting)?;
+    let held = held_from(start.alloc, pieces, authority, start.moment)?;
+    let waiting = &start.kept.waiting;
+    let actions = answers_to(start.alloc, ask, &held[..walked], start.moment, waiting)?;
     let answered = ask.ask();
     let preferred = Preferred {
         route: answered.route,
@@ -61,7 +61,7 @@ fn accept<'a, 's, H: BuildHasher + Drop, A: Allocator + Copy>(
     };
     Ok(Decision {
         actions,
-        used: SlotsRef::none(turn.alloc),
+        used: SlotsRef::none(start.alloc),
         change: Change::Close(answered.path, Some(preferred)),
         carried: held,
     })
@@ -69,14 +69,14 @@ fn accept<'a, 's, H: BuildHasher + Drop, A: Allocator + Copy>(
 
 /// Decides a message that matches the ask. A lame server is a failed attempt.
 fn on_message<'a, 's, H: BuildHasher + Drop, A: Allocator + Copy>(
-    turn: &TurnRef<'a, H, A>,
+    start: &StepStartRef<'a, H, A>,
     ask: &KeyedAsk<A>,
     message: &Message<A>,
 ) -> Result<Decision<'a, 's, A>, AllocError>
-    requires on { ask_on ask.now.path turn.now.state.asks ≡ Some ask.now }
+    requires on { ask_on ask.now.path start.now.state.asks ≡ Some ask.now }
     requires read { IsRead message.now }
-    ensures decides { IfOk result (MeetsRow turn.now (λ rooms. row_of_walk turn.now rooms ask.now
-        (walk_of turn.now.config message.now ask.now.question ask.now.route))) }
+    ensures decides { IfOk result (MeetsRow start.now (λ rooms. row_of_walk start.now rooms ask.now
+        (walk_of start.now.config message.now ask.now.question ask.now.route))) }
 {
     let asked = ask.ask();
     let Walk {
@@ -84,16 +84,16 @@ fn on_message<'a, 's, H: BuildHasher + Drop, A: Allocator + Copy>(
         authority,
         end,
     } = pieces(
-        turn.alloc,
+        start.alloc,
         message,
         &asked.question,
         asked.route,
-        turn.config,
+        start.config,
     )?;
     match end {
-        End::Lame => fail(turn, ask, Failure::Lame),
-        End::Elsewhere(name) => send_on(turn, ask, pieces, authority, name),
-        End::Found | End::NoData | End::Denied => accept(turn, ask, pieces, authority),
+        End::Lame => fail(start, ask, Failure::Lame),
+        End::Elsewhere(name) => send_on(start, ask, pieces, authority, name),
+        End::Found | End::NoData | End::Denied => accept(start, ask, pieces, authority),
     }
 }
 
@@ -107,41 +107,41 @@ fn wants_memory(fault: Fault) -> bool
 /// Reads a whole message that matches the ask, and decides it. An unreadable message is a failed
 /// attempt; `Err` only if memory ran out.
 fn on_whole<'a, 's, H: BuildHasher + Drop, A: Allocator + Copy>(
-    turn: &TurnRef<'a, H, A>,
+    start: &StepStartRef<'a, H, A>,
     ask: &KeyedAsk<A>,
     view: &MessageRef<'_>,
 ) -> Result<Decision<'a, 's, A>, AllocError>
-    requires on { ask_on ask.now.path turn.now.state.asks ≡ Some ask.now }
+    requires on { ask_on ask.now.path start.now.state.asks ≡ Some ask.now }
     requires octets { AreOctets view.now }
-    ensures decides { IfOk result (MeetsRow turn.now (λ rooms. row_of_message turn.now rooms ask.now
+    ensures decides { IfOk result (MeetsRow start.now (λ rooms. row_of_message start.now rooms ask.now
         (message_of view.now))) }
 {
-    match view.read_whole(turn.alloc) {
-        Ok(message) => on_message(turn, ask, &message),
+    match view.read_whole(start.alloc) {
+        Ok(message) => on_message(start, ask, &message),
         Err(fault) if wants_memory(fault) => Err(AllocError),
-        Err(_) => fail(turn, ask, Failure::Malformed),
+        Err(_) => fail(start, ask, Failure::Malformed),
     }
 }
 
 /// Decides a judged delivery. Nothing for a stranger's octets.
 fn on_verdict<'a, 's, H: BuildHasher + Drop, A: Allocator + Copy>(
-    turn: &TurnRef<'a, H, A>,
+    start: &StepStartRef<'a, H, A>,
     ask: &KeyedAsk<A>,
     judged: Judged<'_>,
 ) -> Result<Decision<'a, 's, A>, AllocError>
-    requires on { ask_on ask.now.path turn.now.state.asks ≡ Some ask.now }
+    requires on { ask_on ask.now.path start.now.state.asks ≡ Some ask.now }
     requires octets { ShowsOctets judged }
     ensures decides { (octets : List ℕ) → IsViewOf octets judged.entry
-        → IfOk result (MeetsRow turn.now (λ rooms. row_of_verdict turn.now rooms ask.now octets
+        → IfOk result (MeetsRow start.now (λ rooms. row_of_verdict start.now rooms ask.now octets
         (verdict_of judged.entry))) }
     ensures unmatched { verdict_of judged.entry ≡ Verdict.Stranger → IsQuiet result }
 {
     match judged {
-        Judged::Stranger => Ok(nothing(turn)),
-        Judged::Truncated => fail(turn, ask, Failure::Truncated),
-        Judged::Failed(_) => fail(turn, ask, Failure::Rcode),
-        Judged::Malformed => fail(turn, ask, Failure::Malformed),
-        Judged::Whole(view) => on_whole(turn, ask, &view),
+        Judged::Stranger => Ok(nothing(start)),
+        Judged::Truncated => fail(start, ask, Failure::Truncated),
+        Judged::Failed(_) => fail(start, ask, Failure::Rcode),
+        Judged::Malformed => fail(start, ask, Failure::Malformed),
+        Judged::Whole(view) => on_whole(start, ask, &view),
     }
 }
 
@@ -150,23 +150,23 @@ fn on_verdict<'a, 's, H: BuildHasher + Drop, A: Allocator + Copy>(
 /// question.
 #[inline(never)]
 pub fn on_delivery<'a, 's, H: BuildHasher + Drop, A: Allocator + Copy>(
-    turn: &TurnRef<'a, H, A>,
+    start: &StepStartRef<'a, H, A>,
     path: Path,
     from: Peer,
     bytes: &[u8],
 ) -> Result<Decision<'a, 's, A>, AllocError>
-    ensures decides { IfOk result (MeetsRow turn.now (λ rooms. row_of_delivery turn.now rooms from bytes.now
-        (ask_on path turn.now.state.asks))) }
-    ensures unmatched { verdict_on turn.now.config turn.now.moment from bytes.now
-        (ask_on path turn.now.state.asks) ≡ Verdict.Stranger → IsQuiet result }
+    ensures decides { IfOk result (MeetsRow start.now (λ rooms. row_of_delivery start.now rooms from bytes.now
+        (ask_on path start.now.state.asks))) }
+    ensures unmatched { verdict_on start.now.config start.now.moment from bytes.now
+        (ask_on path start.now.state.asks) ≡ Verdict.Stranger → IsQuiet result }
 {
-    let Some(ask) = turn.kept.inquiries.by_path(path) else {
-        return Ok(nothing(turn));
+    let Some(ask) = start.kept.inquiries.by_path(path) else {
+        return Ok(nothing(start));
     };
     let asked = ask.ask();
-    if !is_live(turn.config, turn.moment, asked) {
-        return Ok(nothing(turn));
+    if !is_live(start.config, start.moment, asked) {
+        return Ok(nothing(start));
     }
     let judged = judge(asked, from, bytes);
-    on_verdict(turn, ask, judged)
+    on_verdict(start, ask, judged)
 }

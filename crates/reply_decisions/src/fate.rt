@@ -18,7 +18,7 @@ use dns_name::Name;
 use record_cache::Held;
 use std::alloc::{AllocError, Allocator, Global};
 use std::hash::BuildHasher;
-use step_actions::{Fate, TurnRef, fate_of};
+use step_actions::{Fate, StepStartRef, fate_of};
 use step_texts::failure;
 use step_values::Why;
 use waiting_questions::Waiting;
@@ -45,27 +45,27 @@ impl<'a, A: Allocator> AliasLead<'a, A> {
 /// The fate of a question by this look-up, which went on after its own aliases and those of the
 /// reply.
 pub(crate) fn fate_behind<'a, H: BuildHasher + Drop, A: Allocator + Copy>(
-    turn: &TurnRef<'a, H, A>,
+    start: &StepStartRef<'a, H, A>,
     lead: &AliasLead<'_, A>,
     waiting: &Waiting<A>,
     looked: &LookUp<'_, '_, A>,
 ) -> Result<Fate<A>, AllocError>
-    requires own { AllByRecursion (IsEarlier turn.now.moment) waiting.now.held }
-    requires aliases { AllByRecursion (IsEarlier turn.now.moment) lead.now.aliases.now }
-    requires used { AllByRecursion (IsEarlier turn.now.moment) looked.now.used }
+    requires own { AllByRecursion (IsEarlier start.now.moment) waiting.now.held }
+    requires aliases { AllByRecursion (IsEarlier start.now.moment) lead.now.aliases.now }
+    requires used { AllByRecursion (IsEarlier start.now.moment) looked.now.used }
     requires few { looked.now.met ≡ LookUpEnd.Missed
         → length ((waiting.now.held ++ lead.now.aliases.now) ++ looked.now.used) ≤ 8 }
     ensures fate { (entries : List HeldValue) → (more : ℕ)
         → more + length (waiting.now.held ++ lead.now.aliases.now) ≡ 8
-        → looked.now ≡ seen_of (look_up turn.now.config.routes turn.now.moment entries more []
+        → looked.now ≡ seen_of (look_up start.now.config.routes start.now.moment entries more []
         (asked_at waiting.now.wanted lead.now.name.now))
         → IfOk result (λ fate. fate_in waiting.now (becomes fate)
-        ≡ fate_behind turn.now.config turn.now.moment entries lead.now.aliases.now lead.now.name.now waiting.now) }
+        ≡ fate_behind start.now.config start.now.moment entries lead.now.aliases.now lead.now.name.now waiting.now) }
     ensures sent { IfOk result (λ fate. IsSentOn (becomes fate)) }
 {
-    let chain = chain_of(turn.alloc, waiting.aliases(), lead.aliases, looked.used())?;
+    let chain = chain_of(start.alloc, waiting.aliases(), lead.aliases, looked.used())?;
     let question = lead.question(waiting);
-    fate_of(turn, &waiting.request(), &chain, looked, Some(&question))
+    fate_of(start, &waiting.request(), &chain, looked, Some(&question))
 }
 
 /// The question fails where it would wait on, since no port is free for an ask.

@@ -24,7 +24,7 @@ use record_cache::{Held, LookUpSlot};
 use std::alloc::{AllocError, Allocator, Global};
 use std::hash::BuildHasher;
 use std::marker::Model;
-use step_actions::{Fate, TurnRef};
+use step_actions::{Fate, StepStartRef};
 use step_texts::failure;
 use step_values::{Action, Actions, Why};
 use waiting_questions::{SentOn, Waiting, WaitingFor};
@@ -53,26 +53,26 @@ impl<'a, A: Allocator> Model for Fates<'a, A> {
 /// The fates of the questions that waited for a reply which leads on: each is looked up at the name
 /// that it leads to, in the cache as the step finds it, one after another.
 pub fn fates_behind<'a, H: BuildHasher + Drop, A: Allocator + Copy>(
-    turn: &TurnRef<'a, H, A>,
+    start: &StepStartRef<'a, H, A>,
     lead: &AliasLead<'_, A>,
     those: &WaitingFor<'_, A>,
 ) -> Result<Fates<'a, A>, AllocError>
-    requires aliases { AllByRecursion (IsEarlier turn.now.moment) lead.now.aliases.now }
-    requires own { AllByRecursion (λ x. AllByRecursion (IsEarlier turn.now.moment) x.held) those.now }
+    requires aliases { AllByRecursion (IsEarlier start.now.moment) lead.now.aliases.now }
+    requires own { AllByRecursion (λ x. AllByRecursion (IsEarlier start.now.moment) x.held) those.now }
     ensures fates { IfOk result (λ f. fates_in those.now f.each
-        ≡ map (fate_behind turn.now.config turn.now.moment turn.now.state.cache.entries lead.now.aliases.now
+        ≡ map (fate_behind start.now.config start.now.moment start.now.state.cache.entries lead.now.aliases.now
         lead.now.name.now) those.now) }
     ensures count { IfOk result (λ f. length f.each ≡ length those.now) }
     ensures used { IfOk result (λ f. map (λ h. h.piece.slot) f.used
-        ≡ flat_map (λ x. (looked_behind turn.now.config turn.now.moment turn.now.state.cache.entries
+        ≡ flat_map (λ x. (looked_behind start.now.config start.now.moment start.now.state.cache.entries
         lead.now.aliases.now lead.now.name.now x).used) those.now) }
 {
     let mut fates = Fates {
-        each: Vec::with_capacity(turn.alloc, those.len())?,
-        used: Vec::new(turn.alloc),
+        each: Vec::with_capacity(start.alloc, those.len())?,
+        used: Vec::new(start.alloc),
     };
     for place in 0..those.len() {
-        fates.add(turn, lead, those.get(place))?;
+        fates.add(start, lead, those.get(place))?;
     }
     Ok(fates)
 }
@@ -95,53 +95,53 @@ impl<'a, A: Allocator + Copy> Fates<'a, A> {
     /// Puts the fate of one more question last, by its look-up, and the entries that this used.
     fn put_looked<H: BuildHasher + Drop>(
         &mut self,
-        turn: &TurnRef<'a, H, A>,
+        start: &StepStartRef<'a, H, A>,
         lead: &AliasLead<'_, A>,
         waiting: &Waiting<A>,
         looked: &LookUp<'a, '_, A>,
     ) -> Result<(), AllocError>
-        requires own { AllByRecursion (IsEarlier turn.now.moment) waiting.now.held }
-        requires aliases { AllByRecursion (IsEarlier turn.now.moment) lead.now.aliases.now }
-        requires used { AllByRecursion (IsEarlier turn.now.moment) looked.now.used }
+        requires own { AllByRecursion (IsEarlier start.now.moment) waiting.now.held }
+        requires aliases { AllByRecursion (IsEarlier start.now.moment) lead.now.aliases.now }
+        requires used { AllByRecursion (IsEarlier start.now.moment) looked.now.used }
         requires few { looked.now.met ≡ LookUpEnd.Missed
             → length ((waiting.now.held ++ lead.now.aliases.now) ++ looked.now.used) ≤ 8 }
         ensures fate { (entries : List HeldValue) → (more : ℕ)
             → more + length (waiting.now.held ++ lead.now.aliases.now) ≡ 8
-            → looked.now ≡ seen_of (look_up turn.now.config.routes turn.now.moment entries more []
+            → looked.now ≡ seen_of (look_up start.now.config.routes start.now.moment entries more []
             (asked_at waiting.now.wanted lead.now.name.now))
-            → IfOk result (λ _. OneMore (fate_behind turn.now.config turn.now.moment entries lead.now.aliases.now
+            → IfOk result (λ _. OneMore (fate_behind start.now.config start.now.moment entries lead.now.aliases.now
             lead.now.name.now) waiting.now self.old.each self.new.each) }
         ensures used { IfOk result (λ _. self.new.used ≡ self.old.used ++ looked.now.used) }
     {
         self.used.extend_from_slice(looked.used())?;
-        let fate = fate_behind(turn, lead, waiting, looked)?;
+        let fate = fate_behind(start, lead, waiting, looked)?;
         self.put(fate)
     }
 
     /// Looks one more question up, and puts its fate last.
     fn add<H: BuildHasher + Drop>(
         &mut self,
-        turn: &TurnRef<'a, H, A>,
+        start: &StepStartRef<'a, H, A>,
         lead: &AliasLead<'_, A>,
         waiting: &Waiting<A>,
     ) -> Result<(), AllocError>
-        requires aliases { AllByRecursion (IsEarlier turn.now.moment) lead.now.aliases.now }
-        requires own { AllByRecursion (IsEarlier turn.now.moment) waiting.now.held }
-        ensures fate { IfOk result (λ _. OneMore (fate_behind turn.now.config turn.now.moment
-            turn.now.state.cache.entries lead.now.aliases.now lead.now.name.now) waiting.now self.old.each
+        requires aliases { AllByRecursion (IsEarlier start.now.moment) lead.now.aliases.now }
+        requires own { AllByRecursion (IsEarlier start.now.moment) waiting.now.held }
+        ensures fate { IfOk result (λ _. OneMore (fate_behind start.now.config start.now.moment
+            start.now.state.cache.entries lead.now.aliases.now lead.now.name.now) waiting.now self.old.each
             self.new.each) }
         ensures used { IfOk result (λ _. map (λ h. h.piece.slot) self.new.used
             ≡ map (λ h. h.piece.slot) self.old.used
-            ++ (looked_behind turn.now.config turn.now.moment turn.now.state.cache.entries lead.now.aliases.now
+            ++ (looked_behind start.now.config start.now.moment start.now.state.cache.entries lead.now.aliases.now
             lead.now.name.now waiting.now).used) }
     {
         let mut slot = LookUpSlot::new();
-        match look_on(turn, &mut slot, lead, waiting)? {
+        match look_on(start, &mut slot, lead, waiting)? {
             None => {
-                let action = failure(turn.alloc, &waiting.request(), Why::ChainLong)?;
+                let action = failure(start.alloc, &waiting.request(), Why::ChainLong)?;
                 self.put(Fate::Reply(action))
             }
-            Some(looked) => self.put_looked(turn, lead, waiting, &looked),
+            Some(looked) => self.put_looked(start, lead, waiting, &looked),
         }
     }
 

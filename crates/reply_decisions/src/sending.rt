@@ -22,7 +22,7 @@ ghost use Rattle.alias_chains.specs.Offering.{pieces_of};
 ghost use Rattle.reply_decisions.specs.Fates.{fates_in, onward_in, Become};
 ghost use Rattle.reply_decisions.specs.Sending.{ask_for, asked_for, closing_state, fates_then};
 ghost use Rattle.reply_decisions.specs.Walked.{walk_on, IsWalkFor};
-ghost use Rattle.step_table.specs.State.{turn, from_state};
+ghost use Rattle.step_table.specs.State.{start, from_state};
 
 use crate::fate::AliasLead;
 use crate::fates::{Fates, fates_behind};
@@ -35,7 +35,8 @@ use record_cache::Held;
 use std::alloc::{AllocError, Allocator};
 use std::hash::BuildHasher;
 use step_actions::{
-    Attempt, Change, Decision, Preferred, Sending, TurnRef, by_udp, close_path, freed_port, new_ask,
+    Attempt, Change, Decision, Preferred, Sending, StepStartRef, by_udp, close_path, freed_port,
+    new_ask,
 };
 use step_texts::ask as ask_action;
 use step_values::Actions;
@@ -60,16 +61,16 @@ fn put_next<A: Allocator + Copy>(
 
 /// The first server to ask on a route once this ask is answered.
 fn preferred_then<'a, H: BuildHasher + Drop, A: Allocator + Copy>(
-    turn: &TurnRef<'a, H, A>,
+    start: &StepStartRef<'a, H, A>,
     route: RouteId,
     answered: &KeyedAsk<A>,
 ) -> usize
-    requires { ask_on answered.now.path turn.now.state.asks ≡ Some answered.now }
-    ensures { result ≡ preferred_on (with_preferred_server answered.now turn.now.state) route }
+    requires { ask_on answered.now.path start.now.state.asks ≡ Some answered.now }
+    ensures { result ≡ preferred_on (with_preferred_server answered.now start.now.state) route }
 {
     let ask = answered.ask();
     let own = ask.route;
-    let before = turn
+    let before = start
         .kept
         .preferred
         .as_slice()
@@ -86,39 +87,39 @@ fn preferred_then<'a, H: BuildHasher + Drop, A: Allocator + Copy>(
 /// The first ask for a question once this ask is answered, whose port counts as free. `None` if no
 /// route serves the name, or no port is free.
 fn first_ask_then<'a, H: BuildHasher + Drop, A: Allocator + Copy>(
-    turn: &TurnRef<'a, H, A>,
+    start: &StepStartRef<'a, H, A>,
     answered: &KeyedAsk<A>,
     question: &Question<A>,
 ) -> Result<Option<Ask<A>>, AllocError>
-    requires { ask_on answered.now.path turn.now.state.asks ≡ Some answered.now }
+    requires { ask_on answered.now.path start.now.state.asks ≡ Some answered.now }
     ensures { IfOk result (λ ask. ask ≡ first_ask_for (from_state
-        (closing_state answered.now turn.now.state) turn.now) question.now) }
+        (closing_state answered.now start.now.state) start.now) question.now) }
 {
-    let Routing::Served(route) = turn.config.routing(&question.name) else {
+    let Routing::Served(route) = start.config.routing(&question.name) else {
         return Ok(None);
     };
     let attempt = Attempt {
         route,
-        server: preferred_then(turn, route, answered),
+        server: preferred_then(start, route, answered),
         used: 1,
     };
     let ask = answered.ask();
-    let drawn = by_udp(draw(turn.words, &turn.kept.inquiries, freed_port(ask.path)));
-    new_ask(turn, question, attempt, drawn)
+    let drawn = by_udp(draw(start.words, &start.kept.inquiries, freed_port(ask.path)));
+    new_ask(start, question, attempt, drawn)
 }
 
 /// Whether an ask of the question other than the answered one is listed.
 fn is_asked_beside<'a, H: BuildHasher + Drop, A: Allocator + Copy>(
-    turn: &TurnRef<'a, H, A>,
+    start: &StepStartRef<'a, H, A>,
     question: &Question<A>,
     answered: &KeyedAsk<A>,
 ) -> bool
-    requires { ask_on answered.now.path turn.now.state.asks ≡ Some answered.now }
-    ensures { result ≡ is_some (of_question question.now (without_path answered.now.path turn.now.state.asks)) }
+    requires { ask_on answered.now.path start.now.state.asks ≡ Some answered.now }
+    ensures { result ≡ is_some (of_question question.now (without_path answered.now.path start.now.state.asks)) }
 {
     let ask = answered.ask();
     let key = QuestionKey::of(question);
-    match turn.kept.inquiries.by_question(&key) {
+    match start.kept.inquiries.by_question(&key) {
         Some(open) => !open.path.is_same(ask.path),
         None => false,
     }
@@ -127,18 +128,18 @@ fn is_asked_beside<'a, H: BuildHasher + Drop, A: Allocator + Copy>(
 /// The ask for the question of those that are sent on, if none is listed. If no port is free for
 /// it, they fail.
 fn ask_for_those<'a, H: BuildHasher + Drop, A: Allocator + Copy>(
-    turn: &TurnRef<'a, H, A>,
+    start: &StepStartRef<'a, H, A>,
     answered: &KeyedAsk<A>,
     fates: Fates<'a, A>,
     those: &WaitingFor<'_, A>,
 ) -> Result<(Fates<'a, A>, Option<Ask<A>>), AllocError>
-    requires on { ask_on answered.now.path turn.now.state.asks ≡ Some answered.now }
+    requires on { ask_on answered.now.path start.now.state.asks ≡ Some answered.now }
     requires count { length fates.each ≡ length those.now }
     ensures ask { IfOk result (λ parts. parts.1 ≡ ask_for
-        (from_state (closing_state answered.now turn.now.state) turn.now)
-        (asked_for answered.now turn.now.state (fates_in those.now fates.entry.each))) }
+        (from_state (closing_state answered.now start.now.state) start.now)
+        (asked_for answered.now start.now.state (fates_in those.now fates.entry.each))) }
     ensures fates { IfOk result (λ parts. fates_in those.now parts.0.each ≡ fates_then
-        (asked_for answered.now turn.now.state (fates_in those.now fates.entry.each)) parts.1
+        (asked_for answered.now start.now.state (fates_in those.now fates.entry.each)) parts.1
         (fates_in those.now fates.entry.each)) }
     ensures count { IfOk result (λ parts. length parts.0.each ≡ length those.now) }
     ensures used { IfOk result (λ parts. parts.0.used ≡ fates.entry.used) }
@@ -146,41 +147,41 @@ fn ask_for_those<'a, H: BuildHasher + Drop, A: Allocator + Copy>(
     let Some(wanted) = fates.wanted() else {
         return Ok((fates, None));
     };
-    if is_asked_beside(turn, wanted, answered) {
+    if is_asked_beside(start, wanted, answered) {
         return Ok((fates, None));
     }
-    match first_ask_then(turn, answered, wanted)? {
+    match first_ask_then(start, answered, wanted)? {
         Some(next) => Ok((fates, Some(next))),
-        None => Ok((fates.without_port(turn.alloc, those)?, None)),
+        None => Ok((fates.without_port(start.alloc, those)?, None)),
     }
 }
 
 /// Closes the ask, gives the replies, and sends the next ask.
 fn close_and_send_on<'a, 's, H: BuildHasher + Drop, A: Allocator + Copy>(
-    turn: &TurnRef<'a, H, A>,
+    start: &StepStartRef<'a, H, A>,
     answered: &KeyedAsk<A>,
     fates: Fates<'a, A>,
     next: Option<Ask<A>>,
     carried: Vec<Held<A>, A>,
 ) -> Result<Decision<'a, 's, A>, AllocError>
-    requires on { ask_on answered.now.path turn.now.state.asks ≡ Some answered.now }
-    requires count { length fates.each ≡ length (filter (waits_for answered.now.question) turn.now.state.waiting) }
-    requires earlier { AllByRecursion (λ b. IsSentEarlier turn.now.moment (onward_in b)) fates.each }
-    requires follows { IfFollows turn.now.config turn.now.moment turn.now.state
-        (without_path answered.now.path turn.now.state.asks) next }
+    requires on { ask_on answered.now.path start.now.state.asks ≡ Some answered.now }
+    requires count { length fates.each ≡ length (filter (waits_for answered.now.question) start.now.state.waiting) }
+    requires earlier { AllByRecursion (λ b. IsSentEarlier start.now.moment (onward_in b)) fates.each }
+    requires follows { IfFollows start.now.config start.now.moment start.now.state
+        (without_path answered.now.path start.now.state.asks) next }
     requires few { length (pieces_of carried.items) < 2 ^ 32 }
-    requires routed { AllByRecursion (IsRouted turn.now.config) (pieces_of carried.items) }
-    ensures decides { (fate : Waiting → Fate) → Become answered.now.question fate turn.now.state.waiting
+    requires routed { AllByRecursion (IsRouted start.now.config) (pieces_of carried.items) }
+    ensures decides { (fate : Waiting → Fate) → Become answered.now.question fate start.now.state.waiting
         fates.entry.each
-        → IfOk result (MeetsRow turn.now (λ rooms. offering_step turn.now.moment rooms (pieces_of carried.items)
-        (closing_step turn.now.moment answered.now fate next
+        → IfOk result (MeetsRow start.now (λ rooms. offering_step start.now.moment rooms (pieces_of carried.items)
+        (closing_step start.now.moment answered.now fate next
         (with_promoted (map (λ h. h.piece.slot) fates.entry.used)
-        (with_preferred_server answered.now turn.now.state))))) }
+        (with_preferred_server answered.now start.now.state))))) }
 {
     let ask = answered.ask();
-    let mut actions = Actions::one(turn.alloc, close_path(ask.path));
-    let (onward, used) = fates.into_parts(turn.alloc, &mut actions)?;
-    put_next(turn.alloc, &mut actions, &next)?;
+    let mut actions = Actions::one(start.alloc, close_path(ask.path));
+    let (onward, used) = fates.into_parts(start.alloc, &mut actions)?;
+    put_next(start.alloc, &mut actions, &next)?;
     let preferred = Preferred {
         route: ask.route,
         server: ask.server,
@@ -191,7 +192,7 @@ fn close_and_send_on<'a, 's, H: BuildHasher + Drop, A: Allocator + Copy>(
         onward,
         ask: next,
     };
-    let sending = Box::new(turn.alloc, sending)?;
+    let sending = Box::new(start.alloc, sending)?;
     Ok(Decision {
         actions,
         used,
@@ -203,25 +204,25 @@ fn close_and_send_on<'a, 's, H: BuildHasher + Drop, A: Allocator + Copy>(
 /// Accepts a reply with these pieces that leads on to a name. Each question that waits for it is
 /// looked up there, and gets its reply or waits on. The pieces are kept.
 pub(crate) fn send_on<'a, 's, H: BuildHasher + Drop, A: Allocator + Copy>(
-    turn: &TurnRef<'a, H, A>,
+    start: &StepStartRef<'a, H, A>,
     answered: &KeyedAsk<A>,
     pieces: PlainList<Piece<A>, A>,
     authority: PlainList<Piece<A>, A>,
     name: Name<A>,
 ) -> Result<Decision<'a, 's, A>, AllocError>
-    requires on { ask_on answered.now.path turn.now.state.asks ≡ Some answered.now }
-    requires carried { IsWalkFor turn.now.config answered.now (walk_on pieces authority name) }
-    ensures decides { IfOk result (MeetsRow turn.now (λ rooms. row_of_acceptance turn.now rooms answered.now
+    requires on { ask_on answered.now.path start.now.state.asks ≡ Some answered.now }
+    requires carried { IsWalkFor start.now.config answered.now (walk_on pieces authority name) }
+    ensures decides { IfOk result (MeetsRow start.now (λ rooms. row_of_acceptance start.now rooms answered.now
         (walk_on pieces authority name))) }
 {
     let walked = pieces.as_slice().len();
-    let held = held_from(turn.alloc, pieces, authority, turn.moment)?;
-    let those = turn.kept.waiting.for_ask(answered);
+    let held = held_from(start.alloc, pieces, authority, start.moment)?;
+    let those = start.kept.waiting.for_ask(answered);
     let lead = AliasLead {
         aliases: &held[..walked],
         name: &name,
     };
-    let fates = fates_behind(turn, &lead, &those)?;
-    let (fates, next) = ask_for_those(turn, answered, fates, &those)?;
-    close_and_send_on(turn, answered, fates, next, held)
+    let fates = fates_behind(start, &lead, &those)?;
+    let (fates, next) = ask_for_those(start, answered, fates, &those)?;
+    close_and_send_on(start, answered, fates, next, held)
 }

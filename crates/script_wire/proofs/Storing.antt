@@ -2,29 +2,29 @@
 use Rattle.std.proofs.Common.{◌≡◌, ◌∙◌, refl, sym, subst, ap, ℕ, ◌+◌, ◌-◌, ◌^◌, ◌<◌, ◌≤◌, inl, inr, arith, List, ◌++◌, Option, Some, None, Bool, true, false}
 use Rattle.std.specs.Prelude.{IfSome, [], ◌∷◌, map, slice_get, nat_lt, cond}
 use Rattle.std.proofs.lemmas.Bool.{ltb-false}
-use Rattle.script_wire.specs.declared.script_wire.ScriptRound.{ScriptRound}
-use Rattle.wires.specs.Wire.{Arrival, Put, Told, ◌then◌, told_more, telling, TellsMore}
-use Rattle.script_wire.specs.Scripts.{stored, Script, standing, no_round, round_of, begun, calls_once, faults_once, refuses, Stores}
+use Rattle.script_wire.specs.declared.script_wire.ScriptTurn.{ScriptTurn}
+use Rattle.wires.specs.Wire.{Arrival, Put, Report, ◌then◌, report_then, journal, ReportsMore}
+use Rattle.script_wire.specs.Scripts.{stored, Script, standing, no_turn, turn_of, begun, calls_once, faults_once, refuses, Stores}
 
-told_before : (o : Option Told) (more now : Told) → told_more o more ≡ Some now → (before : Told) × (o ≡ Some before) × (now ≡ before then more)
-told_before None more now is = absurd (cc)
-told_before (Some before) more now is = (before, refl, some_is _ _ is)
+report_before : (o : Option Report) (more now : Report) → report_then o more ≡ Some now → (before : Report) × (o ≡ Some before) × (now ≡ before then more)
+report_before None more now is = absurd (cc)
+report_before (Some before) more now is = (before, refl, some_is _ _ is)
   where
-    some_is : (s t : Told) → Some s ≡ Some t → t ≡ s
+    some_is : (s t : Report) → Some s ≡ Some t → t ≡ s
     some_is s t e = cc
 
 -- A call that stores its report reports just this, whether it counts a fault or not.
-pub tells_stored : (o new : Option Told) (more : Told) (f f' : ℕ) → f ≤ f' → new ≡ told_more o more → TellsMore (telling o f) more (telling new f')
-tells_stored o new more f f' counts is = record {
-  tells = λ now now_is. told_before o more now (sym is ∙ now_is);
+pub reports_stored : (o new : Option Report) (more : Report) (f f' : ℕ) → f ≤ f' → new ≡ report_then o more → ReportsMore (journal o f) more (journal new f')
+reports_stored o new more f f' counts is = record {
+  reports = λ now now_is. report_before o more now (sym is ∙ now_is);
   counts = counts;
   stays = λ same below. is;
 }
 
 -- A call that counts a fault may fall silent, and so may one where the count is at its last value.
-pub tells_by_none : (o new : Option Told) (more : Told) (f f' : ℕ) → f ≤ f' → (f' ≡ f → f < 2 ^ 64 - 1 → ⊥) → new ≡ None → TellsMore (telling o f) more (telling new f')
-tells_by_none o new more f f' counts risen silent = record {
-  tells = λ now is. absurd (cc);
+pub reports_by_none : (o new : Option Report) (more : Report) (f f' : ℕ) → f ≤ f' → (f' ≡ f → f < 2 ^ 64 - 1 → ⊥) → new ≡ None → ReportsMore (journal o f) more (journal new f')
+reports_by_none o new more f f' counts risen silent = record {
+  reports = λ now is. absurd (cc);
   counts = counts;
   stays = λ same below. absurd (risen same below);
 }
@@ -38,36 +38,36 @@ never_same true f same is below = omega (arith, same)
 never_same false f same is below = let least = ltb-false f (2 ^ 64 - 1) is in omega (arith, least, below)
 
 -- A call that stores its report, or counts that memory ran out, reports just this.
-pub tells_if_stores : (old new : Script) (more : Told) → Stores old more new → TellsMore (telling old.told old.faults) more (telling new.told new.faults)
-tells_if_stores old new more (inl is) =
+pub reports_if_stores : (old new : Script) (more : Report) → Stores old more new → ReportsMore (journal old.report old.faults) more (journal new.report new.faults)
+reports_if_stores old new more (inl is) =
     let same = ap (λ (s : Script). s.faults) is in
-    tells_stored old.told new.told more old.faults new.faults (omega (arith, same)) (ap (λ (s : Script). s.told) is)
-tells_if_stores old new more (inr is) =
+    reports_stored old.report new.report more old.faults new.faults (omega (arith, same)) (ap (λ (s : Script). s.report) is)
+reports_if_stores old new more (inr is) =
     let rises = ap (λ (s : Script). s.faults) is in
-    tells_by_none old.told new.told more old.faults new.faults (subst (λ (f : ℕ). old.faults ≤ f) (sym rises) (never_falls (nat_lt old.faults (2 ^ 64 - 1)) old.faults))
-    (λ same below. never_same (nat_lt old.faults (2 ^ 64 - 1)) old.faults (sym rises ∙ same) refl below) (ap (λ (s : Script). s.told) is)
+    reports_by_none old.report new.report more old.faults new.faults (subst (λ (f : ℕ). old.faults ≤ f) (sym rises) (never_falls (nat_lt old.faults (2 ^ 64 - 1)) old.faults))
+    (λ same below. never_same (nat_lt old.faults (2 ^ 64 - 1)) old.faults (sym rises ∙ same) refl below) (ap (λ (s : Script). s.report) is)
 
 -- the stored puts are those of the report
-pub shows : (tells : Bool) (a : List (Option Arrival)) (p : List Put) (m : List ℕ) (w : List (List ℕ)) (xs : List Put) (o : Option Told) → stored tells a p m w ≡ o → xs ≡ p → IfSome o (λ (told : Told). xs ≡ told.puts)
-shows true a p m w xs o is same = subst (λ (v : Option Told). IfSome v (λ (told : Told). xs ≡ told.puts)) is same
-shows false a p m w xs o is same = subst (λ (v : Option Told). IfSome v (λ (told : Told). xs ≡ told.puts)) is tt
+pub shows : (reports : Bool) (a : List (Option Arrival)) (p : List Put) (m : List ℕ) (w : List (List ℕ)) (xs : List Put) (o : Option Report) → stored reports a p m w ≡ o → xs ≡ p → IfSome o (λ (report : Report). xs ≡ report.puts)
+shows true a p m w xs o is same = subst (λ (v : Option Report). IfSome v (λ (report : Report). xs ≡ report.puts)) is same
+shows false a p m w xs o is same = subst (λ (v : Option Report). IfSome v (λ (report : Report). xs ≡ report.puts)) is tt
 
--- the round of a wire before its first one begins
-pub standing_some : {A : Type 0} (rounds : List (ScriptRound A)) (round : ScriptRound A) → slice_get rounds 0 ≡ Some round → standing (map round_of rounds) ≡ round_of round
-standing_some [] round is = absurd (cc)
-standing_some (first ∷ later) round is = ap round_of (some_is first round is)
+-- the turn of a wire before its first one begins
+pub standing_some : {A : Type 0} (turns : List (ScriptTurn A)) (turn : ScriptTurn A) → slice_get turns 0 ≡ Some turn → standing (map turn_of turns) ≡ turn_of turn
+standing_some [] turn is = absurd (cc)
+standing_some (first ∷ later) turn is = ap turn_of (some_is first turn is)
   where
     some_is : {X : Type 0} (s t : X) → Some s ≡ Some t → s ≡ t
     some_is s t e = cc
 
-pub standing_none : {A : Type 0} (rounds : List (ScriptRound A)) → slice_get rounds 0 ≡ None → standing (map round_of rounds) ≡ no_round
+pub standing_none : {A : Type 0} (turns : List (ScriptTurn A)) → slice_get turns 0 ≡ None → standing (map turn_of turns) ≡ no_turn
 standing_none [] none = refl
 standing_none (first ∷ later) none = absurd (cc)
 
 -- a call that is refused changes nothing but the counts and the report
-pub counted_so : (value begun_one script : Script) (told : Option Told) → value ≡ calls_once begun_one → begun_one ≡ begun script
-    → record { told = told; faults = value.faults + 1; to_come = value.to_come; moment = value.moment; words = value.words; refuse = value.refuse; calls = value.calls } ≡ record (faults_once (calls_once (begun script))) { told = told }
-counted_so value begun_one script told counts begins = rw (counts, begins) refl
+pub counted_so : (value begun_one script : Script) (report : Option Report) → value ≡ calls_once begun_one → begun_one ≡ begun script
+    → record { report = report; faults = value.faults + 1; to_come = value.to_come; moment = value.moment; words = value.words; refuse = value.refuse; calls = value.calls } ≡ record (faults_once (calls_once (begun script))) { report = report }
+counted_so value begun_one script report counts begins = rw (counts, begins) refl
 
 pub refused_so : (begun_one script : Script) → refuses begun_one ≡ true → begun_one ≡ begun script → refuses script ≡ false → ⊥
 refused_so begun_one script refused begins not_so = both (sym (ap (λ (s : Script). refuses s) begins) ∙ refused) not_so

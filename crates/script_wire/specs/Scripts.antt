@@ -5,8 +5,8 @@ use Rattle.std.specs.Prelude.{drop}
 use Rattle.std.specs.List.{list_any}
 use Rattle.step_values.specs.declared.action.Action.{Action as OwnedAction}
 use Rattle.step_values.specs.Values.{action_of}
-use Rattle.script_wire.specs.declared.script_wire.ScriptRound.{ScriptRound}
-use Rattle.wires.specs.Wire.{Arrival, Put, Told, told_more, arrival_of}
+use Rattle.script_wire.specs.declared.script_wire.ScriptTurn.{ScriptTurn}
+use Rattle.wires.specs.Wire.{Arrival, Put, Report, report_then, arrival_of}
 use Rattle.wires.specs.Wire.Arrival.{nothing}
 
 -- a put of the code as a plain value
@@ -14,58 +14,58 @@ abbrev pub put_of : {A : Type 0} → OwnedAction A × Bool → Put
 put_of p = record { action = action_of p.0; sent = p.1 }
 
 -- the report, unless memory ran out before
-abbrev pub stored : Bool → List (Option Arrival) → List Put → List ℕ → List (List ℕ) → Option Told
-stored tells arrivals puts moments words =
-    if tells then Some (record { arrivals = arrivals; puts = puts; moments = moments; words = words }) else None
+abbrev pub stored : Bool → List (Option Arrival) → List Put → List ℕ → List (List ℕ) → Option Report
+stored reports arrivals puts moments words =
+    if reports then Some (record { arrivals = arrivals; puts = puts; moments = moments; words = words }) else None
 
 -- ---- its script
 
--- a round: its arrival, and the moment and the words of each step
-pub record Round : Type 0 where
+-- a turn: its arrival, and the moment and the words of each step
+pub record Turn : Type 0 where
   pub arrival : Arrival
   pub moment : ℕ
   pub words : List ℕ
 
--- a round of the script as a plain value
-abbrev pub round_of : {A : Type 0} → ScriptRound A → Round
-round_of round = record { arrival = arrival_of round.arrival; moment = round.moment; words = round.words }
+-- a turn of the script as a plain value
+abbrev pub turn_of : {A : Type 0} → ScriptTurn A → Turn
+turn_of turn = record { arrival = arrival_of turn.arrival; moment = turn.moment; words = turn.words }
 
--- A wire in memory: its report, and its number of faults; the rounds to come; the moment and the
--- words of the present round (before the first round, of the first); the numbers of the refused
+-- A wire in memory: its report, and its number of faults; the turns to come; the moment and the
+-- words of the present turn (before the first turn, of the first); the numbers of the refused
 -- calls of `arrival` and `put`, and the number of such calls so far.
 pub record Script : Type 0 where
-  pub told : Option Told
+  pub report : Option Report
   pub faults : ℕ
-  pub to_come : List Round
+  pub to_come : List Turn
   pub moment : ℕ
   pub words : List ℕ
   pub refuse : List ℕ
   pub calls : ℕ
 
--- without a round, nothing arrives at the moment 0, and all words are 0
-abbrev pub no_round : Round
-no_round = record { arrival = nothing; moment = 0; words = 0 ∷ 0 ∷ 0 ∷ 0 ∷ 0 ∷ 0 ∷ 0 ∷ 0 ∷ [] }
+-- without a turn, nothing arrives at the moment 0, and all words are 0
+abbrev pub no_turn : Turn
+no_turn = record { arrival = nothing; moment = 0; words = 0 ∷ 0 ∷ 0 ∷ 0 ∷ 0 ∷ 0 ∷ 0 ∷ 0 ∷ [] }
 
--- the round of a wire before the first of its rounds begins
-abbrev pub standing : List Round → Round
-standing [] = no_round
-standing (round ∷ later) = round
+-- the turn of a wire before the first of its turns begins
+abbrev pub standing : List Turn → Turn
+standing [] = no_turn
+standing (turn ∷ later) = turn
 
--- the next round; after the last round nothing arrives, and the moment and the words stay
-abbrev pub next_of : Script → List Round → Round
+-- the next turn; after the last turn nothing arrives, and the moment and the words stay
+abbrev pub next_of : Script → List Turn → Turn
 next_of script [] = record { arrival = nothing; moment = script.moment; words = script.words }
-next_of script (round ∷ later) = round
+next_of script (turn ∷ later) = turn
 
--- the next round
-abbrev pub next_round : Script → Round
-next_round script = next_of script script.to_come
+-- the next turn
+abbrev pub next_turn : Script → Turn
+next_turn script = next_of script script.to_come
 
--- the script once its next round has begun
+-- the script once its next turn has begun
 abbrev pub begun : Script → Script
 begun script = record script {
   to_come = drop 1 script.to_come;
-  moment = (next_round script).moment;
-  words = (next_round script).words;
+  moment = (next_turn script).moment;
+  words = (next_turn script).words;
 }
 
 -- whether the next call of `arrival` or `put` is refused
@@ -87,18 +87,18 @@ counts_want script = record script {
 }
 
 -- A script equal in all but its report.
-abbrev pub AllButTold : Script → Script → Type 0
-AllButTold wanted script = script ≡ record wanted { told = script.told }
+abbrev pub AllButReport : Script → Script → Type 0
+AllButReport wanted script = script ≡ record wanted { report = script.report }
 
 -- An equal script, whose report is the report before, with this report at its end.
-abbrev pub Tells : Script → Option Told → Told → Script → Type 0
-Tells wanted told more script = script ≡ record wanted { told = told_more told more }
+abbrev pub Reports : Script → Option Report → Report → Script → Type 0
+Reports wanted report more script = script ≡ record wanted { report = report_then report more }
 
 -- An equal script, silent from now on.
 abbrev pub IsSilent : Script → Script → Type 0
-IsSilent wanted script = script ≡ record wanted { told = None }
+IsSilent wanted script = script ≡ record wanted { report = None }
 
 -- The report of the call is stored, and nothing else changes; or memory ran out, a fault after
 -- which nothing is reported.
-abbrev pub Stores : Script → Told → Script → Type 0
-Stores old more new = Tells old old.told more new ⊎ IsSilent (counts_want old) new
+abbrev pub Stores : Script → Report → Script → Type 0
+Stores old more new = Reports old old.report more new ⊎ IsSilent (counts_want old) new

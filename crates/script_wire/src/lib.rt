@@ -3,4 +3,4 @@
 
 mod script_wire;
 
-pub use script_wire::{ScriptRound, ScriptWire};
+pub use script_wire::{ScriptTurn, ScriptWire};

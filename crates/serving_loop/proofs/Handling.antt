@@ -1,4 +1,4 @@
--- The effects of the parts of a round, put together.
+-- The effects of the parts of a turn, put together.
 use Rattle.std.proofs.Common.{◌≡◌, ◌∙◌, refl, sym, ap, subst, ℕ, zero, suc, ◌+◌, ◌*◌, ◌<◌, ◌≤◌, ◌⊎◌, inl, inr, List, [], ◌∷◌, ◌++◌, length, append_assoc, append-nil, Option, Some, None, Bool, true, false, arith}
 use Rattle.std.specs.Prelude.{option_map, map, IsSome}
 use Rattle.std.specs.List.{AllByRecursion}
@@ -14,11 +14,11 @@ use Rattle.step_table.specs.Row.{Row, is_due_at, effective}
 use Rattle.step_table.specs.Progress.{left_to_do, ServesSomething}
 use Rattle.theorem_sound.specs.Runs.{Run}
 use Rattle.serving_loop.specs.declared.counts.Served.{Served}
-use Rattle.wires.specs.Wire.{Told, Telling, Put, ◌then◌, TellsMore, moment_was, words_were}
+use Rattle.wires.specs.Wire.{Report, Journal, Put, ◌then◌, ReportsMore, moment_was, words_were}
 use Rattle.serving_loop.specs.Events.{Taken, PutsItsActions, step_in, steps_in, failed_of, more_in, joined, IsChain, AreTicks}
-use Rattle.serving_loop.specs.Serving.{Standing, Does, Adds, left, told_of_all, lost_in, refused_in}
-use Rattle.serving_loop.specs.Handing.{told_of_puts, Puts, most_left, IsOwn, StepsDown, Hands, HandsOn, Ticks}
-use Rattle.serving_loop.proofs.Telling.{tells_nothing, tells_on, told_append, adds_none, adds_more, lost_append, refused_append}
+use Rattle.serving_loop.specs.Serving.{Standing, Does, Adds, left, report_of_all, lost_in, refused_in}
+use Rattle.serving_loop.specs.Handing.{report_of_puts, Puts, most_left, IsOwn, StepsDown, Hands, HandsOn, Ticks}
+use Rattle.serving_loop.proofs.Journal.{reports_nothing, reports_on, report_append, adds_none, adds_more, lost_append, refused_append}
 use Rattle.serving_loop.proofs.Quiet.{IsIdle, quiet_tick, quiet_path}
 
 -- ---- one after another
@@ -36,7 +36,7 @@ does_nothing x = record {
   config = refl;
   run = refl;
   puts = tt;
-  told = tells_nothing x.told;
+  report = reports_nothing x.report;
   lost = adds_none _ _ refl;
   refused_puts = adds_none _ _ refl;
   turns = refl;
@@ -49,7 +49,7 @@ does_more x y z xs ys first more = record {
   run = subst (λ (steps : List Step). Run x.running.config x.running.state steps z.running.state) (sym (filter_map-append step_in xs ys))
       (run_append x.running.config x.running.state y.running.state z.running.state (steps_in xs) (steps_in ys) first.run (subst (λ (c : Config). Run c y.running.state (steps_in ys) z.running.state) first.config more.run));
   puts = all_append xs ys first.puts more.puts;
-  told = subst (λ (t : Told). TellsMore x.told t z.told) (sym (told_append xs ys)) (tells_on x.told y.told z.told (told_of_all xs) (told_of_all ys) first.told more.told);
+  report = subst (λ (t : Report). ReportsMore x.report t z.report) (sym (report_append xs ys)) (reports_on x.report y.report z.report (report_of_all xs) (report_of_all ys) first.report more.report);
   lost = λ le. let sum = lost_append xs ys in let both = adds_more x.counts.lost y.counts.lost z.counts.lost (lost_in xs) (lost_in ys) first.lost more.lost le in omega (arith, sum, both);
   refused_puts = λ le. let sum = refused_append xs ys in let both = adds_more x.counts.refused_puts y.counts.refused_puts z.counts.refused_puts (refused_in xs) (refused_in ys) first.refused_puts more.refused_puts le in omega (arith, sum, both);
   turns = more.turns ∙ first.turns;
@@ -93,18 +93,18 @@ own_falls c config' s s' now words tick o failed puts row same less is actions o
     by (inl due) = inl (less due)
     by (inr none) = let quiet = quiet_tick c s s' now words o row none in idle_down c (effective now s) s s' config' o tick failed puts o.more same quiet.0 is actions (λ _. quiet.1)
 
-tells_step : (o p q r : Telling) (now : ℕ) (words : List ℕ) (x : Taken) → x.handed.now ≡ now → x.handed.words ≡ words → TellsMore o (moment_was now) p → TellsMore p (words_were words) q → TellsMore q (told_of_puts x.puts) r → TellsMore o (told_of_all (x ∷ [])) r
-tells_step o p q r now words x same_now same_words a b c =
-    subst (λ (t : Told). TellsMore o t r) (λ i. record { arrivals = []; puts = sym (append-nil x.puts) i; moments = sym same_now i ∷ []; words = sym same_words i ∷ [] })
-    (tells_on o q r (moment_was now then words_were words) (told_of_puts x.puts) (tells_on o p q (moment_was now) (words_were words) a b) c)
+reports_step : (o p q r : Journal) (now : ℕ) (words : List ℕ) (x : Taken) → x.input.now ≡ now → x.input.words ≡ words → ReportsMore o (moment_was now) p → ReportsMore p (words_were words) q → ReportsMore q (report_of_puts x.puts) r → ReportsMore o (report_of_all (x ∷ [])) r
+reports_step o p q r now words x same_now same_words a b c =
+    subst (λ (t : Report). ReportsMore o t r) (λ i. record { arrivals = []; puts = sym (append-nil x.puts) i; moments = sym same_now i ∷ []; words = sym same_words i ∷ [] })
+    (reports_on o q r (moment_was now then words_were words) (report_of_puts x.puts) (reports_on o p q (moment_was now) (words_were words) a b) c)
 
-pub hands_ok : (before after : Running) (o p q r : Telling) (counts counts' : Served) (now : ℕ) (words : List ℕ) (e : Event) (out : Outcome) (failed : Option Path)
+pub hands_ok : (before after : Running) (o p q r : Journal) (counts counts' : Served) (now : ℕ) (words : List ℕ) (e : Event) (out : Outcome) (failed : Option Path)
     → Row before.config before.state (record { now = now; words = words; event = e }) out after.state → after.config ≡ before.config → left before ≤ most_left before
     → (ServesSomething before.config (effective now before.state) before.state e → left_to_do before.config after.state < left before)
-    → TellsMore o (moment_was now) p → TellsMore p (words_were words) q → Puts None out.actions failed q r counts counts'
-    → Hands e failed out.more (record { running = before; told = o; counts = counts }) (record { running = after; told = r; counts = counts' })
+    → ReportsMore o (moment_was now) p → ReportsMore p (words_were words) q → Puts None out.actions failed q r counts counts'
+    → Hands e failed out.more (record { running = before; report = o; counts = counts }) (record { running = after; report = r; counts = counts' })
 hands_ok before after o p q r counts counts' now words e out failed row config bounded less a b puts =
-    let x : Taken = record { handed = record { now = now; words = words; event = e }; answer = Some out; puts = puts.puts } in
+    let x : Taken = record { input = record { now = now; words = words; event = e }; answer = Some out; puts = puts.puts } in
     record {
       taken = x;
       event_is = refl;
@@ -114,7 +114,7 @@ hands_ok before after o p q r counts counts' now words e out failed row config b
         config = config;
         run = (after.state, row, refl);
         puts = (puts.actions_are, tt);
-        told = tells_step o p q r now words x refl refl a b puts.tells;
+        report = reports_step o p q r now words x refl refl a b puts.reports;
         lost = adds_none _ _ puts.lost;
         refused_puts = λ le. let sum = puts.refused le in omega (arith, sum);
         turns = puts.turns;
@@ -124,12 +124,12 @@ hands_ok before after o p q r counts counts' now words e out failed row config b
       falls = own_falls before.config after.config before.state after.state now words e out failed puts.puts row config (λ serves. let fewer = less serves in let same = ap (λ (k : Config). left_to_do k after.state) config in omega (arith, fewer, same)) puts.failed_is puts.actions_are;
     }
 
-pub hands_err : (before after : Running) (o p q : Telling) (counts counts' : Served) (now : ℕ) (words : List ℕ) (e : Event)
-    → after ≡ before → left before ≤ most_left before → TellsMore o (moment_was now) p → TellsMore p (words_were words) q
+pub hands_err : (before after : Running) (o p q : Journal) (counts counts' : Served) (now : ℕ) (words : List ℕ) (e : Event)
+    → after ≡ before → left before ≤ most_left before → ReportsMore o (moment_was now) p → ReportsMore p (words_were words) q
     → Adds counts.lost 1 counts'.lost → counts'.refused_puts ≡ counts.refused_puts → counts'.turns ≡ counts.turns → counts'.refused_arrivals ≡ counts.refused_arrivals
-    → Hands e None false (record { running = before; told = o; counts = counts }) (record { running = after; told = q; counts = counts' })
+    → Hands e None false (record { running = before; report = o; counts = counts }) (record { running = after; report = q; counts = counts' })
 hands_err before after o p q counts counts' now words e same bounded a b lost refused turns arrivals =
-    let x : Taken = record { handed = record { now = now; words = words; event = e }; answer = None; puts = [] } in
+    let x : Taken = record { input = record { now = now; words = words; event = e }; answer = None; puts = [] } in
     record {
       taken = x;
       event_is = refl;
@@ -139,7 +139,7 @@ hands_err before after o p q counts counts' now words e same bounded a b lost re
         config = ap (λ (r : Running). r.config) same;
         run = ap (λ (r : Running). r.state) same;
         puts = (refl, tt);
-        told = tells_step o p q q now words x refl refl a b (tells_nothing q);
+        report = reports_step o p q q now words x refl refl a b (reports_nothing q);
         lost = λ le. let one = lost le in omega (arith, one);
         refused_puts = adds_none _ _ refused;
         turns = turns;

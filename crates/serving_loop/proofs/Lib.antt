@@ -1,6 +1,6 @@
-pub mod Telling
+pub mod Journal
 pub mod Quiet
 pub mod Handling
 pub mod Framing
-pub mod Rounds
+pub mod Turns
 pub mod Worked

@@ -1,4 +1,4 @@
--- The events of a wire's arrivals, and how a round serves them.
+-- The events of a wire's arrivals, and how a turn serves them.
 use Rattle.std.specs.Prelude.{◌≡◌, ℕ, suc, ◌+◌, ◌*◌, ◌≤◌, Bool, true, false, if◌then◌else◌, ◌==◌, List, [], ◌∷◌, ◌++◌}
 use Rattle.std.specs.Prelude.{length, map, drop, Option, Some, None, option_map}
 use Rattle.std.specs.List.{filter_map}
@@ -8,7 +8,7 @@ use Rattle.suffix_routes.specs.Values.{Config}
 use Rattle.outstanding.specs.declared.ask.Path.{Path}
 use Rattle.outstanding.specs.declared.ask.Path.TheVariants.{Udp, Tcp}
 use Rattle.step_values.specs.declared.event.Client.TheVariants as client
-use Rattle.step_values.specs.Values.{Event, from_client, delivery, path_failed, tick, Action, ask_in, Handed, Outcome}
+use Rattle.step_values.specs.Values.{Event, from_client, delivery, path_failed, tick, Action, ask_in, StepInput, Outcome}
 use Rattle.step_values.specs.Values.{Step}
 use Rattle.wires.specs.Wire.{Arrival, nothing, client_datagram, client_stream, client_closed, server_datagram}
 use Rattle.wires.specs.Wire.{server_stream, path_gone, Put}
@@ -83,7 +83,7 @@ events_of past (Some (path_gone path)) = path_failed path ∷ []
 
 -- an event of the forwarder, its outcome, unless memory ran out, and its puts
 pub record Taken : Type 0 where
-  pub handed : Handed
+  pub input : StepInput
   pub answer : Option Outcome
   pub puts : List Put
 
@@ -98,7 +98,7 @@ PutsItsActions x = map (λ p. p.action) x.puts ≡ actions_in x.answer
 
 -- the step, unless memory ran out
 abbrev pub step_in : Taken → Option Step
-step_in x = option_map (λ outcome. record { handed = x.handed; outcome = outcome }) x.answer
+step_in x = option_map (λ outcome. record { input = x.input; outcome = outcome }) x.answer
 
 -- the steps; an event that found no memory is none
 abbrev pub steps_in : List Taken → List Step
@@ -123,7 +123,7 @@ abbrev pub IsChain : Option Event → List Taken → Type 0
 IsChain None [] = Unit {0}
 IsChain None (x ∷ taken) = ⊥
 IsChain (Some event) [] = ⊥
-IsChain (Some event) (x ∷ taken) = (x.handed.event ≡ event)
+IsChain (Some event) (x ∷ taken) = (x.input.event ≡ event)
     × IsChain (option_map path_failed (failed_of None x.puts)) taken
 
 -- the steps of all chains, in order
@@ -144,37 +144,37 @@ more_in None = false
 more_in (Some outcome) = outcome.more
 
 -- whether more was due after the first step
-abbrev pub tells_more : List Taken → Bool
-tells_more [] = false
-tells_more (x ∷ taken) = more_in x.answer
+abbrev pub reports_more : List Taken → Bool
+reports_more [] = false
+reports_more (x ∷ taken) = more_in x.answer
 
 -- Ticks, if wanted, until a tick reports that nothing more is due, or finds no memory.
 abbrev pub AreTicks : Bool → List (List Taken) → Type 0
 AreTicks false [] = Unit {0}
 AreTicks false (chain ∷ chains) = ⊥
 AreTicks true [] = ⊥
-AreTicks true (chain ∷ chains) = IsChain (Some tick) chain × AreTicks (tells_more chain) chains
+AreTicks true (chain ∷ chains) = IsChain (Some tick) chain × AreTicks (reports_more chain) chains
 
--- ---- rounds
+-- ---- turns
 
--- a round: the arrival, the steps for each of its events, and the steps for each tick
-pub record Round : Type 0 where
+-- a turn: the arrival, the steps for each of its events, and the steps for each tick
+pub record Turn : Type 0 where
   pub arrival : Option Arrival
   pub served : List (List Taken)
   pub ticks : List (List Taken)
 
--- the steps of a round: the events' and the ticks'
-abbrev pub taken_in_round : Round → List Taken
-taken_in_round r = joined r.served ++ joined r.ticks
+-- the steps of a turn: the events' and the ticks'
+abbrev pub taken_in_turn : Turn → List Taken
+taken_in_turn r = joined r.served ++ joined r.ticks
 
--- the steps of all rounds
-abbrev pub taken_in : List Round → List Taken
+-- the steps of all turns
+abbrev pub taken_in : List Turn → List Taken
 taken_in [] = []
-taken_in (r ∷ rounds) = taken_in_round r ++ taken_in rounds
+taken_in (r ∷ all_turns) = taken_in_turn r ++ taken_in all_turns
 
--- A whole round after these arrivals: each event of its arrival, then ticks, at most one more than
+-- A whole turn after these arrivals: each event of its arrival, then ticks, at most one more than
 -- all questions and tries together.
-pub record IsRound (c : Config) (past : List (Option Arrival)) (r : Round) : Type 0 where
+pub record IsTurn (c : Config) (past : List (Option Arrival)) (r : Turn) : Type 0 where
   pub served : AreChains (events_of past r.arrival) r.served
   pub ticks : AreTicks true r.ticks
   pub few : length r.ticks ≤ suc (c.limits.questions + c.limits.inquiries * c.limits.tries)
@@ -191,9 +191,9 @@ IsPiece (Some (server_datagram port from datagram)) = ⊥
 IsPiece (Some (server_stream conn from piece)) = Unit {0}
 IsPiece (Some (path_gone path)) = ⊥
 
--- A round in which memory ran out between two events of its arrival, a piece of a stream: the
--- events before were served. An event lost by the forwarder for lack of memory cuts no round short.
-pub record IsCutShort (past : List (Option Arrival)) (r : Round) : Type 0 where
+-- A turn in which memory ran out between two events of its arrival, a piece of a stream: the
+-- events before were served. An event lost by the forwarder for lack of memory cuts no turn short.
+pub record IsCutShort (past : List (Option Arrival)) (r : Turn) : Type 0 where
   pub piece : IsPiece r.arrival
   pub done : List Event
   pub left : List Event
@@ -201,7 +201,7 @@ pub record IsCutShort (past : List (Option Arrival)) (r : Round) : Type 0 where
   pub served : AreChains done r.served
   pub ticks : r.ticks ≡ []
 
--- each is a round of the loop after the arrivals before
-abbrev pub AreRounds : Config → List (Option Arrival) → List Round → Type 0
-AreRounds c past [] = Unit {0}
-AreRounds c past (r ∷ rounds) = IsRound c past r × AreRounds c (past ++ r.arrival ∷ []) rounds
+-- each is a turn of the loop after the arrivals before
+abbrev pub AreTurns : Config → List (Option Arrival) → List Turn → Type 0
+AreTurns c past [] = Unit {0}
+AreTurns c past (r ∷ all_turns) = IsTurn c past r × AreTurns c (past ++ r.arrival ∷ []) all_turns

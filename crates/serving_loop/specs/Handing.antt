@@ -1,26 +1,26 @@
--- The effects of the parts of a round.
+-- The effects of the parts of a turn.
 use Rattle.std.specs.Prelude.{◌≡◌, ◌⊎◌, ℕ, suc, ◌+◌, ◌*◌, ◌<◌, ◌≤◌, Bool, true, false, List, [], ◌∷◌, length, map}
 use Rattle.std.specs.Prelude.{Option, Some, None}
 use Rattle.outstanding.specs.declared.ask.Path.{Path}
 use Rattle.step_values.specs.Values.{Event, from_client, delivery, path_failed, tick, restart, Action}
 use Rattle.step_table.specs.State.{Running}
 use Rattle.serving_loop.specs.declared.counts.Served.{Served}
-use Rattle.wires.specs.Wire.{Put, Told, Telling, silence, TellsMore}
-use Rattle.serving_loop.specs.Events.{Taken, failed_of, more_in, tells_more, joined, IsChain, AreTicks}
+use Rattle.wires.specs.Wire.{Put, Report, Journal, silence, ReportsMore}
+use Rattle.serving_loop.specs.Events.{Taken, failed_of, more_in, reports_more, joined, IsChain, AreTicks}
 use Rattle.serving_loop.specs.Serving.{Standing, Does, Adds, refused_of, left}
 
 -- the report of puts
-abbrev pub told_of_puts : List Put → Told
-told_of_puts puts = record silence { puts = puts }
+abbrev pub report_of_puts : List Put → Report
+report_of_puts puts = record silence { puts = puts }
 
 -- These actions were put in order. `last` is the last failed path before, `failed` the last failed
 -- path after.
-pub record Puts (last : Option Path) (actions : List Action) (failed : Option Path) (told told_after : Telling)
+pub record Puts (last : Option Path) (actions : List Action) (failed : Option Path) (report report_after : Journal)
     (counts counts_after : Served) : Type 0 where
   pub puts : List Put
   pub actions_are : map (λ (p : Put). p.action) puts ≡ actions
   pub failed_is : failed ≡ failed_of last puts
-  pub tells : TellsMore told (told_of_puts puts) told_after
+  pub reports : ReportsMore report (report_of_puts puts) report_after
   pub refused : Adds counts.refused_puts (refused_of puts) counts_after.refused_puts
   pub turns : counts_after.turns ≡ counts.turns
   pub lost : counts_after.lost ≡ counts.lost
@@ -47,7 +47,7 @@ StepsDown before after event failed more = (left after < left before)
 -- The forwarder took an event.
 pub record Hands (event : Event) (failed : Option Path) (more : Bool) (before after : Standing) : Type 0 where
   pub taken : Taken
-  pub event_is : taken.handed.event ≡ event
+  pub event_is : taken.input.event ≡ event
   pub failed_is : failed ≡ failed_of None taken.puts
   pub more_is : more ≡ more_in taken.answer
   pub does : Does before (taken ∷ []) after
@@ -58,7 +58,7 @@ pub record Hands (event : Event) (failed : Option Path) (more : Bool) (before af
 pub record HandsOn (event : Event) (more : Bool) (before after : Standing) : Type 0 where
   pub chain : List Taken
   pub is_chain : IsChain (Some event) chain
-  pub more_is : more ≡ tells_more chain
+  pub more_is : more ≡ reports_more chain
   pub does : Does before chain after
   pub bounded : left before.running ≤ most_left before.running
   pub falls : event ≡ tick → more ≡ true → left after.running < left before.running

@@ -9,29 +9,29 @@ use Rattle.step_table.specs.Progress.{left_to_do}
 use Rattle.theorem_sound.specs.Runs.{Run}
 use Rattle.theorem_use.specs.Service.{ServesOnTruly}
 use Rattle.serving_loop.specs.declared.counts.Served.{Served}
-use Rattle.wires.specs.Wire.{Arrival, Put, Told, Telling, silence, ◌then◌, TellsMore, arrived}
-use Rattle.serving_loop.specs.Events.{Taken, PutsItsActions, steps_in, Round, taken_in_round, taken_in, AreRounds}
+use Rattle.wires.specs.Wire.{Arrival, Put, Report, Journal, silence, ◌then◌, ReportsMore, arrived}
+use Rattle.serving_loop.specs.Events.{Taken, PutsItsActions, steps_in, Turn, taken_in_turn, taken_in, AreTurns}
 use Rattle.serving_loop.specs.Events.{IsCutShort}
 
 -- ---- the report of a wire
 
 -- a moment and words for each event, and its puts
-abbrev pub told_of : Taken → Told
-told_of x = record { arrivals = []; puts = x.puts; moments = x.handed.now ∷ []; words = x.handed.words ∷ [] }
+abbrev pub report_of : Taken → Report
+report_of x = record { arrivals = []; puts = x.puts; moments = x.input.now ∷ []; words = x.input.words ∷ [] }
 
 -- the report of all steps
-abbrev pub told_of_all : List Taken → Told
-told_of_all [] = silence
-told_of_all (x ∷ taken) = told_of x then told_of_all taken
+abbrev pub report_of_all : List Taken → Report
+report_of_all [] = silence
+report_of_all (x ∷ taken) = report_of x then report_of_all taken
 
--- the report of a round
-abbrev pub told_in_round : Round → Told
-told_in_round r = arrived r.arrival then told_of_all (taken_in_round r)
+-- the report of a turn
+abbrev pub report_in_turn : Turn → Report
+report_in_turn r = arrived r.arrival then report_of_all (taken_in_turn r)
 
--- the report of all rounds
-abbrev pub told_in : List Round → Told
-told_in [] = silence
-told_in (r ∷ rounds) = told_in_round r then told_in rounds
+-- the report of all turns
+abbrev pub report_in : List Turn → Report
+report_in [] = silence
+report_in (r ∷ all_turns) = report_in_turn r then report_in all_turns
 
 -- ---- counts
 
@@ -67,9 +67,9 @@ missed_by None = 1
 missed_by (Some arrival) = 0
 
 -- how many arrivals the wire refused
-abbrev pub missed_in : List Round → ℕ
+abbrev pub missed_in : List Turn → ℕ
 missed_in [] = 0
-missed_in (r ∷ rounds) = missed_by r.arrival + missed_in rounds
+missed_in (r ∷ all_turns) = missed_by r.arrival + missed_in all_turns
 
 -- a count at its last value stays there
 abbrev pub capped : ℕ → ℕ
@@ -84,12 +84,12 @@ Adds before n after = before ≤ 2 ^ 64 - 1 → after ≡ capped (before + n)
 -- the state of the loop: the forwarder, the wire's report with its faults, and the counts
 pub record Standing : Type 0 where
   pub running : Running
-  pub told : Telling
+  pub report : Journal
   pub counts : Served
 
 -- this state of the loop: the forwarder, the wire's report, and the counts
-abbrev pub standing : Running → Telling → Served → Standing
-standing running told counts = record { running = running; told = told; counts = counts }
+abbrev pub standing : Running → Journal → Served → Standing
+standing running report counts = record { running = running; report = report; counts = counts }
 
 -- Between two states the forwarder took these events: the steps are a run, and all their actions
 -- were put.
@@ -97,7 +97,7 @@ pub record Does (before : Standing) (taken : List Taken) (after : Standing) : Ty
   pub config : after.running.config ≡ before.running.config
   pub run : Run before.running.config before.running.state (steps_in taken) after.running.state
   pub puts : AllByRecursion PutsItsActions taken
-  pub told : TellsMore before.told (told_of_all taken) after.told
+  pub report : ReportsMore before.report (report_of_all taken) after.report
   pub lost : Adds before.counts.lost (lost_in taken) after.counts.lost
   pub refused_puts : Adds before.counts.refused_puts (refused_in taken) after.counts.refused_puts
   pub turns : after.counts.turns ≡ before.counts.turns
@@ -107,30 +107,30 @@ pub record Does (before : Standing) (taken : List Taken) (after : Standing) : Ty
 abbrev pub left : Running → ℕ
 left r = left_to_do r.config r.state
 
--- A call of `serve` takes `wanted` whole rounds, and counts them and, up to 2^64 - 1 each, lost
+-- A call of `serve` takes `wanted` whole turns, and counts them and, up to 2^64 - 1 each, lost
 -- events, refused puts other than asks, and refused arrivals. If memory ran out there are fewer
--- rounds, and one cut short.
-abbrev pub Ends : Running → ℕ → List Round → Result Served AllocError → Type 0
-Ends before wanted rounds (Ok counts) = (length rounds ≡ wanted) × AreRounds before.config [] rounds
+-- turns, and one cut short.
+abbrev pub Ends : Running → ℕ → List Turn → Result Served AllocError → Type 0
+Ends before wanted all_turns (Ok counts) = (length all_turns ≡ wanted) × AreTurns before.config [] all_turns
     × (counts ≡ record {
       turns = wanted;
-      lost = capped (lost_in (taken_in rounds));
-      refused_puts = capped (refused_in (taken_in rounds));
-      refused_arrivals = capped (missed_in rounds);
+      lost = capped (lost_in (taken_in all_turns));
+      refused_puts = capped (refused_in (taken_in all_turns));
+      refused_arrivals = capped (missed_in all_turns);
     })
-Ends before wanted rounds (Err refused) = (whole : List Round)
-    × ((last : Round) × (rounds ≡ whole ++ last ∷ []) × (length rounds ≤ wanted) × AreRounds before.config [] whole
-    × IsCutShort (map (λ (r : Round). r.arrival) whole) last)
+Ends before wanted all_turns (Err refused) = (whole : List Turn)
+    × ((last : Turn) × (all_turns ≡ whole ++ last ∷ []) × (length all_turns ≤ wanted) × AreTurns before.config [] whole
+    × IsCutShort (map (λ (r : Turn). r.arrival) whole) last)
 
 -- A call of `serve` (`Ends`): its steps are a run of the forwarder, which serves truly after any
 -- earlier steps. Its puts are the actions in order. The wire reports just this, and all of it if
 -- the wire reported before and counted no fault.
-pub record Serves (before : Running) (told_before : Telling) (wanted : ℕ) (result : Result Served AllocError)
-    (after : Running) (told_after : Telling) : Type 0 where
-  pub rounds : List Round
-  pub ends : Ends before wanted rounds result
+pub record Serves (before : Running) (report_before : Journal) (wanted : ℕ) (result : Result Served AllocError)
+    (after : Running) (report_after : Journal) : Type 0 where
+  pub all_turns : List Turn
+  pub ends : Ends before wanted all_turns result
   pub config : after.config ≡ before.config
-  pub run : Run before.config before.state (steps_in (taken_in rounds)) after.state
-  pub truly : ServesOnTruly before.config before.state (steps_in (taken_in rounds))
-  pub puts : AllByRecursion PutsItsActions (taken_in rounds)
-  pub told : TellsMore told_before (told_in rounds) told_after
+  pub run : Run before.config before.state (steps_in (taken_in all_turns)) after.state
+  pub truly : ServesOnTruly before.config before.state (steps_in (taken_in all_turns))
+  pub puts : AllByRecursion PutsItsActions (taken_in all_turns)
+  pub report : ReportsMore report_before (report_in all_turns) report_after

@@ -12,9 +12,9 @@ use Rattle.serving_loop.specs.declared.streams.Streams.{Streams}
 use Rattle.serving_loop.specs.declared.streams.Sender.{Sender}
 use Rattle.serving_loop.specs.declared.streams.Sender.TheVariants.{FromClient, FromServer}
 use Rattle.wires.specs.Wire.{Arrival, nothing, client_datagram, client_stream, client_closed, server_datagram}
-use Rattle.wires.specs.Wire.{server_stream, path_gone, TellsMore, arrived}
+use Rattle.wires.specs.Wire.{server_stream, path_gone, ReportsMore, arrived}
 use Rattle.serving_loop.specs.Events.{Taken, joined, client_message, server_message, client_octets, server_octets}
-use Rattle.serving_loop.specs.Events.{AreChains, AreTicks, Round, taken_in_round, IsPiece}
+use Rattle.serving_loop.specs.Events.{AreChains, AreTicks, Turn, taken_in_turn, IsPiece}
 use Rattle.serving_loop.specs.Serving.{Standing, Does, Adds, missed_by}
 use Rattle.serving_loop.specs.Handing.{most_left}
 
@@ -100,7 +100,7 @@ pub record ServesEvents (events : List Event) (result : Result (Unit {0}) AllocE
 -- An arrival came, or was refused and counted.
 pub record Arrives (before : Standing) (a : Option Arrival) (after : Standing) : Type 0 where
   pub running : after.running ≡ before.running
-  pub told : TellsMore before.told (arrived a) after.told
+  pub report : ReportsMore before.report (arrived a) after.report
   pub lost : after.counts.lost ≡ before.counts.lost
   pub refused_puts : after.counts.refused_puts ≡ before.counts.refused_puts
   pub turns : after.counts.turns ≡ before.counts.turns
@@ -117,7 +117,7 @@ pub record TakesArrival {A : Type 0} (s : Streams A) (result : Result (Unit {0})
   pub piece : OnErr result (IsPiece arrival)
 
 -- The events before were served, and no tick.
-pub record StopsShort {A : Type 0} (s : Streams A) (r : Round) : Type 0 where
+pub record StopsShort {A : Type 0} (s : Streams A) (r : Turn) : Type 0 where
   pub piece : IsPiece r.arrival
   pub done : List Event
   pub missed : List Event
@@ -125,19 +125,19 @@ pub record StopsShort {A : Type 0} (s : Streams A) (r : Round) : Type 0 where
   pub served : AreChains done r.served
   pub ticks : r.ticks ≡ []
 
--- the loop makes this round, and leaves these streams
-pub record MakesRound {A : Type 0} (s : Streams A) (r : Round) (s' : Streams A) (before : Standing) : Type 0 where
+-- the loop makes this turn, and leaves these streams
+pub record MakesTurn {A : Type 0} (s : Streams A) (r : Turn) (s' : Streams A) (before : Standing) : Type 0 where
   pub served : AreChains (events_by s r.arrival) r.served
   pub ticks : AreTicks true r.ticks
   pub few : length r.ticks ≤ suc (most_left before.running)
   pub follows : Follows s r.arrival s'
 
--- A round was made, or memory ran out in the round.
-pub record TakesRound {A : Type 0} (s : Streams A) (result : Result (Unit {0}) AllocError) (s' : Streams A)
+-- A turn was made, or memory ran out in the turn.
+pub record TakesTurn {A : Type 0} (s : Streams A) (result : Result (Unit {0}) AllocError) (s' : Streams A)
     (before after : Standing) : Type 0 where
-  pub round : Round
+  pub turn : Turn
   pub mid : Standing
-  pub arrives : Arrives before round.arrival mid
-  pub does : Does mid (taken_in_round round) after
-  pub ok : OnOk result (MakesRound s round s' before)
-  pub err : OnErr result (StopsShort s round)
+  pub arrives : Arrives before turn.arrival mid
+  pub does : Does mid (taken_in_turn turn) after
+  pub ok : OnOk result (MakesTurn s turn s' before)
+  pub err : OnErr result (StopsShort s turn)

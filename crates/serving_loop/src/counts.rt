@@ -3,7 +3,7 @@
 /// The counts of a call of `serve`. Each count stays at its last value, 2^64 - 1.
 #[derive(Clone, Copy, PartialEq, Eq, Debug, Drop)]
 pub struct Served {
-    /// The number of rounds of the loop, which a call's `turns` counts.
+    /// The number of turns of the loop, which a call's `turns` counts.
     pub turns: u64,
     /// The number of events that found no memory.
     pub lost: u64,

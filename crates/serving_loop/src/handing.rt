@@ -2,7 +2,7 @@
 
 ghost use Rattle.std.specs.Prelude.{◌≡◌, ◌∷◌, [], None, option_map};
 ghost use Rattle.step_values.specs.Values.{event_of, action_of, actions_of, ask_in};
-ghost use Rattle.wires.specs.Wire.{telling};
+ghost use Rattle.wires.specs.Wire.{journal};
 ghost use Rattle.serving_loop.specs.Serving.{standing};
 ghost use Rattle.serving_loop.specs.Handing.{Puts, Hands, HandsOn, Ticks};
 
@@ -31,8 +31,8 @@ pub(crate) fn hand_on<H: BuildHasher + Drop, A: Allocator + Copy, W: Wire<A>>(
     event: &Event<A>,
 ) -> bool
     ensures { HandsOn (event_of event.now) result
-        (standing forwarder.old (telling (W.told wire.old) (W.fault_count wire.old)) counts.old)
-        (standing forwarder.new (telling (W.told wire.new) (W.fault_count wire.new)) counts.new) }
+        (standing forwarder.old (journal (W.report wire.old) (W.fault_count wire.old)) counts.old)
+        (standing forwarder.new (journal (W.report wire.new) (W.fault_count wire.new)) counts.new) }
 {
     let handled = hand(wire, forwarder, counts, event);
     let mut failed = handled.failed;
@@ -51,8 +51,8 @@ pub(crate) fn hand_datagram<H: BuildHasher + Drop, A: Allocator + Copy, W: Wire<
     mut event: Event<A>,
 ) -> bool
     ensures { HandsOn (event_of event) result
-        (standing forwarder.old (telling (W.told wire.old) (W.fault_count wire.old)) counts.old)
-        (standing forwarder.new (telling (W.told wire.new) (W.fault_count wire.new)) counts.new) }
+        (standing forwarder.old (journal (W.report wire.old) (W.fault_count wire.old)) counts.old)
+        (standing forwarder.new (journal (W.report wire.new) (W.fault_count wire.new)) counts.new) }
 {
     let more = hand_on(wire, forwarder, counts, &event);
     match &mut event {
@@ -69,8 +69,8 @@ pub(crate) fn tick_on<H: BuildHasher + Drop, A: Allocator + Copy, W: Wire<A>>(
     counts: &mut Served,
 )
     ensures { Ticks
-        (standing forwarder.old (telling (W.told wire.old) (W.fault_count wire.old)) counts.old)
-        (standing forwarder.new (telling (W.told wire.new) (W.fault_count wire.new)) counts.new) }
+        (standing forwarder.old (journal (W.report wire.old) (W.fault_count wire.old)) counts.old)
+        (standing forwarder.new (journal (W.report wire.new) (W.fault_count wire.new)) counts.new) }
 {
     while hand_on(wire, forwarder, counts, &Event::Tick) {}
 }
@@ -84,8 +84,8 @@ fn hand<H: BuildHasher + Drop, A: Allocator + Copy, W: Wire<A>>(
     event: &Event<A>,
 ) -> Handled
     ensures { Hands (event_of event.now) result.failed result.more
-        (standing forwarder.old (telling (W.told wire.old) (W.fault_count wire.old)) counts.old)
-        (standing forwarder.new (telling (W.told wire.new) (W.fault_count wire.new)) counts.new) }
+        (standing forwarder.old (journal (W.report wire.old) (W.fault_count wire.old)) counts.old)
+        (standing forwarder.new (journal (W.report wire.new) (W.fault_count wire.new)) counts.new) }
 {
     let now = wire.moment();
     let words = wire.words();
@@ -111,8 +111,8 @@ fn put_all<A: Allocator + Copy, W: Wire<A>>(
     actions: &Actions<A>,
 ) -> Option<Path>
     ensures { Puts None (actions_of actions.now) result
-        (telling (W.told wire.old) (W.fault_count wire.old))
-        (telling (W.told wire.new) (W.fault_count wire.new)) counts.old counts.new }
+        (journal (W.report wire.old) (W.fault_count wire.old))
+        (journal (W.report wire.new) (W.fault_count wire.new)) counts.old counts.new }
 {
     let mut failed = None;
     for place in 0..actions.len() {
@@ -132,8 +132,8 @@ fn put<A: Allocator, W: Wire<A>>(
     failed: Option<Path>,
 ) -> Option<Path>
     ensures { Puts failed (action_of action.now ∷ []) result
-        (telling (W.told wire.old) (W.fault_count wire.old))
-        (telling (W.told wire.new) (W.fault_count wire.new)) counts.old counts.new }
+        (journal (W.report wire.old) (W.fault_count wire.old))
+        (journal (W.report wire.new) (W.fault_count wire.new)) counts.old counts.new }
 {
     match wire.put(action) {
         Ok(()) => failed,

@@ -1,11 +1,11 @@
 //! The loop over a wire.
 
 ghost use Rattle.std.specs.Prelude.{◌≡◌, OnErr, OnOk, Some};
-ghost use Rattle.wires.specs.Wire.{telling, arrival_of, path_gone};
+ghost use Rattle.wires.specs.Wire.{journal, arrival_of, path_gone};
 ghost use Rattle.serving_loop.specs.Events.{IsPiece};
 ghost use Rattle.serving_loop.specs.Serving.{standing, Serves};
 ghost use Rattle.serving_loop.specs.Streams.{events_by, Follows, ServesEvents, TakesArrival};
-ghost use Rattle.serving_loop.specs.Streams.{TakesRound};
+ghost use Rattle.serving_loop.specs.Streams.{TakesTurn};
 
 use crate::counts::Served;
 use crate::handing::{hand_datagram, hand_on, tick_on};
@@ -17,7 +17,7 @@ use std::hash::BuildHasher;
 use step_values::{Client, Event, Path};
 use wires::{Arrival, Wire};
 
-/// Serves `turns` rounds of the loop over a wire. A round takes one arrival and gives its events to
+/// Serves `turns` turns of the loop over a wire. A turn takes one arrival and gives its events to
 /// the forwarder: a datagram is one event, a piece of a stream one for each frame that ends in the
 /// piece, and the end of a path to a server is its failure. The actions of an event are put at
 /// once, in order. A refused ask is the failure of its path, which comes next. Then ticks follow
@@ -34,8 +34,8 @@ pub fn serve<H: BuildHasher + Drop, A: Allocator + Copy, W: Wire<A>>(
     forwarder: &mut Forwarder<H, A>,
     turns: u64,
 ) -> Result<Served, AllocError>
-    ensures { Serves forwarder.old (telling (W.told wire.old) (W.fault_count wire.old)) turns
-        result forwarder.new (telling (W.told wire.new) (W.fault_count wire.new)) }
+    ensures { Serves forwarder.old (journal (W.report wire.old) (W.fault_count wire.old)) turns
+        result forwarder.new (journal (W.report wire.new) (W.fault_count wire.new)) }
 {
     let mut counts = Served {
         turns,
@@ -48,22 +48,22 @@ pub fn serve<H: BuildHasher + Drop, A: Allocator + Copy, W: Wire<A>>(
         clients: BTreeMap::new(alloc),
         servers: BTreeMap::new(alloc),
     };
-    for _round in 0..turns {
-        take_round(wire, forwarder, &mut counts, &mut streams)?;
+    for _turn in 0..turns {
+        take_turn(wire, forwarder, &mut counts, &mut streams)?;
     }
     Ok(counts)
 }
 
-/// Takes a round: an arrival with its events, then ticks.
-fn take_round<H: BuildHasher + Drop, A: Allocator + Copy, W: Wire<A>>(
+/// Takes a turn: an arrival with its events, then ticks.
+fn take_turn<H: BuildHasher + Drop, A: Allocator + Copy, W: Wire<A>>(
     wire: &mut W,
     forwarder: &mut Forwarder<H, A>,
     counts: &mut Served,
     streams: &mut Streams<A>,
 ) -> Result<(), AllocError>
-    ensures { TakesRound streams.old result streams.new
-        (standing forwarder.old (telling (W.told wire.old) (W.fault_count wire.old)) counts.old)
-        (standing forwarder.new (telling (W.told wire.new) (W.fault_count wire.new)) counts.new) }
+    ensures { TakesTurn streams.old result streams.new
+        (standing forwarder.old (journal (W.report wire.old) (W.fault_count wire.old)) counts.old)
+        (standing forwarder.new (journal (W.report wire.new) (W.fault_count wire.new)) counts.new) }
 {
     take_arrival(wire, forwarder, counts, streams)?;
     tick_on(wire, forwarder, counts);
@@ -78,8 +78,8 @@ fn take_arrival<H: BuildHasher + Drop, A: Allocator + Copy, W: Wire<A>>(
     streams: &mut Streams<A>,
 ) -> Result<(), AllocError>
     ensures { TakesArrival streams.old result streams.new
-        (standing forwarder.old (telling (W.told wire.old) (W.fault_count wire.old)) counts.old)
-        (standing forwarder.new (telling (W.told wire.new) (W.fault_count wire.new)) counts.new) }
+        (standing forwarder.old (journal (W.report wire.old) (W.fault_count wire.old)) counts.old)
+        (standing forwarder.new (journal (W.report wire.new) (W.fault_count wire.new)) counts.new) }
 {
     match wire.arrival() {
         Ok(arrival) => serve_arrival(wire, forwarder, counts, streams, arrival),
@@ -100,8 +100,8 @@ fn serve_arrival<H: BuildHasher + Drop, A: Allocator + Copy, W: Wire<A>>(
     arrival: Arrival<A>,
 ) -> Result<(), AllocError>
     ensures serves { ServesEvents (events_by streams.old (Some (arrival_of arrival))) result
-        (standing forwarder.old (telling (W.told wire.old) (W.fault_count wire.old)) counts.old)
-        (standing forwarder.new (telling (W.told wire.new) (W.fault_count wire.new)) counts.new) }
+        (standing forwarder.old (journal (W.report wire.old) (W.fault_count wire.old)) counts.old)
+        (standing forwarder.new (journal (W.report wire.new) (W.fault_count wire.new)) counts.new) }
     ensures follows { OnOk result (Follows streams.old (Some (arrival_of arrival)) streams.new) }
     ensures piece { OnErr result (IsPiece (Some (arrival_of arrival))) }
 {

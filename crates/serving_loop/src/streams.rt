@@ -3,7 +3,7 @@
 ghost use Rattle.std.specs.Prelude.{◌≡◌, ◌==◌, ◌++◌, ℕ, [], if◌then◌else◌, map, OnOk};
 ghost use Rattle.tcp_frames.specs.Frames.{frames_of, unfinished_of};
 ghost use Rattle.step_values.specs.Values.{event_of};
-ghost use Rattle.wires.specs.Wire.{telling};
+ghost use Rattle.wires.specs.Wire.{journal};
 ghost use Rattle.serving_loop.specs.Serving.{standing};
 ghost use Rattle.serving_loop.specs.Streams.{left_on, message_from, ServesFrames, ServesEvents};
 
@@ -102,8 +102,8 @@ pub(crate) fn serve_piece<H: BuildHasher + Drop, A: Allocator + Copy, W: Wire<A>
 ) -> Result<(), AllocError>
     ensures serves { ServesEvents (map (message_from piece.sender) (frames_of (reader.old ++ piece.bytes)))
         result
-        (standing forwarder.old (telling (W.told wire.old) (W.fault_count wire.old)) counts.old)
-        (standing forwarder.new (telling (W.told wire.new) (W.fault_count wire.new)) counts.new) }
+        (standing forwarder.old (journal (W.report wire.old) (W.fault_count wire.old)) counts.old)
+        (standing forwarder.new (journal (W.report wire.new) (W.fault_count wire.new)) counts.new) }
     ensures reader { OnOk result (reader.new ≡ unfinished_of (reader.old ++ piece.bytes)) }
 {
     reader.feed(piece.bytes.as_slice())?;
@@ -119,8 +119,8 @@ fn serve_frames<H: BuildHasher + Drop, A: Allocator + Copy, W: Wire<A>>(
     sender: Sender,
 ) -> Result<(), AllocError>
     ensures { ServesFrames sender reader.old result reader.new
-        (standing forwarder.old (telling (W.told wire.old) (W.fault_count wire.old)) counts.old)
-        (standing forwarder.new (telling (W.told wire.new) (W.fault_count wire.new)) counts.new) }
+        (standing forwarder.old (journal (W.report wire.old) (W.fault_count wire.old)) counts.old)
+        (standing forwarder.new (journal (W.report wire.new) (W.fault_count wire.new)) counts.new) }
 {
     while let Some(message) = reader.take()? {
         hand_on(wire, forwarder, counts, &sender.event(message));

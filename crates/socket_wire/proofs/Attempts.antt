@@ -10,7 +10,7 @@ use Rattle.socket_wire.specs.declared.sockets.Sockets.{Sockets}
 use Rattle.socket_wire.specs.declared.sockets.taking.Tried.{Tried}
 use Rattle.socket_wire.specs.declared.sockets.taking.Tried.TheVariants.{Nothing}
 use Rattle.socket_wire.specs.Attempting.{Attempts, ComesOf, Drops, GivesNext, TriesNext, TriesReady}
-use Rattle.ready_sockets.specs.Rounds.{Dropped, Finds}
+use Rattle.ready_sockets.specs.Trying.{Dropped, Finds}
 
 module _ {R A Streams Listeners : Type 0} where
   -- Only what may be ready changes where the next of it is given, or one is noted no longer.

@@ -12,7 +12,7 @@ use Rattle.std.specs.Ordering.{nat_cmp}
 use Rattle.std.specs.declared.cmp.Ordering.TheVariants.{Less}
 use Rattle.std.specs.declared.ops.Bound.TheVariants.{Included, Unbounded}
 use Rattle.stream_connections.specs.Listed.{first_number}
-use Rattle.ready_sockets.specs.Rounds.{IsAmong}
+use Rattle.ready_sockets.specs.Trying.{IsAmong}
 use Rattle.socket_wire.proofs.Passing.{is_from_or_below}
 
 -- the first of these from this number on

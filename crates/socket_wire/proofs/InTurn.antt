@@ -7,9 +7,9 @@ use Rattle.std.proofs.lemmas.Bool.{cases_order}
 use Rattle.std.specs.Map.{keys_of}
 use Rattle.std.specs.Prelude.{min, unwrap_or}
 use Rattle.stream_connections.specs.Listed.{first_number}
-use Rattle.ready_sockets.specs.Rounds.{IsAmong, first_of}
+use Rattle.ready_sockets.specs.Trying.{IsAmong, first_of}
 use Rattle.socket_wire.specs.Trying.{next_from}
-use Rattle.socket_wire.specs.InTurn.{FindsOr, IsGivenWithin, IsTriedInRound, IsTriedInRounds}
+use Rattle.socket_wire.specs.InTurn.{FindsOr, IsGivenWithin, IsTriedInSweep, IsTriedInSweeps}
 use Rattle.socket_wire.specs.InTurn.{IsTriedWithin}
 use Rattle.socket_wire.specs.InTurn.{StaysListed}
 use Rattle.socket_wire.proofs.Firsts.{IsFirstFrom, IsFound, above_first, first_key}
@@ -17,7 +17,7 @@ use Rattle.socket_wire.proofs.Firsts.{first_key_is_found}
 use Rattle.socket_wire.proofs.Firsts.{first_number_is_found}
 use Rattle.socket_wire.proofs.Passing.{GoesOn, ahead, ahead_less, ahead_most, ahead_some}
 use Rattle.socket_wire.proofs.Passing.{counted_anew, goes_behind}
-use Rattle.socket_wire.proofs.Passing.{goes_round, goes_to_first, is_from_or_below, no_wrap, wraps}
+use Rattle.socket_wire.proofs.Passing.{goes_sweep, goes_to_first, is_from_or_below, no_wrap, wraps}
 use Rattle.socket_wire.proofs.Passing.{wraps_most}
 use Rattle.socket_wire.proofs.Passing.{wraps_some}
 
@@ -56,7 +56,7 @@ goes_on size number from found ever now listed first other =
           upto
           in
           subst (λ next. GoesOn number from next ever) (sym at_0)
-          (goes_round number from found ever from_on before (omega arith) most among)
+          (goes_sweep number from found ever from_on before (omega arith) most among)
       | inr behind ↦
           subst (λ next. GoesOn number from next ever) (sym (mod-eq_of_lt behind))
           (goes_behind number from found ever from_on before among)
@@ -67,8 +67,8 @@ pub begins_anew : (size number from : ℕ) (ever now : List ℕ) → StaysListed
     → IsFound from None now
     → (number < from) × (ahead number 0 ever ≤ ahead number from ever)
 begins_anew size number from ever now listed none =
-    let round : number < from = none number listed.stays in
-    (round, ahead_less number from 0 ever (λ other is. counted_anew number from other round))
+    let sweep : number < from = none number listed.stays in
+    (sweep, ahead_less number from 0 ever (λ other is. counted_anew number from other sweep))
 
 -- Two that are in order differ.
 pub differ : (found number : ℕ) → (found < number) ⊎ (number < found) → found ≡ number → ⊥
@@ -125,25 +125,25 @@ tried_within tries size number from ever listed all enough =
     let one : wraps 1 number from ≤ 1 = wraps_most 1 number from in
     tried tries size number from ever listed all (omega arith)
 
--- ---- rounds of tries
+-- ---- sweeps of tries
 
--- The rest of a walk fits into `rounds` rounds and `tries` tries more.
-abbrev pub Fits : (most rounds tries number from : ℕ) → List ℕ → Type 0
-Fits most rounds tries number from ever = ahead number from ever + wraps most number from ≤ most *
-    rounds + tries
+-- The rest of a walk fits into `sweeps` sweeps and `tries` tries more.
+abbrev pub Fits : (most sweeps tries number from : ℕ) → List ℕ → Type 0
+Fits most sweeps tries number from ever = ahead number from ever + wraps most number from ≤ most *
+    sweeps + tries
 
-pub round_next : {X : Type 0} (InNext : ℕ → (ℕ → List (ℕ × X)) → Type 0)
-    (tries rounds most size number from : ℕ)
+pub sweep_next : {X : Type 0} (InNext : ℕ → (ℕ → List (ℕ × X)) → Type 0)
+    (tries sweeps most size number from : ℕ)
     (found : Option ℕ) (ever now : List ℕ) (listed : ℕ → List (ℕ × X))
     → StaysListed size number ever now
-    → IsFound from found now → suc tries ≤ most → Fits most rounds (suc tries) number from ever
-    → ((next : ℕ) → Fits most rounds tries number next ever
-    → IsTriedInRound InNext tries size number next listed)
-    → ((next : ℕ) → Fits most rounds 0 number next ever → InNext next listed)
-    → FindsOr number found (IsTriedInRound InNext tries size number (next_from size found) listed)
+    → IsFound from found now → suc tries ≤ most → Fits most sweeps (suc tries) number from ever
+    → ((next : ℕ) → Fits most sweeps tries number next ever
+    → IsTriedInSweep InNext tries size number next listed)
+    → ((next : ℕ) → Fits most sweeps 0 number next ever → InNext next listed)
+    → FindsOr number found (IsTriedInSweep InNext tries size number (next_from size found) listed)
     (InNext 0 listed)
-round_next InNext tries rounds most size number from (Some found) ever now listed all first few left
-    on next_round =
+sweep_next InNext tries sweeps most size number from (Some found) ever now listed all first few left
+    on next_sweep =
     elim (cases_order found number) [
       | inl is ↦ inl is
       | inr order ↦
@@ -154,57 +154,57 @@ round_next InNext tries rounds most size number from (Some found) ever now liste
           most in
           inr (on ((found + 1) % size) (omega arith))
     ]
-round_next InNext tries rounds most size number from None ever now listed all none few left on
-    next_round =
+sweep_next InNext tries sweeps most size number from None ever now listed all none few left on
+    next_sweep =
     let anew = begins_anew size number from ever now all none in
     let at_0 : wraps most number 0 ≡ 0 = no_wrap most number in
     let before : wraps most number from ≡ most = wraps_some most number from anew.0 in
-    next_round 0 (omega arith)
+    next_sweep 0 (omega arith)
 
-pub in_round : {X : Type 0} (InNext : ℕ → (ℕ → List (ℕ × X)) → Type 0)
-    (tries rounds most size number from : ℕ)
+pub in_sweep : {X : Type 0} (InNext : ℕ → (ℕ → List (ℕ × X)) → Type 0)
+    (tries sweeps most size number from : ℕ)
     (ever : List ℕ) (listed : ℕ → List (ℕ × X))
     → ((try : ℕ) → StaysListed size number ever (keys_of (listed try)))
-    → tries ≤ most → Fits most rounds tries number from ever
+    → tries ≤ most → Fits most sweeps tries number from ever
     → ((next : ℕ) (later : ℕ → List (ℕ × X))
     → ((try : ℕ) → StaysListed size number ever (keys_of (later try)))
-    → Fits most rounds 0 number next ever → InNext next later)
-    → IsTriedInRound InNext tries size number from listed
-in_round InNext zero rounds most size number from ever listed all few left next_round = next_round
+    → Fits most sweeps 0 number next ever → InNext next later)
+    → IsTriedInSweep InNext tries size number from listed
+in_sweep InNext zero sweeps most size number from ever listed all few left next_sweep = next_sweep
     from listed all left
-in_round InNext (suc tries) rounds most size number from ever listed all few left next_round =
-    round_next InNext tries rounds most size number from (first_number from (listed 0)) ever
+in_sweep InNext (suc tries) sweeps most size number from ever listed all few left next_sweep =
+    sweep_next InNext tries sweeps most size number from (first_number from (listed 0)) ever
     (keys_of (listed 0))
     (λ try. listed (try + 1)) (all 0) (first_number_is_found from (listed 0) (all 0).rise) few left
-    (λ next less. in_round InNext tries rounds most size number next ever (λ try. listed (try + 1))
-    (λ try. all (try + 1)) (omega arith) less next_round)
-    (λ next less. next_round next (λ try. listed (try + 1)) (λ try. all (try + 1)) less)
+    (λ next less. in_sweep InNext tries sweeps most size number next ever (λ try. listed (try + 1))
+    (λ try. all (try + 1)) (omega arith) less next_sweep)
+    (λ next less. next_sweep next (λ try. listed (try + 1)) (λ try. all (try + 1)) less)
 
-pub in_rounds : {X : Type 0} (rounds most size number from : ℕ) (ever : List ℕ)
+pub in_sweeps : {X : Type 0} (sweeps most size number from : ℕ) (ever : List ℕ)
     (listed : ℕ → List (ℕ × X))
     → ((try : ℕ) → StaysListed size number ever (keys_of (listed try)))
-    → Fits most rounds 0 number from ever → IsTriedInRounds rounds most size number from listed
-in_rounds zero most size number from ever listed all left =
+    → Fits most sweeps 0 number from ever → IsTriedInSweeps sweeps most size number from listed
+in_sweeps zero most size number from ever listed all left =
     let none : most * 0 ≡ 0 = omega arith in
     let some : 0 < ahead number from ever = ahead_some number from ever
     ((all 0).known number (all 0).stays) in
     absurd (omega arith)
-in_rounds {X} (suc rounds) most size number from ever listed all left =
-    in_round (IsTriedInRounds {X = X} rounds most size number) most rounds most size number from
+in_sweeps {X} (suc sweeps) most size number from ever listed all left =
+    in_sweep (IsTriedInSweeps {X = X} sweeps most size number) most sweeps most size number from
     ever listed all
     (omega arith) (omega arith)
-    (λ next later all_later less. in_rounds rounds most size number next ever later all_later less)
+    (λ next later all_later less. in_sweeps sweeps most size number next ever later all_later less)
 
--- It is found within the rounds that give a try to each number that is ever listed meanwhile, and
--- one round more.
-pub tried_in_rounds : {X : Type 0} (rounds most size number from : ℕ) (ever : List ℕ)
+-- It is found within the sweeps that give a try to each number that is ever listed meanwhile, and
+-- one sweep more.
+pub tried_in_sweeps : {X : Type 0} (sweeps most size number from : ℕ) (ever : List ℕ)
     (listed : ℕ → List (ℕ × X))
     → ((try : ℕ) → StaysListed size number ever (keys_of (listed try)))
-    → length ever + most ≤ most * rounds → IsTriedInRounds rounds most size number from listed
-tried_in_rounds rounds most size number from ever listed all enough =
+    → length ever + most ≤ most * sweeps → IsTriedInSweeps sweeps most size number from listed
+tried_in_sweeps sweeps most size number from ever listed all enough =
     let all_ever : ahead number from ever ≤ length ever = ahead_most number from ever in
     let one : wraps most number from ≤ most = wraps_most most number from in
-    in_rounds rounds most size number from ever listed all (omega arith)
+    in_sweeps sweeps most size number from ever listed all (omega arith)
 
 -- ---- what may be ready
 

@@ -4,7 +4,7 @@ use Rattle.std.proofs.Common.{arith, sym, subst}
 use Rattle.std.proofs.lemmas.Bool.Decides.{nat_tests, leb_tells}
 use Rattle.std.proofs.lemmas.Grind.{common_steps}
 use Rattle.std.specs.Prelude.{nat_le, if◌then◌else◌, ◌&&◌, ◌||◌}
-use Rattle.ready_sockets.specs.Rounds.{IsAmong}
+use Rattle.ready_sockets.specs.Trying.{IsAmong}
 
 pub is_from_or_below : (from number : ℕ) → (from ≤ number) ⊎ (number < from)
 is_from_or_below from number = elim (leb_tells from number) [ inl w ↦ inl w.1 | inr w ↦ inr w.1 ]
@@ -82,9 +82,9 @@ pub counted_behind : (number from found other : ℕ) → from ≤ found → (fro
     → counted number (found + 1) other ≤ counted number from other
 counted_behind number from found other h b = grind (arith, nat_tests, common_steps)
 
-pub counted_round : (number from found other : ℕ) → from ≤ found → number < from → other ≤ found
+pub counted_sweep : (number from found other : ℕ) → from ≤ found → number < from → other ≤ found
     → counted number 0 other ≤ counted number from other
-counted_round number from found other h r o = grind (arith, nat_tests, common_steps)
+counted_sweep number from found other h r o = grind (arith, nat_tests, common_steps)
 
 pub counted_anew : (number from other : ℕ) → number < from
     → counted number 0 other ≤ counted number from other
@@ -108,8 +108,8 @@ pub found_passed : (number from found : ℕ) → from ≤ found → (from ≤ nu
     → counted number (found + 1) found ≡ 0
 found_passed number from found h b = grind (arith, nat_tests, common_steps)
 
-pub found_passed_round : (number found : ℕ) → number < found → counted number 0 found ≡ 0
-found_passed_round number found h = grind (arith, nat_tests, common_steps)
+pub found_passed_sweep : (number found : ℕ) → number < found → counted number 0 found ≡ 0
+found_passed_sweep number found h = grind (arith, nat_tests, common_steps)
 
 -- ---- what the try that finds none takes
 
@@ -150,20 +150,20 @@ goes_behind number from found ever h b among =
       wraps = λ most. wraps_behind most number from found h b;
     }
 
-pub goes_round : (number from found : ℕ) (ever : List ℕ) → from ≤ found
+pub goes_sweep : (number from found : ℕ) (ever : List ℕ) → from ≤ found
     → (from ≤ number → found < number)
     → number ≤ found → ((other : ℕ) → IsAmong other ever → other ≤ found) → IsAmong found ever
     → GoesOn number from 0 ever
-goes_round number from found ever h b r last among =
-    let round : number < from =
+goes_sweep number from found ever h b r last among =
+    let sweep : number < from =
     elim (is_from_or_below from number) [
       | inl on ↦ let less : found < number = b on in absurd (omega arith)
       | inr below ↦ below
     ]
     in
     let one : counted number from found ≡ 1 = found_counted number from found h b in
-    let none : counted number 0 found ≡ 0 = found_passed_round number found (omega arith) in
-    let more : NoMore number from 0 ever = λ other is. counted_round number from found other h round
+    let none : counted number 0 found ≡ 0 = found_passed_sweep number found (omega arith) in
+    let more : NoMore number from 0 ever = λ other is. counted_sweep number from found other h sweep
     (last other is) in
     record {
       fewer = ahead_falls number from 0 found ever more among (omega arith);

@@ -6,17 +6,17 @@ use Rattle.std.proofs.Common.{List, length, Bool, Option, Some, None, arith, ◌
 use Rattle.std.specs.Map.{keys_of}
 use Rattle.std.specs.Prelude.{unwrap_or}
 use Rattle.ready_sockets.specs.declared.origin.Origin.{Origin}
-use Rattle.ready_sockets.specs.declared.readiness.Round.{Round}
+use Rattle.ready_sockets.specs.declared.readiness.Tokens.{Tokens}
 use Rattle.socket_wire.specs.declared.sockets.Sockets.{Sockets}
 use Rattle.socket_wire.specs.InTurn.{IsGivenWithin, IsTriedWithin, StaysListed}
 use Rattle.stream_connections.specs.Listed.{first_number}
-use Rattle.ready_sockets.specs.Rounds.{Gives, next_token}
+use Rattle.ready_sockets.specs.Trying.{Gives, next_token}
 use Rattle.ready_sockets.specs.Tokens.{HasToken, token_of}
 use Rattle.socket_wire.specs.Trying.{TriesAsk, TriesClient, TriesServer, TriesUpTo, ask_in_turn}
 use Rattle.socket_wire.specs.Trying.{client_in_turn}
 use Rattle.socket_wire.specs.Trying.{next_from, server_in_turn}
 use Rattle.socket_wire.proofs.InTurn.{given_within, tried_within}
-use Rattle.socket_wire.proofs.TriedInRounds.{FindsIn, TriesTo, found_in_rounds}
+use Rattle.socket_wire.proofs.TriedInSweeps.{FindsIn, TriesTo, found_in_sweeps}
 
 -- A number that is found within `tries` tries is found at one of them.
 pub tried_at : {X : Type 0} (tries size number : ℕ) (listed : ℕ → List (ℕ × X)) (from : ℕ → ℕ)
@@ -97,7 +97,7 @@ module _ {R A Streams Listeners : Type 0} where
       (λ try. (before try).connections.clients) listed
       enough)
 
-  -- ---- in rounds of twenty tries
+  -- ---- in sweeps of twenty tries
 
   asks_stay : (done : ℕ) (before at : Sockets R A Streams Listeners)
       → TriesTo TriesAsk done before at
@@ -129,7 +129,7 @@ module _ {R A Streams Listeners : Type 0} where
       clients_stay done later.0 at later.1.1
       ∙ ap (λ (s : Sockets R A Streams Listeners). keys_of s.connections.clients) later.1.0.rest
 
-  -- The port is found in a round of twenty tries.
+  -- The port is found in a sweep of twenty tries.
   abbrev pub FindsAsk : (port : ℕ) → (ever : List ℕ) → Sockets R A Streams Listeners → Type 0
   FindsAsk port ever before = FindsIn TriesAsk (2 ^ 16) port (λ s. s.next_ask) (λ s. s.asks.entries)
       ever 20 before
@@ -139,40 +139,40 @@ module _ {R A Streams Listeners : Type 0} where
       FindsIn TriesServer (2 ^ 64) conn (λ s. s.next_server) (λ s. s.connections.servers) ever 20
       before
 
-  -- The port of an ask that stays listed is tried within the rounds that give a try to each port
-  -- that is ever listed meanwhile, and one round more.
-  pub ask_is_tried_in_rounds : (rounds port : ℕ) (ever : List ℕ)
+  -- The port of an ask that stays listed is tried within the sweeps that give a try to each port
+  -- that is ever listed meanwhile, and one sweep more.
+  pub ask_is_tried_in_sweeps : (sweeps port : ℕ) (ever : List ℕ)
       (before after : ℕ → Sockets R A Streams Listeners)
-      → ((round : ℕ) → TriesUpTo TriesAsk 20 (before round) (after round))
-      → ((round : ℕ) → (before (round + 1)).next_ask ≡ (after round).next_ask)
-      → ((round : ℕ) → StaysListed (2 ^ 16) port ever (keys_of (before round).asks.entries))
-      → length ever + 20 ≤ 20 * rounds
-      → (round : ℕ) × ((round < rounds) × FindsAsk port ever (before round))
-  ask_is_tried_in_rounds rounds port ever before after one between listed enough =
-      found_in_rounds TriesAsk (2 ^ 16) port (λ s. s.next_ask) (λ s. s.asks.entries) ever rounds 20
+      → ((sweep : ℕ) → TriesUpTo TriesAsk 20 (before sweep) (after sweep))
+      → ((sweep : ℕ) → (before (sweep + 1)).next_ask ≡ (after sweep).next_ask)
+      → ((sweep : ℕ) → StaysListed (2 ^ 16) port ever (keys_of (before sweep).asks.entries))
+      → length ever + 20 ≤ 20 * sweeps
+      → (sweep : ℕ) × ((sweep < sweeps) × FindsAsk port ever (before sweep))
+  ask_is_tried_in_sweeps sweeps port ever before after one between listed enough =
+      found_in_sweeps TriesAsk (2 ^ 16) port (λ s. s.next_ask) (λ s. s.asks.entries) ever sweeps 20
       before after
-      (record { told = λ found s s' try. try.one; next = λ found s s' try. try.next }) one between
-      (λ round done at reached.
-      subst (StaysListed (2 ^ 16) port ever) (sym (asks_stay done (before round) at reached))
-      (listed round))
+      (record { report = λ found s s' try. try.one; next = λ found s s' try. try.next }) one between
+      (λ sweep done at reached.
+      subst (StaysListed (2 ^ 16) port ever) (sym (asks_stay done (before sweep) at reached))
+      (listed sweep))
       enough
 
   -- The same of a connection of an ask.
-  pub server_is_tried_in_rounds : (rounds conn : ℕ) (ever : List ℕ)
+  pub server_is_tried_in_sweeps : (sweeps conn : ℕ) (ever : List ℕ)
       (before after : ℕ → Sockets R A Streams Listeners)
-      → ((round : ℕ) → TriesUpTo TriesServer 20 (before round) (after round))
-      → ((round : ℕ) → (before (round + 1)).next_server ≡ (after round).next_server)
-      → ((round : ℕ) → StaysListed (2 ^ 64) conn ever (keys_of (before round).connections.servers))
-      → length ever + 20 ≤ 20 * rounds
-      → (round : ℕ) × ((round < rounds) × FindsServer conn ever (before round))
-  server_is_tried_in_rounds rounds conn ever before after one between listed enough =
-      found_in_rounds TriesServer (2 ^ 64) conn (λ s. s.next_server) (λ s. s.connections.servers)
-      ever rounds 20 before
-      after (record { told = λ found s s' try. try.one; next = λ found s s' try. try.next }) one
+      → ((sweep : ℕ) → TriesUpTo TriesServer 20 (before sweep) (after sweep))
+      → ((sweep : ℕ) → (before (sweep + 1)).next_server ≡ (after sweep).next_server)
+      → ((sweep : ℕ) → StaysListed (2 ^ 64) conn ever (keys_of (before sweep).connections.servers))
+      → length ever + 20 ≤ 20 * sweeps
+      → (sweep : ℕ) × ((sweep < sweeps) × FindsServer conn ever (before sweep))
+  server_is_tried_in_sweeps sweeps conn ever before after one between listed enough =
+      found_in_sweeps TriesServer (2 ^ 64) conn (λ s. s.next_server) (λ s. s.connections.servers)
+      ever sweeps 20 before
+      after (record { report = λ found s s' try. try.one; next = λ found s s' try. try.next }) one
       between
-      (λ round done at reached.
-      subst (StaysListed (2 ^ 64) conn ever) (sym (servers_stay done (before round) at reached))
-      (listed round))
+      (λ sweep done at reached.
+      subst (StaysListed (2 ^ 64) conn ever) (sym (servers_stay done (before sweep) at reached))
+      (listed sweep))
       enough
 
   abbrev pub FindsClient : (conn : ℕ) → (ever : List ℕ) → Sockets R A Streams Listeners → Type 0
@@ -181,28 +181,28 @@ module _ {R A Streams Listeners : Type 0} where
       before
 
   -- The same of a client.
-  pub client_is_tried_in_rounds : (rounds conn : ℕ) (ever : List ℕ)
+  pub client_is_tried_in_sweeps : (sweeps conn : ℕ) (ever : List ℕ)
       (before after : ℕ → Sockets R A Streams Listeners)
-      → ((round : ℕ) → TriesUpTo TriesClient 20 (before round) (after round))
-      → ((round : ℕ) → (before (round + 1)).next_client ≡ (after round).next_client)
-      → ((round : ℕ) → StaysListed (2 ^ 64) conn ever (keys_of (before round).connections.clients))
-      → length ever + 20 ≤ 20 * rounds
-      → (round : ℕ) × ((round < rounds) × FindsClient conn ever (before round))
-  client_is_tried_in_rounds rounds conn ever before after one between listed enough =
-      found_in_rounds TriesClient (2 ^ 64) conn (λ s. s.next_client) (λ s. s.connections.clients)
-      ever rounds 20 before
-      after (record { told = λ found s s' try. try.one; next = λ found s s' try. try.next }) one
+      → ((sweep : ℕ) → TriesUpTo TriesClient 20 (before sweep) (after sweep))
+      → ((sweep : ℕ) → (before (sweep + 1)).next_client ≡ (after sweep).next_client)
+      → ((sweep : ℕ) → StaysListed (2 ^ 64) conn ever (keys_of (before sweep).connections.clients))
+      → length ever + 20 ≤ 20 * sweeps
+      → (sweep : ℕ) × ((sweep < sweeps) × FindsClient conn ever (before sweep))
+  client_is_tried_in_sweeps sweeps conn ever before after one between listed enough =
+      found_in_sweeps TriesClient (2 ^ 64) conn (λ s. s.next_client) (λ s. s.connections.clients)
+      ever sweeps 20 before
+      after (record { report = λ found s s' try. try.one; next = λ found s s' try. try.next }) one
       between
-      (λ round done at reached.
-      subst (StaysListed (2 ^ 64) conn ever) (sym (clients_stay done (before round) at reached))
-      (listed round))
+      (λ sweep done at reached.
+      subst (StaysListed (2 ^ 64) conn ever) (sym (clients_stay done (before sweep) at reached))
+      (listed sweep))
       enough
 
--- A socket that stays noted is given within as many turns of its round as sockets are ever noted
+-- A socket that stays noted is given within as many turns of its sweep as sockets are ever noted
 -- meanwhile.
 pub socket_is_given : {A : Type 0} (turns : ℕ) (origin : Origin) (ever : List ℕ)
     (given : ℕ → Option Origin)
-    (before after : ℕ → Round A) → HasToken origin
+    (before after : ℕ → Tokens A) → HasToken origin
     → ((turn : ℕ) → Gives (given turn) (before turn) (after turn))
     → ((turn : ℕ) → (before (turn + 1)).last ≡ (after turn).last)
     → ((turn : ℕ) → StaysListed (2 ^ 64 - 1) (token_of origin) ever (before turn).tokens.keys)
@@ -211,7 +211,7 @@ pub socket_is_given : {A : Type 0} (turns : ℕ) (origin : Origin) (ever : List 
 socket_is_given {A} turns origin ever given before after has one next listed enough =
     let found = given_at turns (token_of origin) (λ turn. (before turn).tokens.keys)
     (λ turn. (before turn).last)
-    (λ turn. next turn ∙ ap (λ (round : Round A). round.last) (one turn).tried)
+    (λ turn. next turn ∙ ap (λ (sweep : Tokens A). sweep.last) (one turn).tried)
     (given_within turns (token_of origin) (before 0).last ever (λ turn. (before turn).tokens.keys)
     listed enough)
     in

@@ -1,7 +1,7 @@
 -- Walks over what is listed, worked by hand: how soon a number is found, and that it isn't found
 -- sooner.
 use Rattle.std.proofs.Common.{◌≡◌, refl, ℕ, ◌<◌, ◌⊎◌, List, [], ◌∷◌, Some, inl, inr, arith}
-use Rattle.socket_wire.specs.InTurn.{IsGivenWithin, IsTriedInRounds, IsTriedWithin}
+use Rattle.socket_wire.specs.InTurn.{IsGivenWithin, IsTriedInSweeps, IsTriedWithin}
 use Rattle.socket_wire.specs.Trying.{next_from}
 
 differ : (found number : ℕ) → (found < number) ⊎ (number < found) → Some found ≡ Some number → ⊥
@@ -23,14 +23,14 @@ three_in_three (inr (inl is)) = differ 9 3 (inr (omega arith)) is
 three_in_three (inr (inr (inl is))) = cc
 three_in_three (inr (inr (inr none))) = none
 
--- In rounds of two tries, of which the first begins after the last port: none; 3 and 5; 9.
-pub nine_in_three_rounds : IsTriedInRounds 3 2 65536 9 10 three
-nine_in_three_rounds = inr (inr (inl refl))
+-- In sweeps of two tries, of which the first begins after the last port: none; 3 and 5; 9.
+pub nine_in_three_sweeps : IsTriedInSweeps 3 2 65536 9 10 three
+nine_in_three_sweeps = inr (inr (inl refl))
 
-pub nine_in_two_rounds : IsTriedInRounds 2 2 65536 9 10 three → ⊥
-nine_in_two_rounds (inl is) = omega arith
-nine_in_two_rounds (inr (inl is)) = omega arith
-nine_in_two_rounds (inr (inr none)) = none
+pub nine_in_two_sweeps : IsTriedInSweeps 2 2 65536 9 10 three → ⊥
+nine_in_two_sweeps (inl is) = omega arith
+nine_in_two_sweeps (inr (inl is)) = omega arith
+nine_in_two_sweeps (inr (inr none)) = none
 
 -- After the last port of all the walk begins again at once.
 abbrev pub first_and_last : ℕ → List (ℕ × ℕ)

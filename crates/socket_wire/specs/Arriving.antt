@@ -18,7 +18,7 @@ use Rattle.socket_wire.specs.declared.sockets.taking.Tried.{Tried}
 use Rattle.socket_wire.specs.declared.sockets.taking.Tried.TheVariants.{Arrived, Served, Nothing}
 use Rattle.stream_connections.specs.Listed.{Admits, first_idle, first_resting}
 use Rattle.stream_connections.specs.Open.{AreNone, Connections, without_first}
-use Rattle.ready_sockets.specs.Rounds.{IsBegun}
+use Rattle.ready_sockets.specs.Trying.{IsBegun}
 
 -- with a place for one client more: of 1,024, the oldest that waits for nothing goes
 abbrev pub with_place : {A : Type 0} → Connections A → Connections A
@@ -123,15 +123,15 @@ pub record AreNew {R A Streams Listeners : Type 0} (sockets : Sockets R A Stream
   pub numbers : sockets.numbers.next ≡ 0
 
 -- the arrival that reports the end of a connection
-abbrev pub told : {A : Type 0} → Closed → Arrival A
-told (Client conn) = ClientClosed conn
-told (Server conn) = PathGone (path.Tcp conn)
+abbrev pub report : {A : Type 0} → Closed → Arrival A
+report (Client conn) = ClientClosed conn
+report (Server conn) = PathGone (path.Tcp conn)
 
 -- The next end to report arrives, if any; nothing else changes then.
-pub record TellsEnd {R A Streams Listeners : Type 0} (result : Result (Arrival A) AllocError)
+pub record ReportsEnd {R A Streams Listeners : Type 0} (result : Result (Arrival A) AllocError)
     (before after : Sockets R A Streams Listeners) : Type 0 where
-  pub tells : (ended : Closed) → slice_get before.connections.closed 0 ≡ Some ended
-      → result ≡ Ok (told ended)
+  pub reports : (ended : Closed) → slice_get before.connections.closed 0 ≡ Some ended
+      → result ≡ Ok (report ended)
   pub once : 0 < length before.connections.closed
       → after ≡ record before {
         connections = record before.connections {

@@ -10,7 +10,7 @@ use Rattle.socket_wire.specs.declared.sockets.Sockets.{Sockets}
 use Rattle.socket_wire.specs.declared.sockets.taking.Tried.{Tried}
 use Rattle.socket_wire.specs.declared.sockets.taking.Tried.TheVariants.{Arrived, Served, Nothing}
 use Rattle.socket_wire.specs.Arriving.{TakesConnection}
-use Rattle.ready_sockets.specs.Rounds.{Dropped, Finds}
+use Rattle.ready_sockets.specs.Trying.{Dropped, Finds}
 use Rattle.socket_wire.specs.Taking.{TakesAsk, TakesClient, TakesDatagram, TakesServer}
 
 -- Trying the listener. It does not allocate.

@@ -3,7 +3,7 @@ use Rattle.std.specs.Prelude.{◌≡◌, ℕ, zero, suc, ◌+◌, ◌<◌, ◌�
 use Rattle.std.specs.List.Sorted.{IsStrictlySortedBy}
 use Rattle.std.specs.Ordering.{nat_cmp}
 use Rattle.stream_connections.specs.Listed.{first_number}
-use Rattle.ready_sockets.specs.Rounds.{IsAmong, next_token}
+use Rattle.ready_sockets.specs.Trying.{IsAmong, next_token}
 use Rattle.socket_wire.specs.Trying.{next_from}
 
 -- The numbers listed now rise and have this number among them. All of them are among the numbers
@@ -23,30 +23,30 @@ IsTriedWithin (suc tries) size number from listed =
     ⊎ IsTriedWithin tries size number (next_from size (first_number from (listed 0)))
     (λ try. listed (try + 1))
 
--- A try found the number, or the round goes on; after a try that found none, the next round begins.
-abbrev pub FindsOr : (number : ℕ) → Option ℕ → (goes_on next_round : Type 0) → Type 0
-FindsOr number (Some found) goes_on next_round = (found ≡ number) ⊎ goes_on
-FindsOr number None goes_on next_round = next_round
+-- A try found the number, or the sweep goes on; after a try that found none, the next sweep begins.
+abbrev pub FindsOr : (number : ℕ) → Option ℕ → (goes_on next_sweep : Type 0) → Type 0
+FindsOr number (Some found) goes_on next_sweep = (found ≡ number) ⊎ goes_on
+FindsOr number None goes_on next_sweep = next_sweep
 
--- The number is found within `tries` tries of a round, which ends after the last listed number, or
--- in the next rounds.
-abbrev pub IsTriedInRound : {X : Type 0} → (InNext : ℕ → (ℕ → List (ℕ × X)) → Type 0)
+-- The number is found within `tries` tries of a sweep, which ends after the last listed number, or
+-- in the next sweeps.
+abbrev pub IsTriedInSweep : {X : Type 0} → (InNext : ℕ → (ℕ → List (ℕ × X)) → Type 0)
     → (tries size number from : ℕ) → (ℕ → List (ℕ × X)) → Type 0
-IsTriedInRound InNext zero size number from listed = InNext from listed
-IsTriedInRound InNext (suc tries) size number from listed =
+IsTriedInSweep InNext zero size number from listed = InNext from listed
+IsTriedInSweep InNext (suc tries) size number from listed =
     FindsOr number (first_number from (listed 0))
-    (IsTriedInRound InNext tries size number (next_from size (first_number from (listed 0)))
+    (IsTriedInSweep InNext tries size number (next_from size (first_number from (listed 0)))
     (λ try. listed (try + 1)))
     (InNext 0 (λ try. listed (try + 1)))
 
--- The number is found within `rounds` rounds, each of at most `most` tries.
-abbrev pub IsTriedInRounds : {X : Type 0} → (rounds most size number from : ℕ) → (ℕ → List (ℕ × X))
+-- The number is found within `sweeps` sweeps, each of at most `most` tries.
+abbrev pub IsTriedInSweeps : {X : Type 0} → (sweeps most size number from : ℕ) → (ℕ → List (ℕ × X))
     → Type 0
-IsTriedInRounds zero most size number from listed = ⊥
-IsTriedInRounds {X} (suc rounds) most size number from listed =
-    IsTriedInRound (IsTriedInRounds {X = X} rounds most size number) most size number from listed
+IsTriedInSweeps zero most size number from listed = ⊥
+IsTriedInSweeps {X} (suc sweeps) most size number from listed =
+    IsTriedInSweep (IsTriedInSweeps {X = X} sweeps most size number) most size number from listed
 
--- The token is given within `turns` turns of a round of sockets, where `last` was tried last.
+-- The token is given within `turns` turns of a sweep of sockets, where `last` was tried last.
 abbrev pub IsGivenWithin : (turns token last : ℕ) → (ℕ → List ℕ) → Type 0
 IsGivenWithin zero token last tokens = ⊥
 IsGivenWithin (suc turns) token last tokens =

@@ -8,7 +8,7 @@ use Rattle.wires.specs.declared.wire.Arrival.{Arrival}
 use Rattle.wires.specs.declared.wire.Arrival.TheVariants.{Nothing}
 use Rattle.socket_wire.specs.declared.sockets.Sockets.{Sockets}
 use Rattle.socket_wire.specs.Attempting.{TriesReady}
-use Rattle.ready_sockets.specs.Rounds.{IsNothing, NotedStay}
+use Rattle.ready_sockets.specs.Trying.{IsNothing, NotedStay}
 use Rattle.socket_wire.specs.Trying.{TriesOthers}
 
 -- Events are taken: more may be ready, and nothing else has changed, nor whose turn it is.
@@ -25,7 +25,7 @@ pub record TakesEventsIfReady {R A Streams Listeners : Type 0}
   pub some : (IsNothing before.readiness.ready → ⊥) → TakesEvents before after
   pub none : IsNothing before.readiness.ready → after ≡ before
 
--- A round of unreported sockets is due: they are tried after the reported ones.
+-- A sweep of unreported sockets is due: they are tried after the reported ones.
 pub record LooksAtAll {R A Streams Listeners : Type 0} (now : ℕ)
     (before after : Sockets R A Streams Listeners)
     : Type 0 where
@@ -46,7 +46,7 @@ pub record LooksForAsks {R A Streams Listeners : Type 0}
   pub no_asks : has_asks before ≡ false → after ≡ before
   pub ready : 0 < btree_set_len before.readiness.ready.servers.tokens → after ≡ before
 
--- Looking for ready sockets, without a wait. If no round is due (every 5 ms), and nothing may be
+-- Looking for ready sockets, without a wait. If no sweep is due (every 5 ms), and nothing may be
 -- ready, nothing has changed.
 pub record Looks {R A Streams Listeners : Type 0} (now : ℕ)
     (before after : Sockets R A Streams Listeners) : Type 0 where

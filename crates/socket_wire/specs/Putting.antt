@@ -81,7 +81,7 @@ pub record AnswersOn {A : Type 0} (conn : ℕ) (reply : List ℕ) (now : ℕ) (i
   pub answer : Option (Result Bool Lost)
   pub clients : List (ℕ × ClientStream A)
   pub replies : RepliesOn conn reply now answer before.clients clients
-  pub told : is_done ≡ is_answered answer
+  pub report : is_done ≡ is_answered answer
   pub closes : after ≡
       (if is_closed_behind answer then without_client conn (record before { clients = clients })
       else record before { clients = clients })

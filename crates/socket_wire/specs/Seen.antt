@@ -5,12 +5,12 @@ use Rattle.step_values.specs.declared.action.Action.{Action}
 use Rattle.step_values.specs.Values.{action_of}
 use Rattle.wires.specs.declared.wire.Arrival.{Arrival as OwnedArrival}
 use Rattle.wires.specs.declared.wire.Arrival.TheVariants.{Nothing}
-use Rattle.wires.specs.Wire.{Arrival, Put, Told, ◌then◌, arrival_of, arrived}
+use Rattle.wires.specs.Wire.{Arrival, Put, Report, ◌then◌, arrival_of, arrived}
 
 -- The arrivals, puts, moments and words that it gave and took so far; the number of faults that it
 -- counted; and the time, in ms, for which a question on a connection may wait for its reply.
 pub record SeenWire : Type 0 where
-  pub told : Told
+  pub report : Report
   pub faults : ℕ
   pub deadline : ℕ
 
@@ -20,9 +20,9 @@ came_of (Ok arrival) = Some (arrival_of arrival)
 came_of (Err refusal) = None
 
 -- the report after a turn's first try: as before where nothing came, since the wire tries once more
-abbrev pub told_at_once : {A : Type 0} → Told → Result (OwnedArrival A) AllocError → Told
-told_at_once told (Ok Nothing) = told
-told_at_once told came = told then arrived (came_of came)
+abbrev pub report_at_once : {A : Type 0} → Report → Result (OwnedArrival A) AllocError → Report
+report_at_once report (Ok Nothing) = report
+report_at_once report came = report then arrived (came_of came)
 
 -- an action that was put, and whether it was done, as plain values
 abbrev pub put_of : {A : Type 0} → Action A × Bool → Put
@@ -30,7 +30,7 @@ put_of put = record { action = action_of put.0; sent = put.1 }
 
 -- the report of these calls
 abbrev pub report_of : {A : Type 0} → List (Result (OwnedArrival A) AllocError × Unit {0}) → List (Action A × Bool)
-    → List (List ℕ × Unit {0}) → Told
+    → List (List ℕ × Unit {0}) → Report
 report_of arrivals puts words = record {
   arrivals = map (λ call. came_of call.0) arrivals;
   puts = map put_of puts;
@@ -39,5 +39,5 @@ report_of arrivals puts words = record {
 }
 
 -- the report with the moments that were given
-abbrev pub with_moments : Told → List (ℕ × Unit {0}) → Told
-with_moments told given = record told { moments = map (λ call. call.0) given }
+abbrev pub with_moments : Report → List (ℕ × Unit {0}) → Report
+with_moments report given = record report { moments = map (λ call. call.0) given }

@@ -7,7 +7,7 @@ use Rattle.ready_sockets.specs.declared.origin.Origin.TheVariants.{Connections a
 use Rattle.ready_sockets.specs.declared.readiness.Ready.{Ready}
 use Rattle.socket_wire.specs.declared.sockets.Sockets.{Sockets}
 use Rattle.stream_connections.specs.Listed.{first_number}
-use Rattle.ready_sockets.specs.Rounds.{Noted}
+use Rattle.ready_sockets.specs.Trying.{Noted}
 
 -- the beginning of the next turn: one after the found number; 0 after the last and at `size`
 abbrev pub next_from : (size : ℕ) → Option ℕ → ℕ
@@ -74,27 +74,27 @@ TriesUpTo {S} Tries (suc more) before after =
     Tries false before after
     ⊎ ((between : S) × (Tries true before between × TriesUpTo Tries more between after))
 
--- A round counts itself, and has the socket for datagrams tried, and in an eighth round the
+-- A sweep counts itself, and has the socket for datagrams tried, and in an eighth sweep the
 -- listener.
-pub record BeginsRound {R A Streams Listeners : Type 0}
+pub record BeginsSweep {R A Streams Listeners : Type 0}
     (before after : Sockets R A Streams Listeners) : Type 0 where
   pub between : Ready A
   pub datagrams : Noted Datagrams before.readiness.ready between
-  pub eighth : after.rounds % 8 ≡ 0 → Noted Listener between after.readiness.ready
-  pub others : after.rounds % 8 ≢ 0 → after.readiness.ready ≡ between
+  pub eighth : after.sweeps % 8 ≡ 0 → Noted Listener between after.readiness.ready
+  pub others : after.sweeps % 8 ≢ 0 → after.readiness.ready ≡ between
   pub rest : after ≡ record before {
-    rounds = (before.rounds + 1) % 2 ^ 8;
+    sweeps = (before.sweeps + 1) % 2 ^ 8;
     readiness = record before.readiness { ready = after.readiness.ready };
   }
 
--- A round: then up to twenty clients, twenty sockets of asks and twenty connections of asks are
+-- A sweep: then up to twenty clients, twenty sockets of asks and twenty connections of asks are
 -- tried.
 pub record TriesOthers {R A Streams Listeners : Type 0}
     (before after : Sockets R A Streams Listeners) : Type 0 where
   pub begun : Sockets R A Streams Listeners
   pub behind_clients : Sockets R A Streams Listeners
   pub behind_asks : Sockets R A Streams Listeners
-  pub begins : BeginsRound before begun
+  pub begins : BeginsSweep before begun
   pub clients : TriesUpTo TriesClient 20 begun behind_clients
   pub asks : TriesUpTo TriesAsk 20 behind_clients behind_asks
   pub servers : TriesUpTo TriesServer 20 behind_asks after

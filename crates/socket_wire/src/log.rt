@@ -21,10 +21,10 @@ pub(crate) struct Log<A: Allocator> {
 }
 
 impl<A: Allocator> Model for Log<A> {
-    ghost use Rattle.wires.specs.Wire.{Told};
+    ghost use Rattle.wires.specs.Wire.{Report};
     ghost use Rattle.socket_wire.specs.Seen.{report_of};
 
-    ghost Value = { Told };
+    ghost Value = { Report };
 
     ghost view = { λ log. report_of log.arrivals.calls log.puts.calls log.words.calls };
 }

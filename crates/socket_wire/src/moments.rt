@@ -38,7 +38,7 @@ impl<'a, R: Clock> Moments<'a, R> {
 
     /// Gives a step its moment, in ms, and notes it.
     pub fn give(&mut self) -> u64
-        ensures told { result ≡ self.new.last }
+        ensures report { result ≡ self.new.last }
         ensures rises { self.old.last ≤ self.new.last }
         ensures notes { self.new.given.calls ≡ self.old.given.calls ++ (result, tt) ∷ [] }
     {
@@ -57,7 +57,7 @@ impl<'a, R: Clock> Moments<'a, R> {
     /// Returns the moment, in ms. The last moment again, if the clock is not to be read again,
     /// fails or goes back.
     pub fn now(&mut self) -> u64
-        ensures told { result ≡ self.new.last }
+        ensures report { result ≡ self.new.last }
         ensures rises { self.old.last ≤ self.new.last }
         ensures once { self.old.is_read ≡ true → self.new ≡ self.old }
         ensures read { self.new.is_read ≡ true }

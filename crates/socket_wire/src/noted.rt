@@ -4,10 +4,10 @@ ghost use Rattle.std.specs.Prelude.{◌≡◌, ◌-◌, ◌^◌, [], Some, true,
 ghost use Rattle.step_values.specs.Values.{action_of};
 ghost use Rattle.wires.specs.Wire.{◌then◌, arrived, silence, was_put, words_were};
 ghost use Rattle.wires.specs.Wire.Arrival.{nothing};
-ghost use Rattle.socket_wire.specs.Arriving.{TellsEnd};
+ghost use Rattle.socket_wire.specs.Arriving.{ReportsEnd};
 ghost use Rattle.socket_wire.specs.Looking.{TakesTurnAtOnce, TriesReported};
 ghost use Rattle.socket_wire.specs.Putting.{PutsAction, with_spent};
-ghost use Rattle.socket_wire.specs.Seen.{came_of, told_at_once};
+ghost use Rattle.socket_wire.specs.Seen.{came_of, report_at_once};
 ghost use Rattle.socket_wire.specs.Words.{GivesWords};
 
 use crate::log::Log;
@@ -46,10 +46,10 @@ impl<'a, R: Net, A: Allocator + Copy> Noted<'a, R, A> {
         &mut self,
         moments: &mut Moments<'_, C>,
     ) -> Result<Arrival<A>, AllocError>
-        ensures end { TellsEnd result self.old.sockets self.new.sockets }
+        ensures end { ReportsEnd result self.old.sockets self.new.sockets }
         ensures turn { self.old.sockets.connections.closed ≡ []
             → TakesTurnAtOnce moments.new.last result self.old.sockets self.new.sockets }
-        ensures notes { self.new.log ≡ told_at_once self.old.log result }
+        ensures notes { self.new.log ≡ report_at_once self.old.log result }
         ensures given { moments.new.given ≡ moments.old.given }
     {
         moments.read_again();

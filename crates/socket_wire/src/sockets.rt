@@ -1,7 +1,7 @@
 //! The sockets of a wire, and what arrives on them.
 
 ghost use Rattle.std.specs.Prelude.{◌≡◌, [], IfOk};
-ghost use Rattle.socket_wire.specs.Arriving.{AreNew, TellsEnd};
+ghost use Rattle.socket_wire.specs.Arriving.{AreNew, ReportsEnd};
 ghost use Rattle.socket_wire.specs.Attempting.{TriesReady};
 ghost use Rattle.socket_wire.specs.Looking.{EndsTurn, Looks, TakesTurn, TakesTurnAtOnce, TriesReported, has_asks};
 ghost use Rattle.socket_wire.specs.Words.{GivesWords};
@@ -54,10 +54,10 @@ pub(crate) struct Sockets<'a, R: Net, A: Allocator> {
     words: Words,
     /// The time, in ms, for which a question may wait for its reply.
     deadline: u64,
-    /// The moment, in ms, of the last round of unreported sockets, and the number of these rounds
+    /// The moment, in ms, of the last sweep of unreported sockets, and the number of these sweeps
     /// modulo 256.
     tried: u64,
-    rounds: u8,
+    sweeps: u8,
     next_client: u64,
     next_ask: u16,
     next_server: u64,
@@ -96,7 +96,7 @@ impl<'a, R: Net, A: Allocator + Copy> Sockets<'a, R, A> {
             words,
             deadline: limits.deadline_ms,
             tried: 0,
-            rounds: 0,
+            sweeps: 0,
             next_client: 0,
             next_ask: 0,
             next_server: 0,
@@ -120,7 +120,7 @@ impl<'a, R: Net, A: Allocator + Copy> Sockets<'a, R, A> {
 
     /// Returns the next arrival. The end of a connection that the wire closed comes first.
     pub fn arrival(&mut self, now: u64) -> Result<Arrival<A>, AllocError>
-        ensures end { TellsEnd result self.old self.new }
+        ensures end { ReportsEnd result self.old self.new }
         ensures turn { self.old.connections.closed ≡ []
             → TakesTurnAtOnce now result self.old self.new }
     {

@@ -35,7 +35,7 @@ impl<'a, R: Net + Clock, A: Allocator> Model for MioWire<'a, R, A> {
     ghost Value = { SeenWire };
 
     ghost view = { λ w. record {
-      told = with_moments w.sockets.log w.moments.given.calls;
+      report = with_moments w.sockets.log w.moments.given.calls;
       faults = w.faults;
       deadline = w.sockets.sockets.deadline;
     } };
@@ -46,7 +46,7 @@ impl<'a, R: Net + Clock + RandomSource, A: Allocator + Copy> MioWire<'a, R, A> {
     /// waits for its reply for the time in the limits. `Err` if the system refuses, gives no random
     /// octets or no time, or memory ran out.
     pub fn new(rt: &'a R, alloc: A, listen: Peer, limits: &Limits) -> io::Result<MioWire<'a, R, A>>
-        ensures told { IfOk result (λ wire. wire.told ≡ silence) }
+        ensures report { IfOk result (λ wire. wire.report ≡ silence) }
         ensures faults { IfOk result (λ wire. wire.faults ≡ 0) }
         ensures deadline { IfOk result (λ wire. wire.deadline ≡ limits.now.deadline_ms) }
     {
@@ -62,7 +62,7 @@ impl<'a, R: Net + Clock + RandomSource, A: Allocator + Copy> MioWire<'a, R, A> {
 }
 
 impl<R: Net + Clock, A: Allocator + Copy> Wire<A> for MioWire<'_, R, A> {
-    ghost told = { λ wire. Some wire.told };
+    ghost report = { λ wire. Some wire.report };
 
     ghost fault_count = { λ wire. wire.faults };
 
@@ -105,7 +105,7 @@ impl<R: Net + Clock, A: Allocator + Copy> Wire<A> for MioWire<'_, R, A> {
     }
 
     fn take_back(&mut self, octets: &mut Octets<A>)
-        ensures tells { Some self.new.told ≡ Some self.old.told }
+        ensures reports { Some self.new.report ≡ Some self.old.report }
         ensures faults { self.new.faults ≡ self.old.faults }
     {
         self.sockets.take_back(octets);

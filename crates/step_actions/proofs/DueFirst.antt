@@ -64,7 +64,7 @@ all_later c a [] all = tt
 all_later c a (b ∷ asks) all = (let le : a.asked ≤ b.asked = all.0.asked in omega (arith, le), all_later c a asks all.1)
 
 first_timeout : (c : Config) (a : Ask) (asks : List Ask) → AreInTurn (a ∷ asks) → least (map (timeout_of c) (a ∷ asks)) ≡ Some (timeout_of c a)
-first_timeout c a asks turn = ap (λ m. Some m) (first_is_least (timeout_of c a) (map (timeout_of c) asks) (all_later c a asks turn.0))
+first_timeout c a asks start = ap (λ m. Some m) (first_is_least (timeout_of c a) (map (timeout_of c) asks) (all_later c a asks start.0))
 
 -- ---- two moments
 
@@ -114,9 +114,9 @@ module _ {A : Type 0} (c : Config) (xs : List Waiting) (asks : List Ask) where
   -- the oldest question, where no ask is listed
   pub question_alone : (x : Bor Waiting) → slice_get xs 0 ≡ Some x.now → asks ≡ [] → AreTakenInTurn xs
       → IsDueFirst {A = A} c xs asks (record { oldest = Question x; moment = deadline_of c x.now })
-  question_alone x there none turn =
+  question_alone x there none start =
       let rest = rest_is xs x.now there in
-      let in_turn = subst AreTakenInTurn rest turn in
+      let in_turn = subst AreTakenInTurn rest start in
       record {
         oldest = there;
         item = λ i. first_item c (rest i) (none i);
@@ -132,9 +132,9 @@ module _ {A : Type 0} (c : Config) (xs : List Waiting) (asks : List Ask) where
   -- the oldest ask, where nothing waits
   pub ask_alone : (a : Bor Ask) → xs ≡ [] → slice_get asks 0 ≡ Some a.now → AreInTurn asks
       → IsDueFirst {A = A} c xs asks (record { oldest = OfAsk a; moment = timeout_of c a.now })
-  ask_alone a none there turn =
+  ask_alone a none there start =
       let rest = rest_is asks a.now there in
-      let in_turn = subst AreInTurn rest turn in
+      let in_turn = subst AreInTurn rest start in
       record {
         oldest = there;
         item = λ i. first_item c (none i) (rest i);

@@ -12,8 +12,8 @@ use Rattle.step_values.specs.Values.{Action}
 use Rattle.step_texts.specs.Spelling.{Source}
 use Rattle.waiting_questions.specs.Values.{Waiting, waits_for}
 use Rattle.step_table.specs.Steps.{Fate, gets, waits, reply_in, fails, gives_up}
-use Rattle.step_table.specs.Failures.{told_past, found_past, runs_out}
-use Rattle.step_actions.specs.Decision.{with_reply, with_replies, gives_from, told_from}
+use Rattle.step_table.specs.Failures.{with_stale_ttl, found_stale, runs_out}
+use Rattle.step_actions.specs.Decision.{with_reply, with_replies, gives_from, reply_from}
 
 -- ---- those who get no reply may be left out
 
@@ -36,10 +36,10 @@ pub failures_filter : (why : Why) (q : Question) (actions : List Action) (xs : L
 failures_filter why q = with_replies_filter (fails why q) (waits_for q) (λ x e. waits_on (waits_for q x) (gives_up why x) x e)
 
 pub answers_filter : (d : Source) (q : Question) (actions : List Action) (xs : List Waiting) → with_replies (gives_from d q) actions (filter (waits_for q) xs) ≡ with_replies (gives_from d q) actions xs
-answers_filter d q = with_replies_filter (gives_from d q) (waits_for q) (λ x e. waits_on (waits_for q x) (told_from d x) x e)
+answers_filter d q = with_replies_filter (gives_from d q) (waits_for q) (λ x e. waits_on (waits_for q x) (reply_from d x) x e)
 
 pub lasts_filter : (c : Config) (n : ℕ) (entries : List Held) (q : Question) (actions : List Action) (xs : List Waiting) → with_replies (runs_out c n entries q) actions (filter (waits_for q) xs) ≡ with_replies (runs_out c n entries q) actions xs
-lasts_filter c n entries q = with_replies_filter (runs_out c n entries q) (waits_for q) (λ x e. waits_on (waits_for q x) (told_past n x (found_past c n entries x)) x e)
+lasts_filter c n entries q = with_replies_filter (runs_out c n entries q) (waits_for q) (λ x e. waits_on (waits_for q x) (with_stale_ttl n x (found_stale c n entries x)) x e)
 
 -- ---- one of them
 
@@ -86,15 +86,15 @@ one_failed why q actions xs those i x are there =
     one_more (fails why q) actions those i x (gives_up why x) there (gets_on (waits_for q x) (gives_up why x) x (passes_at (waits_for q) xs i x (ap (λ (ys : List Waiting). slice_get ys i) (sym are) ∙ there)))
 
 pub one_answered : (d : Source) (q : Question) (actions : List Action) (xs those : List Waiting) (i : ℕ) (x : Waiting) → those ≡ filter (waits_for q) xs → slice_get those i ≡ Some x
-    → with_replies (gives_from d q) (actions ++ told_from d x ∷ []) (drop (i + 1) those) ≡ with_replies (gives_from d q) actions (drop i those)
+    → with_replies (gives_from d q) (actions ++ reply_from d x ∷ []) (drop (i + 1) those) ≡ with_replies (gives_from d q) actions (drop i those)
 one_answered d q actions xs those i x are there =
-    let a = told_from d x in
+    let a = reply_from d x in
     one_more (gives_from d q) actions those i x a there (gets_on (waits_for q x) a x (passes_at (waits_for q) xs i x (ap (λ (ys : List Waiting). slice_get ys i) (sym are) ∙ there)))
 
 pub one_last : (c : Config) (n : ℕ) (entries : List Held) (q : Question) (actions : List Action) (xs those : List Waiting) (i : ℕ) (x : Waiting) → those ≡ filter (waits_for q) xs → slice_get those i ≡ Some x
-    → with_replies (runs_out c n entries q) (actions ++ told_past n x (found_past c n entries x) ∷ []) (drop (i + 1) those) ≡ with_replies (runs_out c n entries q) actions (drop i those)
+    → with_replies (runs_out c n entries q) (actions ++ with_stale_ttl n x (found_stale c n entries x) ∷ []) (drop (i + 1) those) ≡ with_replies (runs_out c n entries q) actions (drop i those)
 one_last c n entries q actions xs those i x are there =
-    let a = told_past n x (found_past c n entries x) in
+    let a = with_stale_ttl n x (found_stale c n entries x) in
     one_more (runs_out c n entries q) actions those i x a there (gets_on (waits_for q x) a x (passes_at (waits_for q) xs i x (ap (λ (ys : List Waiting). slice_get ys i) (sym are) ∙ there)))
 
 -- ---- pieces of the cache

@@ -15,7 +15,7 @@ use Rattle.outstanding.specs.Values.{Ask, Inquiries}
 use Rattle.outstanding.proofs.CallerLemmas.{next_may_begin as next_begins}
 use Rattle.suffix_routes.specs.Serving.{serving_route_of}
 use Rattle.record_cache.specs.Values.{Cache}
-use Rattle.step_table.specs.State.{State, turn}
+use Rattle.step_table.specs.State.{State, start}
 use Rattle.waiting_questions.specs.Values.{Waiting}
 use Rattle.step_table.specs.Attempts.{peer_at, over_udp, over_tcp, ask_by, freed_by, plan_of, first_ask, preferred_on}
 use Rattle.step_table.specs.Progress.{IsBelow}
@@ -37,7 +37,7 @@ below c m k asks all = All-weaker (IsKeptAsk c m k) (λ a. IsBelow k a.path) (λ
 -- ---- the first ask
 
 pub first_follows : (c : Config) (n : ℕ) (words : List ℕ) (q : Question) (route : ℕ) (s : State) (i : Inquiries) (preferred : List ℕ) (a : Ask) → IsKeptForwarder c s.cache i s.waiting preferred s.moment s.tcp_asks → i.asks ≡ s.asks
-    → serving_route_of c q.name ≡ Some route → s.moment ≤ n → n ≤ 2 ^ 62 → of_question q s.asks ≡ None → length s.asks < c.limits.inquiries → Some a ≡ first_ask (turn c n words s) q route → CanFollow c n s s.asks a
+    → serving_route_of c q.name ≡ Some route → s.moment ≤ n → n ≤ 2 ^ 62 → of_question q s.asks ≡ None → length s.asks < c.limits.inquiries → Some a ≡ first_ask (start c n words s) q route → CanFollow c n s s.asks a
 first_follows c n words q route s i preferred a kept asks_are on later small new room is = record {
   begins = record {
     path = ap (λ (p : Path). ask_on p s.asks) draw.1 ∙ free_now draw.0 s.asks fresh.free;

@@ -11,7 +11,7 @@ use Rattle.step_actions.specs.declared.decision.Change.TheVariants.{Nothing, Joi
 use Rattle.step_actions.specs.declared.decision.Change.TheVariants.{Expire}
 use Rattle.step_actions.specs.declared.decision.Decision.{Decision}
 use Rattle.step_values.specs.Values.{Event, restart, Action, actions_of, Outcome}
-use Rattle.step_table.specs.State.{State, Turn}
+use Rattle.step_table.specs.State.{State, StepStart}
 use Rattle.waiting_questions.specs.Values.{Waiting, waits_for}
 use Rattle.outstanding.specs.Lists.{on_path as ask_on, without_path, MayBegin, is_tcp}
 use Rattle.outstanding.specs.Values.{Ask}
@@ -166,12 +166,12 @@ next_of n rooms s d =
     (record { actions = actions_of d.actions; unkept = 0; state = changed n (with_promoted d.used s) d.change })
 
 -- the decision yields this row, whichever of the new slots find memory, and may be put in place
-pub record MeetsRow {A : Type 0} (t : Turn) (made : List Bool → Done) (d : Decision A) : Type 0 where
+pub record MeetsRow {A : Type 0} (t : StepStart) (made : List Bool → Done) (d : Decision A) : Type 0 where
   pub row : (rooms : List Bool) → next_of t.moment rooms t.state d ≡ made rooms
   pub fits : CanChange t.config t.moment t.state d
 
 -- the decision yields this step, in which nothing is offered, and may be put in place
-abbrev pub MeetsStep : {A : Type 0} → Turn → Done → Decision A → Type 0
+abbrev pub MeetsStep : {A : Type 0} → StepStart → Done → Decision A → Type 0
 MeetsStep t step = MeetsRow t (λ rooms. step)
 
 -- the decision promotes nothing and changes no list, and did not run out of memory
@@ -180,7 +180,7 @@ IsQuiet (Ok next) = (next.used ≡ []) × (next.change ≡ Nothing)
 IsQuiet (Err refused) = ⊥
 
 -- the decision on an event: none for a restart, and for any other event its row
-abbrev pub IsDecided : {A : Type 0} → Turn → Event → Option (Decision A) → Type 0
+abbrev pub IsDecided : {A : Type 0} → StepStart → Event → Option (Decision A) → Type 0
 IsDecided t e None = e ≡ restart
 IsDecided t e (Some next) = (rooms : List Bool) → Happens t e (next_of t.moment rooms t.state next)
 
@@ -196,8 +196,8 @@ pub record IsOutcome (c : Config) (d : Done) (o : Outcome) (s' : State) : Type 0
   pub more : o.more ≡ is_due_at c s'.moment s'
 
 -- the answer from the held aliases of a question and this chain, unless there are too many aliases
-abbrev pub told_from : Source → Waiting → Action
-told_from d x =
+abbrev pub reply_from : Source → Waiting → Action
+reply_from d x =
     if nat_le (length x.held + length d.chain) (suc most_aliases)
     then sends Answered x (answer_of x.asked (x.held ++ d.chain) d.moment (transport_of x.client))
     else gives_up ChainLong x
@@ -205,7 +205,7 @@ told_from d x =
 -- questions that wait for this question get their answers from a chain of pieces, all further
 -- questions wait on
 abbrev pub gives_from : Source → Question → Waiting → Fate
-gives_from d q x = if waits_for q x then gets (told_from d x) else waits x
+gives_from d q x = if waits_for q x then gets (reply_from d x) else waits x
 
 -- replies in order
 abbrev pub with_reply : List Action → Option Action → List Action

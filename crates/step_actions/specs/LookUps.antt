@@ -1,7 +1,7 @@
 -- The input of the look-ups of a step.
 use Rattle.negative_cache.specs.Moments.{CacheAt}
-use Rattle.step_table.specs.State.{Turn}
+use Rattle.step_table.specs.State.{StepStart}
 
 -- the cache at the start of the step, at the step's moment and under its configuration
-abbrev pub cache_at : Turn → CacheAt
+abbrev pub cache_at : StepStart → CacheAt
 cache_at t = record { cache = t.state.cache; config = t.config; moment = t.moment }

@@ -6,7 +6,7 @@ ghost use Rattle.outstanding.specs.Draws.{drawn_by_tcp};
 ghost use Rattle.step_table.specs.Attempts.{group_of, servers_in, peer_at, over_udp, over_tcp, ask_by, freed_by};
 ghost use Rattle.step_table.specs.Attempts.{plan_of};
 
-use crate::turn::TurnRef;
+use crate::start::StepStartRef;
 use dns_message::Question;
 use outstanding::{Ask, Path};
 use retry_failover::Plan;
@@ -82,21 +82,21 @@ pub struct Attempt {
 
 /// The ask of a server over the drawn path. `None` without such a server, or without a drawn path.
 pub fn new_ask<'a, H: BuildHasher + Drop, A: Allocator + Copy>(
-    turn: &TurnRef<'a, H, A>,
+    start: &StepStartRef<'a, H, A>,
     question: &Question<A>,
     attempt: Attempt,
     drawn: Option<(u16, Path)>,
 ) -> Result<Option<Ask<A>>, AllocError>
-    ensures { IfOk result (λ ask. ask ≡ ask_by turn.now.moment question.now attempt.route attempt.server attempt.used
-        (peer_at turn.now.config attempt.route attempt.server) drawn) }
+    ensures { IfOk result (λ ask. ask ≡ ask_by start.now.moment question.now attempt.route attempt.server attempt.used
+        (peer_at start.now.config attempt.route attempt.server) drawn) }
 {
-    let Some(peer) = server_at(turn.config, attempt.route, attempt.server) else {
+    let Some(peer) = server_at(start.config, attempt.route, attempt.server) else {
         return Ok(None);
     };
     let Some((id, path)) = drawn else {
         return Ok(None);
     };
-    let question = question.copy(turn.alloc)?;
+    let question = question.copy(start.alloc)?;
     Ok(Some(Ask {
         question,
         route: attempt.route,
@@ -105,7 +105,7 @@ pub fn new_ask<'a, H: BuildHasher + Drop, A: Allocator + Copy>(
         used: attempt.used,
         path,
         id,
-        asked: turn.moment,
+        asked: start.moment,
     }))
 }
 

@@ -16,7 +16,7 @@ ghost use Rattle.alias_chains.specs.declared.looked.LookUpEnd.{LookUpEnd};
 ghost use Rattle.step_table.specs.Clients.{fate_missed, fate_of};
 ghost use Rattle.step_actions.specs.Fates.{becomes, began_at, fate_in, or_own, wanted_at, IfLed, IfWaits, IsSeenAs};
 
-use crate::turn::TurnRef;
+use crate::start::StepStartRef;
 use alias_chains::{LookUp, LookUpEnd, copies};
 use dns_message::{Question, QuestionRef};
 use dns_name::Name;
@@ -52,7 +52,7 @@ fn at_name<A: Allocator>(question: &QuestionRef<'_>, name: Name<A>) -> Question<
 /// The question that is wanted after a miss: the one to which the last used alias leads, otherwise
 /// the one at which the look-up began. `None` if that is the client's own.
 fn wanted_after<'a, H: BuildHasher + Drop, A: Allocator + Copy>(
-    turn: &TurnRef<'a, H, A>,
+    start: &StepStartRef<'a, H, A>,
     request: &Request<'_>,
     looked: &LookUp<'_, '_, A>,
     lead: Option<&QuestionRef<'_>>,
@@ -60,10 +60,10 @@ fn wanted_after<'a, H: BuildHasher + Drop, A: Allocator + Copy>(
     ensures { IfOk result (λ wanted. wanted
         ≡ wanted_at request.now.wanted lead.entry (last_target looked.now.used)) }
 {
-    match (looked.target(turn.alloc)?, lead) {
+    match (looked.target(start.alloc)?, lead) {
         (Some(name), Some(lead)) => Ok(Some(at_name(lead, name))),
         (Some(name), None) => Ok(Some(at_name(&request.question, name))),
-        (None, Some(lead)) => Ok(Some(lead.copy(turn.alloc)?)),
+        (None, Some(lead)) => Ok(Some(lead.copy(start.alloc)?)),
         (None, None) => Ok(None),
     }
 }
@@ -99,33 +99,33 @@ fn sent_on_for<A: Allocator + Copy>(
 /// waits where the wanted name is served, gets the local denial where it is denied, and fails with
 /// `NoRoute` otherwise.
 fn missed<'a, H: BuildHasher + Drop, A: Allocator + Copy>(
-    turn: &TurnRef<'a, H, A>,
+    start: &StepStartRef<'a, H, A>,
     request: &Request<'_>,
     chain: &[&Held<A>],
     wanted: Option<Question<A>>,
 ) -> Result<Fate<A>, AllocError>
     requires few { length (lent chain.now) ≤ 8 }
-    requires earlier { AllByRecursion (IsEarlier turn.now.moment) (lent chain.now) }
+    requires earlier { AllByRecursion (IsEarlier start.now.moment) (lent chain.now) }
     requires own { wanted ≡ None → lent chain.now ≡ request.now.held }
     ensures fate { IfOk result (λ fate. fate_in request.now (becomes fate)
-        ≡ fate_missed turn.now.config turn.now.moment request.now
+        ≡ fate_missed start.now.config start.now.moment request.now
         (missing (lent chain.now) (or_own request.now.wanted wanted))
-        (serving_route_of turn.now.config (or_own request.now.wanted wanted).name)) }
-    ensures waits { IfOk result (IfWaits turn.now.config turn.now.moment request.now) }
+        (serving_route_of start.now.config (or_own request.now.wanted wanted).name)) }
+    ensures waits { IfOk result (IfWaits start.now.config start.now.moment request.now) }
     ensures led { IfOk result (λ fate. IfLed wanted (becomes fate)) }
 {
     let key = key_of(request, &wanted);
-    match turn.config.routing_of_key(key.name()) {
+    match start.config.routing_of_key(key.name()) {
         Routing::Served(route) => {
-            let sent_on = sent_on_for(turn.alloc, chain, wanted)?;
+            let sent_on = sent_on_for(start.alloc, chain, wanted)?;
             Ok(Fate::Waits(sent_on, route))
         }
         Routing::Denied => {
-            let action = local_answer(turn.alloc, request, chain, turn.moment)?;
+            let action = local_answer(start.alloc, request, chain, start.moment)?;
             Ok(Fate::Reply(action))
         }
         Routing::None => {
-            let action = failure(turn.alloc, request, Why::NoRoute)?;
+            let action = failure(start.alloc, request, Why::NoRoute)?;
             Ok(Fate::Reply(action))
         }
     }
@@ -135,35 +135,35 @@ fn missed<'a, H: BuildHasher + Drop, A: Allocator + Copy>(
 /// them accepted after the moment, and then the entries that the look-up used. `lead` is the
 /// question at which the look-up began, where it is not the client's own.
 pub fn fate_of<'a, H: BuildHasher + Drop, A: Allocator + Copy>(
-    turn: &TurnRef<'a, H, A>,
+    start: &StepStartRef<'a, H, A>,
     request: &Request<'_>,
     chain: &[&Held<A>],
     looked: &LookUp<'_, '_, A>,
     lead: Option<&QuestionRef<'_>>,
 ) -> Result<Fate<A>, AllocError>
     requires few { looked.now.met ≡ LookUpEnd.Missed → length (lent chain.now) ≤ 8 }
-    requires earlier { AllByRecursion (IsEarlier turn.now.moment) (lent chain.now) }
+    requires earlier { AllByRecursion (IsEarlier start.now.moment) (lent chain.now) }
     requires own { looked.now.met ≡ LookUpEnd.Missed → lead ≡ None → last_target looked.now.used ≡ None
         → lent chain.now ≡ request.now.held }
     ensures fate { (l : LookUpValue) → IsSeenAs (lent chain.now) looked.now.met
         (led_to (began_at request.now.wanted lead.entry) (last_target looked.now.used)) l
         → IfOk result (λ fate. fate_in request.now (becomes fate)
-        ≡ fate_of turn.now.config turn.now.moment request.now l) }
-    ensures waits { IfOk result (IfWaits turn.now.config turn.now.moment request.now) }
+        ≡ fate_of start.now.config start.now.moment request.now l) }
+    ensures waits { IfOk result (IfWaits start.now.config start.now.moment request.now) }
     ensures led { IfOk result (λ fate. IfLed lead.entry (becomes fate)) }
 {
     match looked.met() {
         LookUpEnd::Ends => {
-            let action = answer(turn.alloc, request, chain, turn.moment)?;
+            let action = answer(start.alloc, request, chain, start.moment)?;
             Ok(Fate::Reply(action))
         }
         LookUpEnd::TooLong => {
-            let action = failure(turn.alloc, request, Why::ChainLong)?;
+            let action = failure(start.alloc, request, Why::ChainLong)?;
             Ok(Fate::Reply(action))
         }
         LookUpEnd::Missed => {
-            let wanted = wanted_after(turn, request, looked, lead)?;
-            missed(turn, request, chain, wanted)
+            let wanted = wanted_after(start, request, looked, lead)?;
+            missed(start, request, chain, wanted)
         }
     }
 }

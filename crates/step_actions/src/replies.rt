@@ -10,7 +10,7 @@ ghost use Rattle.step_texts.specs.Spelling.{Source};
 ghost use Rattle.step_values.specs.Values.{action_of, actions_of};
 ghost use Rattle.step_table.specs.Steps.{closes, fails, gives_up, sends, transport_of};
 ghost use Rattle.step_actions.specs.Kept.{HoldsEarlier};
-ghost use Rattle.step_actions.specs.Decision.{closing_path, gives_from, told_from, with_replies};
+ghost use Rattle.step_actions.specs.Decision.{closing_path, gives_from, reply_from, with_replies};
 
 use outstanding::{KeyedAsk, Path};
 use record_cache::Held;
@@ -80,7 +80,7 @@ fn answer_or_fail<'a, A: Allocator + Copy>(
 ) -> Result<Action<A>, AllocError>
     requires { AllByRecursion (IsEarlier answers.old.moment) waiting.now.held }
     ensures same { answers.new ≡ answers.old }
-    ensures told { IfOk result (λ action. action_of action ≡ told_from answers.old waiting.now) }
+    ensures told { IfOk result (λ action. action_of action ≡ reply_from answers.old waiting.now) }
 {
     if waiting.aliases().len().saturating_add(answers.pieces()) > MOST_ALIASES + 1 {
         return failure(alloc, &waiting.request(), Why::ChainLong);
@@ -97,7 +97,7 @@ fn put_answer<'a, A: Allocator + Copy>(
 ) -> Result<(), AllocError>
     requires { AllByRecursion (IsEarlier answers.old.moment) waiting.now.held }
     ensures same { answers.new ≡ answers.old }
-    ensures put { IfOk result (λ _. actions_of actions.new ≡ actions_of actions.old ++ told_from answers.old waiting.now
+    ensures put { IfOk result (λ _. actions_of actions.new ≡ actions_of actions.old ++ reply_from answers.old waiting.now
         ∷ []) }
 {
     let action = answer_or_fail(alloc, answers, waiting)?;

@@ -5,6 +5,6 @@ pub mod Accepted
 pub mod Tries
 pub mod CallerLemmas
 mod FirstVersion
-mod WorkedPastEnds
+mod WorkedStale
 mod Worked
 mod WorkedPieces

@@ -17,4 +17,4 @@ moment_small (s ∷ past) = by (is_restart s) refl (moment_small past)
     by false runs rest = subst (λ (n : ℕ). n ≤ 2 ^ 62) (sym (cond-false (is_restart s) _ _ runs)) (omega (arith, rest))
 
 pub moment_later : (s : Step) (past : List Step) → is_restart s ≡ false → moment_at past ≤ moment_at (s ∷ past)
-moment_later s past runs = subst (λ (n : ℕ). moment_at past ≤ n) (sym (cond-false (is_restart s) _ _ runs)) (max_right (min s.handed.now (2 ^ 62)) (moment_at past))
+moment_later s past runs = subst (λ (n : ℕ). moment_at past ≤ n) (sym (cond-false (is_restart s) _ _ runs)) (max_right (min s.input.now (2 ^ 62)) (moment_at past))

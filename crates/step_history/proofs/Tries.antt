@@ -23,7 +23,7 @@ brought restart path from octets d = absurd cc
 no_restart : (c : Config) (s : Step) (past : List Step) (ask : ShownAsk) (asked : Question)
     → MayFail c s past ask asked → is_restart s ≡ false
 no_restart c s past ask asked (inl matched) =
-    brought s.handed.event ask.path ask.server matched.0 matched.1.delivered
+    brought s.input.event ask.path ask.server matched.0 matched.1.delivered
 no_restart c s past ask asked (inr (inl broken)) = ap is_restart_event broken
 no_restart c s past ask asked (inr (inr over)) = ap is_restart_event over.0
 

@@ -74,17 +74,17 @@ with_identifier id = 0 ∷ id ∷ 1 ∷ 0 ∷ 0 ∷ 1 ∷ 0 ∷ 0 ∷ 0 ∷ 0 �
 
 -- asked at 1000, and sent on
 abbrev asked : Step
-asked = record { handed = record { now = 1000; words = words; event = from_client client (with_identifier 7) }; outcome = record { actions = ask_udp 1032 other_server (with_identifier 8) ∷ []; unkept = 0; more = false } }
+asked = record { input = record { now = 1000; words = words; event = from_client client (with_identifier 7) }; outcome = record { actions = ask_udp 1032 other_server (with_identifier 8) ∷ []; unkept = 0; more = false } }
 
 abbrev ask : ShownAsk
 ask = record { path = Udp 1032; server = other_server; octets = with_identifier 8; moment = 1000 }
 
 -- at this moment octets come on the ask's path
 abbrev comes : ℕ → List ℕ → Step
-comes now octets = record { handed = record { now = now; words = words; event = delivery (Udp 1032) other_server octets }; outcome = record { actions = []; unkept = 0; more = false } }
+comes now octets = record { input = record { now = now; words = words; event = delivery (Udp 1032) other_server octets }; outcome = record { actions = []; unkept = 0; more = false } }
 
 abbrev restarted : Step
-restarted = record { handed = record { now = 9000; words = words; event = restart }; outcome = record { actions = []; unkept = 0; more = false } }
+restarted = record { input = record { now = 9000; words = words; event = restart }; outcome = record { actions = []; unkept = 0; more = false } }
 
 one_ask : listed (asked ∷ []) ≡ ask ∷ []
 one_ask = refl
@@ -128,7 +128,7 @@ of_another_route h = by h.route h.there h.route_is
 
 -- at this moment time passes, and nothing is done
 abbrev passes : ℕ → Step
-passes now = record { handed = record { now = now; words = words; event = tick }; outcome = record { actions = []; unkept = 0; more = false } }
+passes now = record { input = record { now = now; words = words; event = tick }; outcome = record { actions = []; unkept = 0; more = false } }
 
 -- a question may wait for this many milliseconds
 abbrev patient_for : ℕ → Config
@@ -146,7 +146,7 @@ question_is_due = (refl, refl, refl)
 
 -- its time is over, and its server is asked once more, from another port
 abbrev asked_again : Step
-asked_again = record { handed = record { now = 2500; words = words; event = tick }; outcome = record { actions = close_udp 1032 ∷ ask_udp 1040 other_server (with_identifier 16) ∷ []; unkept = 0; more = false } }
+asked_again = record { input = record { now = 2500; words = words; event = tick }; outcome = record { actions = close_udp 1032 ∷ ask_udp 1040 other_server (with_identifier 16) ∷ []; unkept = 0; more = false } }
 
 -- an ask whose path is given up after it is none
 given_up_at_once : IsRightAsk config asked_again (asked ∷ []) (Some (record { path = Udp 1040; server = other_server; octets = with_identifier 16 })) (close_udp 1040 ∷ []) → ⊥

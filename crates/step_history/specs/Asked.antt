@@ -36,8 +36,8 @@ pub record IsServerFor (c : Config) (q : Question) (p : Peer) : Type 0 where
 
 -- identifier and path are the step's draw
 abbrev pub IsDrawn : Step → List Step → ℕ → Path → Type 0
-IsDrawn s past id (Udp port) = drawn s.handed.words (listed past) s.outcome.actions ≡ Some (id, port)
-IsDrawn s past id (Tcp conn) = drawn_by_tcp s.handed.words (tcp_asks past) ≡ Some (id, conn)
+IsDrawn s past id (Udp port) = drawn s.input.words (listed past) s.outcome.actions ≡ Some (id, port)
+IsDrawn s past id (Tcp conn) = drawn_by_tcp s.input.words (tcp_asks past) ≡ Some (id, conn)
 
 -- `ask_message` alone, to a server of the name's route, with the drawn identifier and path (RFC
 -- 5452 9.2)

@@ -19,7 +19,7 @@ use Rattle.record_cache.specs.Values.{Held}
 use Rattle.step_history.specs.History.{is_restart, before_newest, Look, ShownAsk, listed, on_path, closes_path}
 use Rattle.step_history.specs.History.{tcp_asks, moment_at, Matches, Carries, NothingAccepted, Reads}
 use Rattle.step_history.specs.Answers.{FollowsAliases, Leads, Chain}
-use Rattle.step_history.specs.Stale.{ChainPastEnds}
+use Rattle.step_history.specs.Stale.{StaleChain}
 use Rattle.step_history.specs.Local.{ChainToLocal}
 use Rattle.step_history.specs.Replies.{answer_text, full_text, stale_sections, denied_sections}
 use Rattle.answer_builder.specs.Values.{asked_in}
@@ -33,12 +33,12 @@ newest_actions (s ∷ past) = s.outcome.actions
 -- the random words of the newest step
 abbrev pub newest_words : List Step → List ℕ
 newest_words [] = []
-newest_words (s ∷ past) = s.handed.words
+newest_words (s ∷ past) = s.input.words
 
 -- the newest step is a tick
 abbrev pub IsTick : List Step → Type 0
 IsTick [] = ⊥
-IsTick (s ∷ past) = s.handed.event ≡ tick
+IsTick (s ∷ past) = s.input.event ≡ tick
 
 -- the step closes a listed ask of this question
 pub record ClosesAsk (q : Question) (s : Step) (past : List Step) : Type 0 where
@@ -84,8 +84,8 @@ SendsAsk q (a ∷ more) = IsAskOf q (ask_in a) ⊎ SendsAsk q more
 abbrev pub MayFail : Config → Step → List Step → ShownAsk → Question → Type 0
 MayFail c s past ask asked =
     ((octets : List ℕ) × Matches c s past ask octets asked)
-    ⊎ (s.handed.event ≡ path_failed ask.path)
-    ⊎ ((s.handed.event ≡ tick) × (ask.moment + c.limits.ask_ms ≤ moment_at (s ∷ past)))
+    ⊎ (s.input.event ≡ path_failed ask.path)
+    ⊎ ((s.input.event ≡ tick) × (ask.moment + c.limits.ask_ms ≤ moment_at (s ∷ past)))
 
 -- An ask of q failed: the step closes it, accepts nothing, and the ask `MayFail`. An ask that a
 -- deadline closes before its own time is over did not fail.
@@ -194,11 +194,11 @@ pub record AnswerIsTooLarge (l : Look) (octets : List ℕ) : Type 0 where
 pub record StaleAnswerIsTooLarge (l : Look) (octets : List ℕ) : Type 0 where
   pub tries : AllTriesFailed l octets
   pub window : 1 ≤ l.config.limits.stale_s
-  pub past : List Held
+  pub found : List Held
   pub end : Held
-  pub chain : ChainPastEnds l tries.aliases tries.last past end
+  pub chain : StaleChain l tries.aliases tries.last found end
   pub large : 65535 < length (full_text (asked_in (header_in octets) (Some tries.question))
-      (stale_sections (moment_at l.now) tries.aliases past end))
+      (stale_sections (moment_at l.now) tries.aliases found end))
 
 -- the denial with the aliases to a denied name exceeds 65,535 octets
 pub record LocalAnswerIsTooLarge (l : Look) (octets : List ℕ) : Type 0 where

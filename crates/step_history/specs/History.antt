@@ -29,7 +29,7 @@ is_restart_event tick = false
 
 -- the step is a restart, which begins an era
 abbrev pub is_restart : Step → Bool
-is_restart s = is_restart_event s.handed.event
+is_restart s = is_restart_event s.input.event
 
 -- `upto` is the history up to a step of the newest step's era
 abbrev pub InEra : List Step → List Step → Type 0
@@ -39,7 +39,7 @@ InEra upto (s ∷ past) = (upto ≡ s ∷ past) ⊎ ((is_restart s ≡ false) ×
 -- the effective moment: the greatest since the era's restart, at most 2^62 ms
 abbrev pub moment_at : List Step → ℕ
 moment_at [] = 0
-moment_at (s ∷ past) = if is_restart s then 0 else max (min s.handed.now (2 ^ 62)) (moment_at past)
+moment_at (s ∷ past) = if is_restart s then 0 else max (min s.input.now (2 ^ 62)) (moment_at past)
 
 -- the history before its newest step
 abbrev pub before_newest : List Step → List Step
@@ -128,7 +128,7 @@ Delivers e path from octets = delivery_in e ≡ Some (record { path = path; from
 -- than `ask_ms` ago, in server, path, identifier and their only question (RFC 5452 9.1).
 pub record Matches (c : Config) (s : Step) (past : List Step) (ask : ShownAsk) (octets : List ℕ)
     (asked : Question) : Type 0 where
-  pub delivered : Delivers s.handed.event ask.path ask.server octets
+  pub delivered : Delivers s.input.event ask.path ask.server octets
   pub is_listed : on_path ask.path (listed past) ≡ Some ask
   pub is_live : moment_at (s ∷ past) < ask.moment + c.limits.ask_ms
   pub long_enough : 12 ≤ length octets

@@ -3,7 +3,7 @@ use Rattle.std.specs.Prelude.{ℕ, ◌≤◌, List, [], ◌∷◌, ◌++◌, len
 use Rattle.dns_message.specs.Writing.{written}
 use Rattle.record_cache.specs.Values.{Held}
 use Rattle.answer_builder.specs.Values.{Asked, Sections}
-use Rattle.answer_builder.specs.Answers.{told_at, told_stale, sections_told, sections_of, local_sections, full_answer}
+use Rattle.answer_builder.specs.Answers.{with_ttl, with_stale_ttls, sections_with_ttls, sections_of, local_sections, full_answer}
 use Rattle.answer_builder.specs.Answers.{cut_answer, error_response}
 use Rattle.answer_builder.specs.Transports.{over_udp}
 use Rattle.step_values.specs.declared.event.Client.{Client}
@@ -29,11 +29,11 @@ short_text a s = written (cut_answer a s)
 
 -- the held aliases, then aliases and a set, with 30 seconds for expired ones (RFC 8767 4)
 abbrev pub stale_sections : ℕ → List Held → List Held → Held → Sections
-stale_sections t held past end = sections_told (told_stale (length held) t (held ++ (past ++ end ∷ [])))
+stale_sections t held found end = sections_with_ttls (with_stale_ttls (length held) t (held ++ (found ++ end ∷ [])))
 
 -- a name error, with the aliases to the denied name
 abbrev pub denied_sections : ℕ → List Held → Sections
-denied_sections t aliases = local_sections (map (told_at t) aliases)
+denied_sections t aliases = local_sections (map (with_ttl t) aliases)
 
 -- over UDP an answer of more than 512 octets is cut (RFC 1035 4.2.1)
 abbrev pub sized_for : Client → List ℕ → List ℕ → List ℕ

@@ -31,7 +31,7 @@ unanswered [] owners = []
 unanswered (s ∷ past) owners =
     if is_restart s
     then []
-    else unanswered past owners ++ (if takes_question s.handed.event && not (among (length past) owners)
+    else unanswered past owners ++ (if takes_question s.input.event && not (among (length past) owners)
     then length past ∷ [] else [])
 
 -- the text of a failure, with the client's question, except for `BadFormat` and `BadOpcode`
@@ -80,8 +80,8 @@ pub record Owns (c : Config) (now : List Step) (owners : List ℕ) (i : ℕ) (r 
   pub in_era : InEra (asked ∷ before) now
   pub number : i ≡ length before
   pub request : List ℕ
-  pub sent : Sends asked.handed.event r.client request
-  pub taken : takes_question asked.handed.event ≡ true
+  pub sent : Sends asked.input.event r.client request
+  pub taken : takes_question asked.input.event ≡ true
   pub right : RightReply (record { config = c; asked = asked; before = before; now = now }) r.client request
       (length (unanswered before owners)) r.why r.octets
 
@@ -113,7 +113,7 @@ AsksIn (Some r) q = Reads r.octets q
 
 -- a client's message asks q, and its step sends these octets as `Answered`
 abbrev pub FromCache : Step → Question → List ℕ → Type 0
-FromCache s q octets = AsksIn (request_in s.handed.event) q × Replies s.outcome.actions octets
+FromCache s q octets = AsksIn (request_in s.input.event) q × Replies s.outcome.actions octets
 
 -- read as messages without TC, both have the same response code, answers and authority
 abbrev pub SameSections : List ℕ → List ℕ → Type 0

@@ -24,7 +24,7 @@ IsSet (denied soa) = ⊥
 -- o may serve this name although expired: a set with a lifetime, carried whole on the name's route
 -- before the newest step, not replaced, and expired, if at all, less than the window ago (RFC 8767
 -- 5)
-pub record JustifiedPastItsEnd (l : Look) (name : List (List ℕ)) (o : Held) : Type 0 where
+pub record JustifiedStale (l : Look) (name : List (List ℕ)) (o : Held) : Type 0 where
   pub old : List Held
   pub new : List Held
   pub carried_before : CarriedInEra l.config (before_newest l.now) old
@@ -37,30 +37,30 @@ pub record JustifiedPastItsEnd (l : Look) (name : List (List ℕ)) (o : Held) : 
   pub within : moment_at l.now < o.accepted + 1000 * o.piece.lifetime + 1000 * l.config.limits.stale_s
 
 -- such aliases lead from the first question to the last, as in `FollowsAliases`
-abbrev pub FollowsPastEnds : Look → Question → List Held → Question → Type 0
-FollowsPastEnds l q [] last = last ≡ q
-FollowsPastEnds l q (o ∷ os) last =
-    (q.kind ≢ 5) × JustifiedPastItsEnd l q.name o × IsOf o.piece q.name q.class (Some 5)
-    × (name : List (List ℕ)) × IsAliasTo o.piece name × FollowsPastEnds l (asked_at q name) os last
+abbrev pub FollowsStale : Look → Question → List Held → Question → Type 0
+FollowsStale l q [] last = last ≡ q
+FollowsStale l q (o ∷ os) last =
+    (q.kind ≢ 5) × JustifiedStale l q.name o × IsOf o.piece q.name q.class (Some 5)
+    × (name : List (List ℕ)) × IsAliasTo o.piece name × FollowsStale l (asked_at q name) os last
 
 -- after the held aliases, such aliases and a set answer q; at most eight in all
-pub record ChainPastEnds (l : Look) (held : List Held) (q : Question) (past : List Held) (o : Held) : Type 0 where
+pub record StaleChain (l : Look) (held : List Held) (q : Question) (found : List Held) (o : Held) : Type 0 where
   pub last : Question
-  pub follows : FollowsPastEnds l q past last
-  pub few : length held + length past ≤ 8
-  pub justified : JustifiedPastItsEnd l last.name o
+  pub follows : FollowsStale l q found last
+  pub few : length held + length found ≤ 8
+  pub justified : JustifiedStale l last.name o
   pub slot : IsOf o.piece last.name last.class (Some last.kind)
 
 -- the octets answer q with expired data, and can be read; the chain goes on from `asked`, at the
 -- end of `held`
 pub record StaleAnswers (l : Look) (client : Client) (h : Header) (q : Question) (held : List Held) (asked : Question)
     (octets : List ℕ) : Type 0 where
-  pub past : List Held
+  pub found : List Held
   pub end : Held
-  pub chain : ChainPastEnds l held asked past end
+  pub chain : StaleChain l held asked found end
   pub text : octets ≡ sized_for client (full_text (asked_in h (Some q))
-      (stale_sections (moment_at l.now) held past end))
-      (short_text (asked_in h (Some q)) (stale_sections (moment_at l.now) held past end))
+      (stale_sections (moment_at l.now) held found end))
+      (short_text (asked_in h (Some q)) (stale_sections (moment_at l.now) held found end))
   pub fits : FitsTransport client octets
   pub message : Message
   pub spells : Spells octets message

@@ -14,21 +14,21 @@ use Rattle.trust_rank.specs.declared.slot.Slot.{Slot}
 use Rattle.trust_rank.specs.Values.{rows, elsewhere, Walk}
 use Rattle.trust_rank.specs.Walks.{walk_from, servers_from}
 use Rattle.step_values.specs.Values.{Action, close_udp}
-use Rattle.step_table.specs.State.{State, turn}
+use Rattle.step_table.specs.State.{State, start}
 use Rattle.step_table.specs.Steps.{Done, idle_step}
 use Rattle.step_table.specs.Replies.{row_of_acceptance}
-use Rattle.step_table.proofs.Played.{Told, ticking, restarting, heard, words_of, played, after, example, below, name_data, a, b, d, address, server, other_server, with_cache, config, asks_for, rr, host, soa, reply, hears, one_host, sends_query, shows, answers}
+use Rattle.step_table.proofs.Played.{Happening, ticking, restarting, heard, words_of, played, after, example, below, name_data, a, b, d, address, server, other_server, with_cache, config, asks_for, rr, host, soa, reply, hears, one_host, sends_query, shows, answers}
 
 -- ---- hits
 
-abbrev first : ℕ × Told
+abbrev first : ℕ × Happening
 first = (1000, asks_for 4660 (address a))
 
 abbrev query : List Action
 query = sends_query 1032 server 8 (address a) ∷ []
 
 -- its reply, and the client's answer
-abbrev good : ℕ × Told
+abbrev good : ℕ × Happening
 good = (1020, hears 1032 (one_host a))
 
 abbrev given : List Action
@@ -225,7 +225,7 @@ full = after (with_cache 2) ((1000, asks_for 1 (address a)) ∷ (1000, hears 103
 
 abbrev led_by : Option Ask → Done
 led_by None = idle_step 1050 full
-led_by (Some ask) = row_of_acceptance (turn (with_cache 2) 1050 (words_of 6) full) [] ask leading
+led_by (Some ask) = row_of_acceptance (start (with_cache 2) 1050 (words_of 6) full) [] ask leading
 
 -- where an accepted reply leads on, the look-up finds the entries before its pieces are offered,
 -- and the entries that it used are kept

@@ -20,8 +20,8 @@ use Rattle.step_values.specs.declared.action.Why.{Why}
 use Rattle.step_values.specs.declared.action.Why.TheVariants.{Answered}
 use Rattle.step_values.specs.Values.{Action, ask_udp, send_reply}
 use Rattle.outstanding.specs.Draws.{ask_message}
-use Rattle.step_table.specs.State.{State, turn}
-use Rattle.step_table.specs.Steps.{Done, start, idle_step}
+use Rattle.step_table.specs.State.{State, start}
+use Rattle.step_table.specs.Steps.{Done, initial, idle_step}
 use Rattle.step_table.specs.Row.{effective}
 use Rattle.step_table.specs.Ticks.{row_of_tick}
 use Rattle.step_table.specs.Replies.{row_of_message, timeout_of}
@@ -30,30 +30,30 @@ use Rattle.step_table.specs.Clients.{row_of_service, taken_now}
 
 -- a client's question with this identifier; a whole reply, or a failure, to the ask on a path; the
 -- end of a path; the passing of time; a new beginning
-pub data Told : Type 0 where
-  asking : Client → ℕ → Question → Told
-  hearing : Path → Message → Told
-  failing : Path → Failure → Told
-  breaking : Path → Told
-  ticking : Told
-  restarting : Told
+pub data Happening : Type 0 where
+  asking : Client → ℕ → Question → Happening
+  hearing : Path → Message → Happening
+  failing : Path → Failure → Happening
+  breaking : Path → Happening
+  ticking : Happening
+  restarting : Happening
 
 abbrev pub heard : Config → ℕ → List ℕ → List Bool → Message → State → Option Ask → Done
 heard c n words rooms m s None = idle_step n s
-heard c n words rooms m s (Some a) = if nat_lt n (timeout_of c a) then row_of_message (turn c n words s) rooms a (Ok m) else idle_step n s
+heard c n words rooms m s (Some a) = if nat_lt n (timeout_of c a) then row_of_message (start c n words s) rooms a (Ok m) else idle_step n s
 
 abbrev pub failed_on : Config → ℕ → List ℕ → Failure → State → Option Ask → Done
 failed_on c n words f s None = idle_step n s
-failed_on c n words f s (Some a) = row_of_failure (turn c n words s) a f
+failed_on c n words f s (Some a) = row_of_failure (start c n words s) a f
 
-abbrev pub next : Config → ℕ → List ℕ → State → Told → Done
+abbrev pub next : Config → ℕ → List ℕ → State → Happening → Done
 next c n words s (asking client id q) =
-    row_of_service (turn c n words s) (taken_now n client (record { id = id; qr = false; opcode = 0; aa = false; tc = false; rd = true; ra = false; z = 0; rcode = 0; counts = 1 ∷ 0 ∷ 0 ∷ 0 ∷ [] }) q)
+    row_of_service (start c n words s) (taken_now n client (record { id = id; qr = false; opcode = 0; aa = false; tc = false; rd = true; ra = false; z = 0; rcode = 0; counts = 1 ∷ 0 ∷ 0 ∷ 0 ∷ [] }) q)
 next c n words s (hearing path m) = heard c n words [] m s (ask_on path s.asks)
 next c n words s (failing path f) = failed_on c n words f s (ask_on path s.asks)
-next c n words s (breaking path) = row_of_failed_path (turn c n words s) (ask_on path s.asks)
-next c n words s ticking = row_of_tick (turn c n words s)
-next c n words s restarting = record { actions = []; unkept = 0; state = start c }
+next c n words s (breaking path) = row_of_failed_path (start c n words s) (ask_on path s.asks)
+next c n words s ticking = row_of_tick (start c n words s)
+next c n words s restarting = record { actions = []; unkept = 0; state = initial c }
 
 -- the words that a script passes with its line
 abbrev pub words_of : ℕ → List ℕ
@@ -62,21 +62,21 @@ words_of line = map (λ i. (8 * line + i) * 65537) (0 ∷ 1 ∷ 2 ∷ 3 ∷ 4 �
 abbrev pub onward : Done → (State → List (List Action)) → List (List Action)
 onward d rest = d.actions ∷ rest d.state
 
-abbrev pub played_from : Config → ℕ → State → List (ℕ × Told) → List (List Action)
+abbrev pub played_from : Config → ℕ → State → List (ℕ × Happening) → List (List Action)
 played_from c line s [] = []
 played_from c line s (t ∷ ts) = onward (next c (effective t.0 s) (words_of line) s t.1) (λ s'. played_from c (line + 1) s' ts)
 
 -- the actions of each line
-abbrev pub played : Config → List (ℕ × Told) → List (List Action)
-played c ts = played_from c 1 (start c) ts
+abbrev pub played : Config → List (ℕ × Happening) → List (List Action)
+played c ts = played_from c 1 (initial c) ts
 
 -- the state after some lines
-abbrev pub state_from : Config → ℕ → State → List (ℕ × Told) → State
+abbrev pub state_from : Config → ℕ → State → List (ℕ × Happening) → State
 state_from c line s [] = s
 state_from c line s (t ∷ ts) = state_from c (line + 1) (next c (effective t.0 s) (words_of line) s t.1).state ts
 
-abbrev pub after : Config → List (ℕ × Told) → State
-after c ts = state_from c 1 (start c) ts
+abbrev pub after : Config → List (ℕ × Happening) → State
+after c ts = state_from c 1 (initial c) ts
 
 -- ---- names, questions, servers
 
@@ -124,7 +124,7 @@ with_cache capacity = record {
 abbrev pub config : Config
 config = with_cache 4096
 
-abbrev pub asks_for : ℕ → Question → Told
+abbrev pub asks_for : ℕ → Question → Happening
 asks_for id q = asking client id q
 
 -- ---- replies of servers
@@ -148,7 +148,7 @@ reply aa rcode answers authority = record {
   additional = [];
 }
 
-abbrev pub hears : ℕ → Message → Told
+abbrev pub hears : ℕ → Message → Happening
 hears port m = hearing (Udp port) m
 
 -- one address of the name, for 300 seconds

@@ -19,7 +19,7 @@ use Rattle.retry_failover.specs.declared.Next.{Next}
 use Rattle.retry_failover.specs.declared.Next.TheVariants.{AskUdp, AskTcp, GiveUp}
 use Rattle.retry_failover.specs.Table.{row, after_failure}
 use Rattle.step_values.specs.Values.{Event, from_client, delivery, path_failed, tick, restart}
-use Rattle.step_table.specs.State.{State, turn}
+use Rattle.step_table.specs.State.{State, start}
 use Rattle.waiting_questions.specs.Values.{Waiting}
 use Rattle.step_table.specs.Attempts.{ask_by, plan_of, next_ask}
 use Rattle.step_table.specs.Steps.{Done, Fate, waits, waiting_in, still_waiting, ask_list, without_ask, closing_step}
@@ -90,12 +90,12 @@ module _ (c : Config) (n : ℕ) (words : List ℕ) (a : Ask) (s : State) (on : a
   attempt_less None used more = closing_less c n a _ None s on (omega arith)
   attempt_less (Some next) used more = closing_less c n a _ (Some next) s on (omega (arith, used, more))
 
-  next_less : (r : Next) → ((r ≡ GiveUp → ⊥) → a.used + 1 ≤ c.limits.tries) → Less (row_of_next (turn c n words s) a r)
-  next_less (AskUdp server) more = attempt_less (next_ask (turn c n words s) a (AskUdp server)) (used_by n a.question a.route server (a.used + 1) _ _) (more (λ e. absurd (cc)))
-  next_less (AskTcp server) more = attempt_less (next_ask (turn c n words s) a (AskTcp server)) (used_by n a.question a.route server (a.used + 1) _ _) (more (λ e. absurd (cc)))
+  next_less : (r : Next) → ((r ≡ GiveUp → ⊥) → a.used + 1 ≤ c.limits.tries) → Less (row_of_next (start c n words s) a r)
+  next_less (AskUdp server) more = attempt_less (next_ask (start c n words s) a (AskUdp server)) (used_by n a.question a.route server (a.used + 1) _ _) (more (λ e. absurd (cc)))
+  next_less (AskTcp server) more = attempt_less (next_ask (start c n words s) a (AskTcp server)) (used_by n a.question a.route server (a.used + 1) _ _) (more (λ e. absurd (cc)))
   next_less GiveUp more = closing_less c n a _ None s on (omega arith)
 
-  failure_less : (f : Failure) → Less (row_of_failure (turn c n words s) a f)
+  failure_less : (f : Failure) → Less (row_of_failure (start c n words s) a f)
   failure_less f = next_less (after_failure (plan_of c a) f) (λ on_next.
       let other = eqb-false a.used c.limits.tries (goes_on (a.used == c.limits.tries) (is_tcp a.path) f (plan_of c a) on_next) in
       let le = tries.1 in
@@ -113,11 +113,11 @@ none_due d n x (y ∷ xs) all f = by (nat_le (y.taken + d) n) refl (none_due d n
 
 -- the oldest question decides whether one has waited as long as it may
 pub first_due : (d n : ℕ) (x : Waiting) (xs : List Waiting) → AreTakenInTurn (x ∷ xs) → nat_le (x.taken + d) n ≡ list_any (λ (y : Waiting). nat_le (y.taken + d) n) (x ∷ xs)
-first_due d n x xs turn = by (nat_le (x.taken + d) n) refl
+first_due d n x xs start = by (nat_le (x.taken + d) n) refl
   where
     by : (b : Bool) → nat_le (x.taken + d) n ≡ b → nat_le (x.taken + d) n ≡ (nat_le (x.taken + d) n || list_any (λ (y : Waiting). nat_le (y.taken + d) n) xs)
     by true t = t ∙ sym (ap (λ v. v || list_any (λ (y : Waiting). nat_le (y.taken + d) n) xs) t)
-    by false f = f ∙ sym (ap (λ v. v || list_any (λ (y : Waiting). nat_le (y.taken + d) n) xs) f ∙ none_due d n x xs turn.0 f)
+    by false f = f ∙ sym (ap (λ v. v || list_any (λ (y : Waiting). nat_le (y.taken + d) n) xs) f ∙ none_due d n x xs start.0 f)
 
 none_late : (d n : ℕ) (a : Ask) (asks : List Ask) → AllByRecursion (Follows a) asks → nat_le (a.asked + d) n ≡ false → list_any (λ (b : Ask). nat_le (b.asked + d) n) asks ≡ false
 none_late d n a [] all f = refl
@@ -129,11 +129,11 @@ none_late d n a (y ∷ asks) all f = by (nat_le (y.asked + d) n) refl (none_late
 
 -- the oldest ask decides whether one is past its time
 pub first_late : (d n : ℕ) (a : Ask) (asks : List Ask) → AreInTurn (a ∷ asks) → nat_le (a.asked + d) n ≡ list_any (λ (b : Ask). nat_le (b.asked + d) n) (a ∷ asks)
-first_late d n a asks turn = by (nat_le (a.asked + d) n) refl
+first_late d n a asks start = by (nat_le (a.asked + d) n) refl
   where
     by : (b : Bool) → nat_le (a.asked + d) n ≡ b → nat_le (a.asked + d) n ≡ (nat_le (a.asked + d) n || list_any (λ (y : Ask). nat_le (y.asked + d) n) asks)
     by true t = t ∙ sym (ap (λ v. v || list_any (λ (y : Ask). nat_le (y.asked + d) n) asks) t)
-    by false f = f ∙ sym (ap (λ v. v || list_any (λ (y : Ask). nat_le (y.asked + d) n) asks) f ∙ none_late d n a asks turn.0 f)
+    by false f = f ∙ sym (ap (λ v. v || list_any (λ (y : Ask). nat_le (y.asked + d) n) asks) f ∙ none_late d n a asks start.0 f)
 
 -- ---- a tick
 
@@ -155,7 +155,7 @@ expiry_less c n x others alone s first =
 
 module _ (c : Config) (n : ℕ) (words : List ℕ) (s : State) (order : IsInOrder c s) (due : is_due_at c n s ≡ true) where
   abbrev Serves : Item → Type 0
-  Serves item = left_to_do c (row_of_item (turn c n words s) item).state < left_to_do c s
+  Serves item = left_to_do c (row_of_item (start c n words s) item).state < left_to_do c s
 
   question_less : (x : Waiting) (xs : List Waiting) → s.waiting ≡ x ∷ xs → nat_le (deadline_of c x) n ≡ true → Serves (question x xs)
   question_less x xs first t = subst (λ (d : Done). left_to_do c d.state < left_to_do c s) (sym (cond-true (nat_le (deadline_of c x) n) _ _ t)) (expiry_less c n x xs (left_alone x.wanted xs s.asks) s first)
@@ -188,7 +188,7 @@ module _ (c : Config) (n : ℕ) (words : List ℕ) (s : State) (order : IsInOrde
       by false f (inl o) = subst Serves (sym (cond-false (nat_le (deadline_of c x) (timeout_of c a)) _ _ f)) (attempt_serves a asks l (le-leb (timeout_of c a) n (let after = leb-false (deadline_of c x) (timeout_of c a) f in let at = overdue o in omega (arith, after, at))))
       by false f (inr o) = subst Serves (sym (cond-false (nat_le (deadline_of c x) (timeout_of c a)) _ _ f)) (attempt_serves a asks l (le-leb (timeout_of c a) n (late o)))
 
-  tick_less : left_to_do c (row_of_tick (turn c n words s)).state < left_to_do c s
+  tick_less : left_to_do c (row_of_tick (start c n words s)).state < left_to_do c s
   tick_less = item_less s.waiting s.asks refl refl due
 
 -- ---- the failure of a path
@@ -201,7 +201,7 @@ listed_try c path (b ∷ asks) a on all = by (same_path b.path path) refl (λ th
     by true t later = let same : Some b ≡ Some a = sym (cond-true (same_path b.path path) (Some b) (ask_on path asks) t) ∙ on in let is : b ≡ a = cc in (subst (IsTry c) is all.0, subst (λ (z : Ask). z.path ≡ path) is (same_path_equal b.path path t))
     by false f later = later (sym (cond-false (same_path b.path path) (Some b) (ask_on path asks) f) ∙ on)
 
-path_less : (c : Config) (n : ℕ) (words : List ℕ) (path : Path) (s : State) → IsInOrder c s → (r : Option Ask) → ask_on path s.asks ≡ r → IsSome r → left_to_do c (row_of_failed_path (turn c n words s) r).state < left_to_do c s
+path_less : (c : Config) (n : ℕ) (words : List ℕ) (path : Path) (s : State) → IsInOrder c s → (r : Option Ask) → ask_on path s.asks ≡ r → IsSome r → left_to_do c (row_of_failed_path (start c n words s) r).state < left_to_do c s
 path_less c n words path s order None on some = absurd (cc)
 path_less c n words path s order (Some a) on some =
     let facts = listed_try c path s.asks a on order.tries in
@@ -209,7 +209,7 @@ path_less c n words path s order (Some a) on some =
 
 -- ---- the laws
 
-event_less : (c : Config) (n : ℕ) (words : List ℕ) (s : State) → IsInOrder c s → (e : Event) (d : Done) → ServesSomething c n s e → Happens (turn c n words s) e d → left_to_do c d.state < left_to_do c s
+event_less : (c : Config) (n : ℕ) (words : List ℕ) (s : State) → IsInOrder c s → (e : Event) (d : Done) → ServesSomething c n s e → Happens (start c n words s) e d → left_to_do c d.state < left_to_do c s
 event_less c n words s order (from_client client octets) d serves is = absurd serves
 event_less c n words s order (delivery path from octets) d serves is = absurd serves
 event_less c n words s order (path_failed path) d serves is = subst (λ (k : Done). left_to_do c k.state < left_to_do c s) (sym is) (path_less c n words path s order (ask_on path s.asks) refl serves)
@@ -322,7 +322,7 @@ lowest at v (x ∷ xs) all =
 
 -- the oldest question has the first deadline
 pub first_deadline : (c : Config) (x : Waiting) (xs : List Waiting) → AreTakenInTurn (x ∷ xs) → least (map (deadline_of c) (x ∷ xs)) ≡ Some (deadline_of c x)
-first_deadline c x xs turn = ap (λ m. Some m) (lowest (deadline_of c) (deadline_of c x) xs (later xs turn.0))
+first_deadline c x xs start = ap (λ m. Some m) (lowest (deadline_of c) (deadline_of c x) xs (later xs start.0))
   where
     later : (ys : List Waiting) → AllByRecursion (λ y. x.taken ≤ y.taken) ys → AllByRecursion (λ y. deadline_of c x ≤ deadline_of c y) ys
     later [] all = tt

@@ -19,8 +19,8 @@ use Rattle.step_values.specs.declared.event.Client.TheVariants.{Udp as FromUdp}
 use Rattle.outstanding.specs.declared.ask.Path.TheVariants.{Udp}
 use Rattle.step_values.specs.declared.action.Why.TheVariants.{Answered, BadFormat, BadOpcode, NotServed, QuestionsFull, InquiriesFull, NoPort}
 use Rattle.step_values.specs.Values.{ask_udp, close_udp, send_reply}
-use Rattle.step_table.specs.State.{State, turn}
-use Rattle.step_table.specs.Steps.{start, idle_step, reply_step}
+use Rattle.step_table.specs.State.{State, start}
+use Rattle.step_table.specs.Steps.{initial, idle_step, reply_step}
 use Rattle.step_table.specs.Replies.{row_of_delivery}
 use Rattle.step_table.specs.Clients.{row_of_request}
 use Rattle.outstanding.specs.Lists.{on_path as ask_on}
@@ -140,79 +140,79 @@ after_reply first second = record {
 }
 
 -- a question, and its ask
-asks : row_of_request (turn config 1000 words (start config)) client question ≡ record { actions = ask_udp 1032 server query ∷ []; unkept = 0; state = after_question }
+asks : row_of_request (start config 1000 words (initial config)) client question ≡ record { actions = ask_udp 1032 server query ∷ []; unkept = 0; state = after_question }
 unfolding written ◌▹◌ each name_text first_question question_at octets_end name_within walk_in name_step route_of
 asks = refl
 
 -- its reply, and the answer
-answers : row_of_delivery (turn config 1020 words after_question) [] server reply_text (ask_on (Udp 1032) after_question.asks)
+answers : row_of_delivery (start config 1020 words after_question) [] server reply_text (ask_on (Udp 1032) after_question.asks)
     ≡ record { actions = close_udp 1032 ∷ send_reply client answer Answered ∷ []; unkept = 0; state = after_reply (97 ∷ []) example }
 unfolding written ◌▹◌ each name_text data_text with_length first_question question_at octets_end name_within walk_in name_step message_at header_of counted record_at data_at octets_within parts_at shape_of walk_from servers_from route_of
 answers = refl
 
 -- forged replies: another identifier, path, server, port or question
-forged_identifier : row_of_delivery (turn config 1001 words after_question) [] server other_identifier (ask_on (Udp 1032) after_question.asks) ≡ idle_step 1001 after_question
+forged_identifier : row_of_delivery (start config 1001 words after_question) [] server other_identifier (ask_on (Udp 1032) after_question.asks) ≡ idle_step 1001 after_question
 unfolding written ◌▹◌ each name_text data_text with_length first_question question_at octets_end name_within walk_in name_step message_at header_of counted record_at data_at octets_within parts_at shape_of walk_from servers_from route_of
 forged_identifier = refl
 
-forged_path : row_of_delivery (turn config 1002 words after_question) [] server reply_text (ask_on (Udp 1033) after_question.asks) ≡ idle_step 1002 after_question
+forged_path : row_of_delivery (start config 1002 words after_question) [] server reply_text (ask_on (Udp 1033) after_question.asks) ≡ idle_step 1002 after_question
 forged_path = refl
 
-forged_server : row_of_delivery (turn config 1003 words after_question) [] other_server reply_text (ask_on (Udp 1032) after_question.asks) ≡ idle_step 1003 after_question
+forged_server : row_of_delivery (start config 1003 words after_question) [] other_server reply_text (ask_on (Udp 1032) after_question.asks) ≡ idle_step 1003 after_question
 unfolding written ◌▹◌ each name_text data_text with_length first_question question_at octets_end name_within walk_in name_step message_at header_of counted record_at data_at octets_within parts_at shape_of walk_from servers_from route_of
 forged_server = refl
 
-forged_port : row_of_delivery (turn config 1004 words after_question) [] other_port reply_text (ask_on (Udp 1032) after_question.asks) ≡ idle_step 1004 after_question
+forged_port : row_of_delivery (start config 1004 words after_question) [] other_port reply_text (ask_on (Udp 1032) after_question.asks) ≡ idle_step 1004 after_question
 unfolding written ◌▹◌ each name_text data_text with_length first_question question_at octets_end name_within walk_in name_step message_at header_of counted record_at data_at octets_within parts_at shape_of walk_from servers_from route_of
 forged_port = refl
 
-forged_question : row_of_delivery (turn config 1005 words after_question) [] server other_type (ask_on (Udp 1032) after_question.asks) ≡ idle_step 1005 after_question
+forged_question : row_of_delivery (start config 1005 words after_question) [] server other_type (ask_on (Udp 1032) after_question.asks) ≡ idle_step 1005 after_question
 unfolding written ◌▹◌ each name_text data_text with_length first_question question_at octets_end name_within walk_in name_step message_at header_of counted record_at data_at octets_within parts_at shape_of walk_from servers_from route_of
 forged_question = refl
 
 -- the reply spells the name in its own way: the question comes back as the client spelled it, the
 -- set as the server did
-letter_case : row_of_delivery (turn config 1020 words after_question) [] server upper_reply (ask_on (Udp 1032) after_question.asks)
+letter_case : row_of_delivery (start config 1020 words after_question) [] server upper_reply (ask_on (Udp 1032) after_question.asks)
     ≡ record { actions = close_udp 1032 ∷ send_reply client upper_answer Answered ∷ []; unkept = 0; state = after_reply (65 ∷ []) (69 ∷ 88 ∷ 65 ∷ 77 ∷ 80 ∷ 76 ∷ 69 ∷ []) }
 unfolding written ◌▹◌ each name_text data_text with_length first_question question_at octets_end name_within walk_in name_step message_at header_of counted record_at data_at octets_within parts_at shape_of walk_from servers_from route_of
 letter_case = refl
 
 -- the ask was live until 2499
-late : row_of_delivery (turn config 2500 words after_question) [] server reply_text (ask_on (Udp 1032) after_question.asks) ≡ idle_step 2500 after_question
+late : row_of_delivery (start config 2500 words after_question) [] server reply_text (ask_on (Udp 1032) after_question.asks) ≡ idle_step 2500 after_question
 late = refl
 
 -- after a restart the reply matches nothing, and the same question is asked again
-restarted : row_of_delivery (turn config 1020 words (start config)) [] server reply_text (ask_on (Udp 1032) (start config).asks) ≡ idle_step 1020 (start config)
+restarted : row_of_delivery (start config 1020 words (initial config)) [] server reply_text (ask_on (Udp 1032) (initial config).asks) ≡ idle_step 1020 (initial config)
 restarted = refl
 
-asks_anew : (row_of_request (turn config 1030 (2097184 ∷ []) (start config)) client question_again).actions ≡ ask_udp 1056 server query_again ∷ []
+asks_anew : (row_of_request (start config 1030 (2097184 ∷ []) (initial config)) client question_again).actions ≡ ask_udp 1056 server query_again ∷ []
 unfolding written ◌▹◌ each name_text first_question question_at octets_end name_within walk_in name_step route_of
 asks_anew = refl
 
 -- messages of clients
-too_short : row_of_request (turn config 1000 words (start config)) client short ≡ idle_step 1000 (start config)
+too_short : row_of_request (start config 1000 words (initial config)) client short ≡ idle_step 1000 (initial config)
 too_short = refl
 
-no_question_but_a_reply : row_of_request (turn config 1000 words (start config)) client is_reply ≡ idle_step 1000 (start config)
+no_question_but_a_reply : row_of_request (start config 1000 words (initial config)) client is_reply ≡ idle_step 1000 (initial config)
 no_question_but_a_reply = refl
 
-other_opcode : row_of_request (turn config 1000 words (start config)) client status ≡ reply_step 1000 (send_reply client status_answer BadOpcode) (start config)
+other_opcode : row_of_request (start config 1000 words (initial config)) client status ≡ reply_step 1000 (send_reply client status_answer BadOpcode) (initial config)
 unfolding written ◌▹◌ each name_text first_question question_at octets_end name_within walk_in name_step route_of
 other_opcode = refl
 
-none_asked : row_of_request (turn config 1000 words (start config)) client no_question ≡ reply_step 1000 (send_reply client format_answer BadFormat) (start config)
+none_asked : row_of_request (start config 1000 words (initial config)) client no_question ≡ reply_step 1000 (send_reply client format_answer BadFormat) (initial config)
 unfolding written ◌▹◌ each name_text first_question question_at octets_end name_within walk_in name_step route_of
 none_asked = refl
 
-unreadable : row_of_request (turn config 1000 words (start config)) client pointer_question ≡ reply_step 1000 (send_reply client format_answer BadFormat) (start config)
+unreadable : row_of_request (start config 1000 words (initial config)) client pointer_question ≡ reply_step 1000 (send_reply client format_answer BadFormat) (initial config)
 unfolding written ◌▹◌ each name_text first_question question_at octets_end name_within walk_in name_step route_of
 unreadable = refl
 
-any_type : row_of_request (turn config 1000 words (start config)) client any_question ≡ reply_step 1000 (send_reply client any_answer NotServed) (start config)
+any_type : row_of_request (start config 1000 words (initial config)) client any_question ≡ reply_step 1000 (send_reply client any_answer NotServed) (initial config)
 unfolding written ◌▹◌ each name_text first_question question_at octets_end name_within walk_in name_step route_of
 any_type = refl
 
-behind_the_question : (row_of_request (turn config 1000 (3670072 ∷ []) (start config)) client with_opt).actions ≡ ask_udp 1080 server opt_query ∷ []
+behind_the_question : (row_of_request (start config 1000 (3670072 ∷ []) (initial config)) client with_opt).actions ≡ ask_udp 1080 server opt_query ∷ []
 unfolding written ◌▹◌ each name_text first_question question_at octets_end name_within walk_in name_step route_of
 behind_the_question = refl
 
@@ -232,23 +232,23 @@ abbrev limited : ℕ → ℕ → Config
 limited questions inquiries = record config { limits = record default_limits { questions = questions; inquiries = inquiries } }
 
 -- an equal question waits for the same ask
-joins : let d = row_of_request (turn config 1001 words after_question) client question_again in (d.actions ≡ []) × (d.state.asks ≡ after_question.asks) × (length d.state.waiting ≡ 2)
+joins : let d = row_of_request (start config 1001 words after_question) client question_again in (d.actions ≡ []) × (d.state.asks ≡ after_question.asks) × (length d.state.waiting ≡ 2)
 unfolding first_question question_at octets_end name_within walk_in name_step route_of
 joins = (refl, refl, refl)
 
 -- the port in use is passed over
-takes_another_port : (row_of_request (turn config 1001 (524296 ∷ 1048592 ∷ []) after_question) client other_question).actions ≡ ask_udp 1040 server other_query ∷ []
+takes_another_port : (row_of_request (start config 1001 (524296 ∷ 1048592 ∷ []) after_question) client other_question).actions ≡ ask_udp 1040 server other_query ∷ []
 unfolding written ◌▹◌ each name_text first_question question_at octets_end name_within walk_in name_step route_of
 takes_another_port = refl
 
-no_port : row_of_request (turn config 1001 (524296 ∷ 524297 ∷ []) after_question) client other_question ≡ reply_step 1001 (send_reply client other_failure NoPort) after_question
+no_port : row_of_request (start config 1001 (524296 ∷ 524297 ∷ []) after_question) client other_question ≡ reply_step 1001 (send_reply client other_failure NoPort) after_question
 unfolding written ◌▹◌ each name_text first_question question_at octets_end name_within walk_in name_step route_of
 no_port = refl
 
-questions_full : row_of_request (turn (limited 1 9) 1001 words after_question) client other_question ≡ reply_step 1001 (send_reply client other_failure QuestionsFull) after_question
+questions_full : row_of_request (start (limited 1 9) 1001 words after_question) client other_question ≡ reply_step 1001 (send_reply client other_failure QuestionsFull) after_question
 unfolding written ◌▹◌ each name_text first_question question_at octets_end name_within walk_in name_step route_of
 questions_full = refl
 
-inquiries_full : row_of_request (turn (limited 9 1) 1001 words after_question) client other_question ≡ reply_step 1001 (send_reply client other_failure InquiriesFull) after_question
+inquiries_full : row_of_request (start (limited 9 1) 1001 words after_question) client other_question ≡ reply_step 1001 (send_reply client other_failure InquiriesFull) after_question
 unfolding written ◌▹◌ each name_text first_question question_at octets_end name_within walk_in name_step route_of
 inquiries_full = refl

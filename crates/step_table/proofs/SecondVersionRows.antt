@@ -9,7 +9,7 @@ use Rattle.dns_message.specs.Data.{name_of_rdata}
 use Rattle.trust_rank.specs.Walks.{walk_from, servers_from}
 use Rattle.step_values.specs.declared.action.Why.TheVariants.{Exhausted, NoRoute, NotServed, Stale, LocalDenied}
 use Rattle.step_values.specs.Values.{Action, close_udp}
-use Rattle.step_table.proofs.Played.{Told, ticking, restarting, played, name_data, a, b, d, address, server, other_server, config, asks_for, rr, host, reply, hears, one_host, sends_query, shows_as, answers, fails_with}
+use Rattle.step_table.proofs.Played.{Happening, ticking, restarting, played, name_data, a, b, d, address, server, other_server, config, asks_for, rr, host, reply, hears, one_host, sends_query, shows_as, answers, fails_with}
 
 -- one try, and a window of this many seconds
 abbrev windowed : ℕ → Config
@@ -18,10 +18,10 @@ windowed seconds = record config { limits = record default_limits { tries = 1; s
 abbrev past_end : ℕ → Question → List Record → Action
 past_end id q records = shows_as Stale 0 id q records []
 
-abbrev first : ℕ × Told
+abbrev first : ℕ × Happening
 first = (1000, asks_for 1 (address a))
 
-abbrev good : ℕ × Told
+abbrev good : ℕ × Happening
 good = (1020, hears 1032 (one_host a))
 
 -- ---- expired data

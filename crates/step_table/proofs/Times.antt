@@ -14,10 +14,10 @@ use Rattle.step_values.specs.declared.event.Client.{Client}
 use Rattle.step_values.specs.declared.event.Client.TheVariants.{Udp as FromUdp}
 use Rattle.step_values.specs.declared.action.Why.TheVariants.{Exhausted, Deadline}
 use Rattle.step_values.specs.Values.{restart, ask_udp, ask_tcp, close_udp, send_reply}
-use Rattle.step_table.specs.State.{State, turn}
+use Rattle.step_table.specs.State.{State, start}
 use Rattle.waiting_questions.specs.Values.{Waiting}
 use Rattle.step_table.specs.Attempts.{first_ask}
-use Rattle.step_table.specs.Steps.{Done, idle_step, with_preferred_server, start, with_entries}
+use Rattle.step_table.specs.Steps.{Done, idle_step, with_preferred_server, initial, with_entries}
 use Rattle.step_table.specs.Row.{Happens, effective, is_due_at}
 use Rattle.step_table.specs.Ticks.{row_of_tick}
 use Rattle.step_table.specs.Failures.{row_of_failure}
@@ -71,23 +71,23 @@ state a waiting = record { cache = record { capacity = 9; entries = [] }; asks =
 -- ---- the ask at its time
 
 -- a millisecond before its time nothing happens
-not_yet : row_of_tick (turn config 2499 words (state ask (question 1000 ∷ []))) ≡ idle_step 2499 (state ask (question 1000 ∷ []))
+not_yet : row_of_tick (start config 2499 words (state ask (question 1000 ∷ []))) ≡ idle_step 2499 (state ask (question 1000 ∷ []))
 not_yet = refl
 
 -- then it is closed, and the next server is asked; the port that is given up counts as free
-next_try : row_of_tick (turn config 2500 words (state ask (question 1000 ∷ [])))
+next_try : row_of_tick (start config 2500 words (state ask (question 1000 ∷ [])))
     ≡ record { actions = close_udp 1032 ∷ ask_udp 1032 second (query 8) ∷ []; unkept = 0; state = record (state ask (question 1000 ∷ [])) { asks = record ask { server = 1; peer = second; used = 2; asked = 2500 } ∷ []; moment = 2500 } }
 unfolding written ◌▹◌ each name_text
 next_try = refl
 
 -- the last try leaves nothing to ask
-last_try : row_of_tick (turn config 2500 words (state last_ask (question 1000 ∷ [])))
+last_try : row_of_tick (start config 2500 words (state last_ask (question 1000 ∷ [])))
     ≡ record { actions = close_udp 1032 ∷ send_reply client failure Exhausted ∷ []; unkept = 0; state = record (state ask []) { asks = []; moment = 2500 } }
 unfolding written ◌▹◌ each name_text
 last_try = refl
 
 -- a truncated reply: the same server over TCP, on the next connection
-cut : row_of_failure (turn config 1020 words (state ask (question 1000 ∷ []))) ask Truncated
+cut : row_of_failure (start config 1020 words (state ask (question 1000 ∷ []))) ask Truncated
     ≡ record { actions = close_udp 1032 ∷ ask_tcp 2 first (query 8) ∷ []; unkept = 0; state = record (state ask (question 1000 ∷ [])) { asks = record ask { used = 2; path = Tcp 2; asked = 1020 } ∷ []; moment = 1020; tcp_asks = 3 } }
 unfolding written ◌▹◌ each name_text
 cut = refl
@@ -95,13 +95,13 @@ cut = refl
 -- ---- the question at its deadline
 
 -- at one moment the question comes first, and with the last one that waits its ask ends
-deadline : row_of_tick (turn impatient 2500 words (state ask (question 1000 ∷ [])))
+deadline : row_of_tick (start impatient 2500 words (state ask (question 1000 ∷ [])))
     ≡ record { actions = close_udp 1032 ∷ send_reply client failure Deadline ∷ []; unkept = 0; state = record (state ask []) { asks = []; moment = 2500 } }
 unfolding written ◌▹◌ each name_text
 deadline = refl
 
 -- the oldest has its reply, and the ask goes on for the other one
-one_of_two : row_of_tick (turn impatient 2500 words (state ask (question 1000 ∷ question 1001 ∷ [])))
+one_of_two : row_of_tick (start impatient 2500 words (state ask (question 1000 ∷ question 1001 ∷ [])))
     ≡ record { actions = send_reply client failure Deadline ∷ []; unkept = 0; state = record (state ask (question 1001 ∷ [])) { moment = 2500 } }
 unfolding written ◌▹◌ each name_text
 one_of_two = refl
@@ -125,14 +125,14 @@ moments = (refl, refl, refl)
 -- counts too
 left : (left_to_do config (state ask (question 1000 ∷ question 1001 ∷ [])) ≡ 6)
     × (left_to_do config (state last_ask (question 1000 ∷ [])) ≡ 2) × (left_to_do config (state last_ask []) ≡ 1)
-    × (left_to_do config (start config) ≡ 0)
+    × (left_to_do config (initial config) ≡ 0)
 left = (refl, refl, refl, refl)
 
 -- ---- which server is asked first
 
 -- the server that answered, on its own route alone
-kept : let after = with_preferred_server (record ask { server = 1 }) (start config) in
-    (first_ask (turn config 3000 words after) address 1 ≡ Some (record ask { server = 1; peer = second; asked = 3000 })) × (first_ask (turn config 3000 words after) address 0 ≡ Some (record ask { route = 0; peer = second; asked = 3000 }))
+kept : let after = with_preferred_server (record ask { server = 1 }) (initial config) in
+    (first_ask (start config 3000 words after) address 1 ≡ Some (record ask { server = 1; peer = second; asked = 3000 })) × (first_ask (start config 3000 words after) address 0 ≡ Some (record ask { route = 0; peer = second; asked = 3000 }))
 kept = (refl, refl)
 
 -- a set that is kept
@@ -143,5 +143,5 @@ kept_set = record {
 }
 
 -- a restart forgets it, and empties the cache
-forgotten : (d : Done) → Happens (turn config 9000 words (with_entries (kept_set ∷ []) (with_preferred_server (record ask { server = 1 }) (start config)))) restart d → d ≡ record { actions = []; unkept = 0; state = start config }
+forgotten : (d : Done) → Happens (start config 9000 words (with_entries (kept_set ∷ []) (with_preferred_server (record ask { server = 1 }) (initial config)))) restart d → d ≡ record { actions = []; unkept = 0; state = initial config }
 forgotten d h = h

@@ -12,7 +12,7 @@ use Rattle.retry_failover.specs.declared.Next.{Next}
 use Rattle.retry_failover.specs.declared.Next.TheVariants.{AskUdp, AskTcp, GiveUp}
 use Rattle.suffix_routes.specs.Serving.{serving_route_of}
 use Rattle.outstanding.specs.Lists.{is_tcp}
-use Rattle.step_table.specs.State.{State, Turn}
+use Rattle.step_table.specs.State.{State, StepStart}
 
 -- the servers of a route, in the order of the configuration
 abbrev pub group_of : Config → ℕ → Option Route
@@ -56,18 +56,18 @@ abbrev pub preferred_on : State → ℕ → ℕ
 preferred_on s route = get_or s.preferred route 0
 
 -- the first ask for a question goes by UDP to its route's preferred server
-abbrev pub first_ask : Turn → Question → ℕ → Option Ask
+abbrev pub first_ask : StepStart → Question → ℕ → Option Ask
 first_ask t q route =
     ask_by t.moment q route (preferred_on t.state route) 1 (peer_at t.config route (preferred_on t.state route))
     (over_udp (udp_draw t.words t.state.asks None))
 
 -- to none if the name has no route
-abbrev pub first_ask_on : Turn → Question → Option ℕ → Option Ask
+abbrev pub first_ask_on : StepStart → Question → Option ℕ → Option Ask
 first_ask_on t q None = None
 first_ask_on t q (Some route) = first_ask t q route
 
 -- the first ask for a question, on the route of its name, if any
-abbrev pub first_ask_for : Turn → Question → Option Ask
+abbrev pub first_ask_for : StepStart → Question → Option Ask
 first_ask_for t q = first_ask_on t q (serving_route_of t.config q.name)
 
 -- the port given up with a path
@@ -87,7 +87,7 @@ plan_of c a = record {
 }
 
 -- the ask after a failed ask; the port given up counts as free
-abbrev pub next_ask : Turn → Ask → Next → Option Ask
+abbrev pub next_ask : StepStart → Ask → Next → Option Ask
 next_ask t a (AskUdp server) =
     ask_by t.moment a.question a.route server (a.used + 1) (peer_at t.config a.route server)
     (over_udp (udp_draw t.words t.state.asks (freed_by a.path)))

@@ -16,7 +16,7 @@ use Rattle.step_values.specs.Values.{Action}
 use Rattle.suffix_routes.specs.Serving.{serving_route_of, is_local}
 use Rattle.step_values.specs.Requests.{is_taken}
 use Rattle.answer_builder.specs.Values.{asked_in}
-use Rattle.step_table.specs.State.{State, Turn, from_state}
+use Rattle.step_table.specs.State.{State, StepStart, from_state}
 use Rattle.waiting_questions.specs.Values.{Waiting}
 use Rattle.step_table.specs.Attempts.{first_ask_for}
 use Rattle.alias_chains.specs.LookingUp.{LookUpEnd, ends, too_long, missed, LookUp, look_up}
@@ -57,42 +57,42 @@ row_of_opening n x s None = reply_step n (gives_up NoPort x) s
 row_of_opening n x s (Some a) = taking_step n x (Some a) s
 
 -- no ask of the wanted question is listed
-abbrev pub row_of_new_inquiry : Turn → Waiting → Done
+abbrev pub row_of_new_inquiry : StepStart → Waiting → Done
 row_of_new_inquiry t x =
     if nat_le t.config.limits.inquiries (length t.state.asks)
     then reply_step t.moment (gives_up InquiriesFull x) t.state
     else row_of_opening t.moment x t.state (first_ask_for t x.wanted)
 
 -- the question joins the ask of an equal question, or begins an inquiry
-abbrev pub row_of_inquiry : Turn → Waiting → Option Ask → Done
+abbrev pub row_of_inquiry : StepStart → Waiting → Option Ask → Done
 row_of_inquiry t x None = row_of_new_inquiry t x
 row_of_inquiry t x (Some a) = taking_step t.moment x None t.state
 
 -- the cache has no answer
-abbrev pub row_of_waiting : Turn → Waiting → Done
+abbrev pub row_of_waiting : StepStart → Waiting → Done
 row_of_waiting t x =
     if nat_le t.config.limits.questions (length t.state.waiting)
     then reply_step t.moment (gives_up QuestionsFull x) t.state
     else row_of_inquiry t x (of_question x.wanted t.state.asks)
 
 -- the reply goes out at once, or the question waits
-abbrev pub row_of_fate : Turn → Fate → Done
+abbrev pub row_of_fate : StepStart → Fate → Done
 row_of_fate t (gets reply) = reply_step t.moment reply t.state
 row_of_fate t (waits x) = row_of_waiting t x
 
 -- the entries used by the look-up are promoted, whatever the fate of the question
-abbrev pub row_of_look_up : Turn → Waiting → LookUp → Done
+abbrev pub row_of_look_up : StepStart → Waiting → LookUp → Done
 row_of_look_up t x l = row_of_fate (from_state (with_promoted l.used t.state) t) (fate_of t.config t.moment x l)
 
 -- a question by the serving route of its name: without a route the question is refused, otherwise
 -- looked up
-abbrev pub row_of_route : Turn → Waiting → Option ℕ → Done
+abbrev pub row_of_route : StepStart → Waiting → Option ℕ → Done
 row_of_route t x None = reply_step t.moment (without_server t.config t.moment x [] x.wanted.name) t.state
 row_of_route t x (Some route) =
     row_of_look_up t x (look_up t.config.routes t.moment t.state.cache.entries most_aliases [] x.wanted)
 
 -- a question of an unserved type or class is refused (RFC 1035 3.2.3), any other goes on
-abbrev pub row_of_service : Turn → Waiting → Done
+abbrev pub row_of_service : StepStart → Waiting → Done
 row_of_service t x =
     if is_unserved x.wanted
     then reply_step t.moment (gives_up NotServed x) t.state
@@ -104,12 +104,12 @@ taken_now n client h q = record { client = client; asked = asked_in h (Some q); 
 
 -- a message by its question: without exactly one readable question the message is refused (RFC 1035
 -- 4.1.2)
-abbrev pub row_of_question : Turn → Client → Header → Option Question → Done
+abbrev pub row_of_question : StepStart → Client → Header → Option Question → Done
 row_of_question t client h None = reply_step t.moment (failed client (asked_in h None) BadFormat) t.state
 row_of_question t client h (Some q) = row_of_service t (taken_now t.moment client h q)
 
 -- a client's octets: dropped, refused for their opcode (RFC 1035 4.1.1), or a question
-abbrev pub row_of_request : Turn → Client → List ℕ → Done
+abbrev pub row_of_request : StepStart → Client → List ℕ → Done
 row_of_request t client octets =
     if is_taken octets
     then (if (header_in octets).opcode == 0

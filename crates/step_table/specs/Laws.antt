@@ -4,7 +4,7 @@ use Rattle.suffix_routes.specs.Values.{Config}
 use Rattle.outstanding.specs.Values.{Ask}
 use Rattle.trust_rank.specs.Values.{elsewhere, Walk}
 use Rattle.record_cache.specs.Values.{Held}
-use Rattle.step_values.specs.Values.{tick, Handed, Outcome}
+use Rattle.step_values.specs.Values.{tick, StepInput, Outcome}
 use Rattle.step_table.specs.State.{State}
 use Rattle.waiting_questions.specs.Values.{Waiting, waits_for}
 use Rattle.step_table.specs.Steps.{waits}
@@ -14,7 +14,7 @@ use Rattle.step_table.specs.Progress.{left_to_do, ServesSomething, next_due, IsI
 
 -- A step with something due leaves less to do.
 abbrev pub LessIsLeft : Type 0
-LessIsLeft = (c : Config) (s : State) (h : Handed) (o : Outcome) (s' : State) → IsInOrder c s → Row c s h o s'
+LessIsLeft = (c : Config) (s : State) (h : StepInput) (o : Outcome) (s' : State) → IsInOrder c s → Row c s h o s'
     → ServesSomething c (effective h.now s) s h.event → left_to_do c s' < left_to_do c s
 
 -- The work left is bounded by the limits.

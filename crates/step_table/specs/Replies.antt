@@ -19,7 +19,7 @@ use Rattle.trust_rank.specs.Values.{Piece, End, found, ends_no_data, ends_denied
 use Rattle.trust_rank.specs.Walks.{most_aliases, walk_of, is_lame}
 use Rattle.record_cache.specs.Values.{Held}
 use Rattle.step_values.specs.declared.action.Why.TheVariants.{NoPort}
-use Rattle.step_table.specs.State.{State, Turn, from_state}
+use Rattle.step_table.specs.State.{State, StepStart, from_state}
 use Rattle.waiting_questions.specs.Values.{Waiting, waits_for}
 use Rattle.step_table.specs.Attempts.{first_ask_for}
 use Rattle.alias_chains.specs.LookingUp.{ends, too_long, missed, LookUp, look_up}
@@ -109,14 +109,14 @@ row_of_next_name n a fate s None = closing_step n a (unless_no_port fate a.quest
 row_of_next_name n a fate s (Some next) = closing_step n a fate (Some next) s
 
 -- the ask of a reply that leads on ends: a new ask goes out if a question wants one
-abbrev pub row_of_sent_on : Turn → Ask → (Waiting → Fate) → Option Question → Done
+abbrev pub row_of_sent_on : StepStart → Ask → (Waiting → Fate) → Option Question → Done
 row_of_sent_on t a fate None = closing_step t.moment a fate None t.state
 row_of_sent_on t a fate (Some q) =
     row_of_next_name t.moment a fate t.state
     (first_ask_for (from_state (record t.state { asks = without_path a.path t.state.asks }) t) q)
 
 -- all questions waiting for the ask are answered, or redirected to the aliases' target
-abbrev pub row_of_end : Turn → Ask → Walk → (Waiting → Fate) → End → Done
+abbrev pub row_of_end : StepStart → Ask → Walk → (Waiting → Fate) → End → Done
 row_of_end t a w fate (elsewhere name) =
     row_of_sent_on (from_state (with_promoted (used_by t.config t.moment t.state.cache.entries a w t.state.waiting)
     t.state) t) a fate
@@ -128,7 +128,7 @@ row_of_end t a w fate ends_denied = closing_step t.moment a fate None t.state
 row_of_end t a w fate lame = closing_step t.moment a fate None t.state
 
 -- an accepted reply: its pieces are offered, its server is preferred, and its walk decides
-abbrev pub row_of_acceptance : Turn → List Bool → Ask → Walk → Done
+abbrev pub row_of_acceptance : StepStart → List Bool → Ask → Walk → Done
 row_of_acceptance t rooms a w =
     offering_step t.moment rooms (w.pieces ++ w.authority)
     (row_of_end (from_state (with_preferred_server a t.state) t) a w
@@ -137,16 +137,16 @@ row_of_acceptance t rooms a w =
 -- ---- a delivery
 
 -- a reply by its walk: a lame reply is a failed attempt, any other is accepted
-abbrev pub row_of_walk : Turn → List Bool → Ask → Walk → Done
+abbrev pub row_of_walk : StepStart → List Bool → Ask → Walk → Done
 row_of_walk t rooms a w = if is_lame w.end then row_of_failure t a failure.Lame else row_of_acceptance t rooms a w
 
 -- a matching message: unreadable, a failed attempt
-abbrev pub row_of_message : Turn → List Bool → Ask → Result Message Fault → Done
+abbrev pub row_of_message : StepStart → List Bool → Ask → Result Message Fault → Done
 row_of_message t rooms a (Ok m) = row_of_walk t rooms a (walk_of t.config m a.question a.route)
 row_of_message t rooms a (Err fault) = row_of_failure t a failure.Malformed
 
 -- a delivery by its verdict: a stranger's octets change nothing but the moment
-abbrev pub row_of_verdict : Turn → List Bool → Ask → List ℕ → Verdict → Done
+abbrev pub row_of_verdict : StepStart → List Bool → Ask → List ℕ → Verdict → Done
 row_of_verdict t rooms a octets Stranger = idle_step t.moment t.state
 row_of_verdict t rooms a octets Truncated = row_of_failure t a failure.Truncated
 row_of_verdict t rooms a octets (Failed rcode) = row_of_failure t a failure.Rcode
@@ -158,7 +158,7 @@ abbrev pub timeout_of : Config → Ask → ℕ
 timeout_of c a = a.asked + c.limits.ask_ms
 
 -- an ask at the end of its time is no longer answered
-abbrev pub row_of_delivery : Turn → List Bool → Peer → List ℕ → Option Ask → Done
+abbrev pub row_of_delivery : StepStart → List Bool → Peer → List ℕ → Option Ask → Done
 row_of_delivery t rooms from octets None = idle_step t.moment t.state
 row_of_delivery t rooms from octets (Some a) =
     if nat_lt t.moment (timeout_of t.config a)

@@ -6,10 +6,10 @@ use Rattle.outstanding.specs.Lists.{on_path as ask_on}
 use Rattle.outstanding.specs.Values.{Ask}
 use Rattle.reply_match.specs.declared.verdict.Verdict.TheVariants.{Stranger}
 use Rattle.plain_values.specs.Octets.{AreOctets}
-use Rattle.step_values.specs.Values.{Event, from_client, delivery, path_failed, tick, restart, Handed, Outcome}
+use Rattle.step_values.specs.Values.{Event, from_client, delivery, path_failed, tick, restart, StepInput, Outcome}
 use Rattle.step_values.specs.Requests.{is_taken}
-use Rattle.step_table.specs.State.{State, Turn, turn}
-use Rattle.step_table.specs.Steps.{Done, start}
+use Rattle.step_table.specs.State.{State, StepStart, start}
+use Rattle.step_table.specs.Steps.{Done, initial}
 use Rattle.step_table.specs.Clients.{row_of_request}
 use Rattle.step_table.specs.Failures.{row_of_failed_path}
 use Rattle.step_table.specs.Replies.{timeout_of, row_of_delivery, verdict_on}
@@ -21,14 +21,14 @@ is_due_at c n s = list_any (λ x. nat_le (deadline_of c x) n) s.waiting
     || list_any (λ a. nat_le (timeout_of c a) n) s.asks
 
 -- the event leads from this turn to these actions and the state after
-abbrev pub Happens : Turn → Event → Done → Type 0
+abbrev pub Happens : StepStart → Event → Done → Type 0
 Happens t (from_client client octets) d = d ≡ row_of_request t client octets
 -- rooms has true for each new slot that found memory
 Happens t (delivery path from octets) d = (rooms : List Bool)
     × (d ≡ row_of_delivery t rooms from octets (ask_on path t.state.asks))
 Happens t (path_failed path) d = d ≡ row_of_failed_path t (ask_on path t.state.asks)
 Happens t tick d = d ≡ row_of_tick t
-Happens t restart d = d ≡ record { actions = []; unkept = 0; state = start t.config }
+Happens t restart d = d ≡ record { actions = []; unkept = 0; state = initial t.config }
 
 -- the numbers of the event are octets
 abbrev pub HandsOctets : Event → Type 0
@@ -52,8 +52,8 @@ TakesNoMemory c n s tick = is_due_at c n s ≡ false
 TakesNoMemory c n s restart = Unit {0}
 
 -- from s, this step may have this outcome and leave s'
-pub record Row (c : Config) (s : State) (h : Handed) (o : Outcome) (s' : State) : Type 0 where
+pub record Row (c : Config) (s : State) (h : StepInput) (o : Outcome) (s' : State) : Type 0 where
   pub octets : HandsOctets h.event
-  pub happens : Happens (turn c (effective h.now s) h.words s) h.event
+  pub happens : Happens (start c (effective h.now s) h.words s) h.event
       (record { actions = o.actions; unkept = o.unkept; state = s' })
   pub more : o.more ≡ is_due_at c s'.moment s'

@@ -20,16 +20,16 @@ pub record Running : Type 0 where
   pub state : State
 
 -- the start of a step: the effective moment in milliseconds, the random words, and the state before
-pub record Turn : Type 0 where
+pub record StepStart : Type 0 where
   pub config : Config
   pub moment : ℕ
   pub words : List ℕ
   pub state : State
 
 -- a state with the configuration, the moment and the random words of a step
-abbrev pub turn : Config → ℕ → List ℕ → State → Turn
-turn c n words s = record { config = c; moment = n; words = words; state = s }
+abbrev pub start : Config → ℕ → List ℕ → State → StepStart
+start c n words s = record { config = c; moment = n; words = words; state = s }
 
 -- the turn from a different state
-abbrev pub from_state : State → Turn → Turn
+abbrev pub from_state : State → StepStart → StepStart
 from_state s t = record t { state = s }

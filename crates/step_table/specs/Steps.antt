@@ -45,8 +45,8 @@ pub data Fate : Type 0 where
 -- ---- states
 
 -- the state of a new forwarder, and after a restart
-abbrev pub start : Config → State
-start c = record {
+abbrev pub initial : Config → State
+initial c = record {
   cache = record { capacity = c.limits.cache; entries = [] };
   asks = [];
   waiting = [];
@@ -196,8 +196,8 @@ abbrev pub answered : ℕ → Waiting → List Held → Held → Action
 answered n x aliases end = sends Answered x (answer_of x.asked (aliases ++ end ∷ []) n (transport_of x.client))
 
 -- the answer from the aliases that it holds and, after them, the expired data that was found
-abbrev pub answered_past : ℕ → Waiting → List Held → Action
-answered_past n x found = sends Stale x (stale_answer_of x.asked (x.held ++ found) (length x.held) n
+abbrev pub answered_stale : ℕ → Waiting → List Held → Action
+answered_stale n x found = sends Stale x (stale_answer_of x.asked (x.held ++ found) (length x.held) n
     (transport_of x.client))
 
 -- the answer that aliases lead to a name that the configuration denies, or that it denies its own

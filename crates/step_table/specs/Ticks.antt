@@ -7,7 +7,7 @@ use Rattle.outstanding.specs.Lists.{of_question}
 use Rattle.outstanding.specs.Values.{Ask}
 use Rattle.retry_failover.specs.declared.Failure.TheVariants as failure
 use Rattle.step_values.specs.declared.action.Why.TheVariants.{Deadline}
-use Rattle.step_table.specs.State.{State, Turn}
+use Rattle.step_table.specs.State.{State, StepStart}
 use Rattle.waiting_questions.specs.Values.{Waiting, waits_for}
 use Rattle.step_table.specs.Steps.{Done, gets, waits, idle_step, settling_step, gives_up}
 use Rattle.step_table.specs.Failures.{row_of_failure}
@@ -41,7 +41,7 @@ abbrev pub expiry_step : ℕ → Waiting → List Waiting → Option Ask → Sta
 expiry_step n x others alone s = settling_step n alone (gets (gives_up Deadline x) ∷ map (λ y. waits y) others) None s
 
 -- a tick serves this item if it is due
-abbrev pub row_of_item : Turn → Item → Done
+abbrev pub row_of_item : StepStart → Item → Done
 row_of_item t nothing = idle_step t.moment t.state
 row_of_item t (question x others) =
     if nat_le (deadline_of t.config x) t.moment
@@ -51,5 +51,5 @@ row_of_item t (attempt a) =
     if nat_le (timeout_of t.config a) t.moment then row_of_failure t a failure.TimedOut else idle_step t.moment t.state
 
 -- a tick serves the item that is due first: the oldest question or the oldest ask
-abbrev pub row_of_tick : Turn → Done
+abbrev pub row_of_tick : StepStart → Done
 row_of_tick t = row_of_item t (first_item t.config t.state.waiting t.state.asks)

@@ -36,10 +36,10 @@ sent_alike x y chain other n client asked same =
     sends_alike Answered x y (answer_of x.asked chain n (transport_of x.client)) client asked ∙ (λ i. sends Answered y (answer_of (asked i) (same i) n (transport_of (client i))))
 
 -- so do they from stale entries, and after aliases to a denied name
-pub stale_alike : (x y : Waiting) (chain other : List Held) (past n : ℕ) → x.client ≡ y.client → x.asked ≡ y.asked → chain ≡ other
-    → sends Stale x (stale_answer_of x.asked chain past n (transport_of x.client)) ≡ sends Stale y (stale_answer_of y.asked other past n (transport_of y.client))
-stale_alike x y chain other past n client asked same =
-    sends_alike Stale x y (stale_answer_of x.asked chain past n (transport_of x.client)) client asked ∙ (λ i. sends Stale y (stale_answer_of (asked i) (same i) past n (transport_of (client i))))
+pub stale_alike : (x y : Waiting) (chain other : List Held) (stale_from n : ℕ) → x.client ≡ y.client → x.asked ≡ y.asked → chain ≡ other
+    → sends Stale x (stale_answer_of x.asked chain stale_from n (transport_of x.client)) ≡ sends Stale y (stale_answer_of y.asked other stale_from n (transport_of y.client))
+stale_alike x y chain other stale_from n client asked same =
+    sends_alike Stale x y (stale_answer_of x.asked chain stale_from n (transport_of x.client)) client asked ∙ (λ i. sends Stale y (stale_answer_of (asked i) (same i) stale_from n (transport_of (client i))))
 
 pub local_alike : (x y : Waiting) (chain other : List Held) (n : ℕ) → x.client ≡ y.client → x.asked ≡ y.asked → chain ≡ other
     → sends LocalDenied x (local_answer_of x.asked chain n (transport_of x.client)) ≡ sends LocalDenied y (local_answer_of y.asked other n (transport_of y.client))

@@ -9,8 +9,8 @@ use Rattle.record_cache.specs.Values.{Held}
 use Rattle.answer_builder.specs.declared.asked.Transport.{Transport}
 use Rattle.answer_builder.specs.declared.asked.Transport.TheVariants.{Udp, Tcp}
 use Rattle.answer_builder.specs.declared.fault.Fault.TheVariants.{TooLarge}
-use Rattle.answer_builder.specs.Values.{Told, Asked, Sections}
-use Rattle.answer_builder.specs.Answers.{rcode_of, told_at, last_of, sections_told, sections_of, answer_message, full_answer, cut_answer, bare}
+use Rattle.answer_builder.specs.Values.{PieceWithTtl, Asked, Sections}
+use Rattle.answer_builder.specs.Answers.{rcode_of, with_ttl, last_of, sections_with_ttls, sections_of, answer_message, full_answer, cut_answer, bare}
 use Rattle.answer_builder.specs.Transports.{sent_over, answer_of}
 use Rattle.step_texts.specs.Spelling.{ok_text, with_front}
 
@@ -67,7 +67,7 @@ small_code (rows each) = omega arith
 small_code (no_data soa) = omega arith
 small_code (denied soa) = omega arith
 
-small_rcode : (chain : List Told) → (sections_told chain).rcode < 16
+small_rcode : (chain : List PieceWithTtl) → (sections_with_ttls chain).rcode < 16
 small_rcode [] = omega arith
 small_rcode (x ∷ chain) = small_code (last_of x chain).piece.body
 
@@ -90,8 +90,8 @@ pub sent_alike : (a b : Asked) (chain : List Held) (moment : ℕ) (t : Transport
     → option_map (with_front a) (ok_text (answer_of b chain moment t)) ≡ ok_text (answer_of a chain moment t)
 sent_alike a b chain moment t small same =
     let s : Sections = sections_of moment chain in
-    let full = under_own_front a b false s small (small_rcode (map (told_at moment) chain)) same in
-    let cut = under_own_front a b true (bare s.rcode) small (small_rcode (map (told_at moment) chain)) same in
+    let full = under_own_front a b false s small (small_rcode (map (with_ttl moment) chain)) same in
+    let cut = under_own_front a b true (bare s.rcode) small (small_rcode (map (with_ttl moment) chain)) same in
     let enough = long_enough (full_answer b s) in
     let long = sym (as_long a (written (full_answer b s)) (omega (arith, enough))) ∙ ap (λ (text : List ℕ). length text) full in
     sent_fronted (with_front a) (written (full_answer a s)) (written (full_answer b s)) (written (cut_answer a s)) (written (cut_answer b s)) t full cut long

@@ -10,46 +10,46 @@ use Rattle.waiting_questions.specs.Values.{Waiting}
 use Rattle.step_table.specs.Steps.{sends}
 use Rattle.step_texts.specs.Spelling.{ok_text, sends_text}
 use Rattle.record_cache.specs.Values.{Held}
-use Rattle.answer_builder.specs.Values.{Told}
-use Rattle.answer_builder.specs.Answers.{told_at, told_past, told_stale}
+use Rattle.answer_builder.specs.Values.{PieceWithTtl}
+use Rattle.answer_builder.specs.Answers.{with_ttl, with_stale_ttl, with_stale_ttls}
 
 -- with none before the others all are answered as stale
-all_past : (t : ℕ) (xs : List Held) → told_stale zero t xs ≡ map (told_past t) xs
+all_past : (t : ℕ) (xs : List Held) → with_stale_ttls zero t xs ≡ map (with_stale_ttl t) xs
 all_past t xs = refl
 
-past_one : (t : ℕ) (xs : List Held) (i : ℕ) (h : Held) → i < length xs → h ≡ get_or xs i h → told_stale zero t (take (i + 1) xs) ≡ told_stale zero t (take i xs) ++ told_past t h ∷ []
+past_one : (t : ℕ) (xs : List Held) (i : ℕ) (h : Held) → i < length xs → h ≡ get_or xs i h → with_stale_ttls zero t (take (i + 1) xs) ≡ with_stale_ttls zero t (take i xs) ++ with_stale_ttl t h ∷ []
 past_one t xs i h lt is =
-    ap (map (told_past t)) (take_more xs i h lt) ∙ ap (λ (x : Held). map (told_past t) (take i xs ++ x ∷ [])) (sym is) ∙ map-append (told_past t) (take i xs) (h ∷ [])
+    ap (map (with_stale_ttl t)) (take_more xs i h lt) ∙ ap (λ (x : Held). map (with_stale_ttl t) (take i xs ++ x ∷ [])) (sym is) ∙ map-append (with_stale_ttl t) (take i xs) (h ∷ [])
 
 next_is : (i : ℕ) → suc i + 1 ≡ suc (i + 1)
 next_is i = omega arith
 
-nothing_told : (k t : ℕ) → told_stale k t [] ≡ []
-nothing_told zero t = refl
-nothing_told (suc k) t = refl
+no_pieces : (k t : ℕ) → with_stale_ttls k t [] ≡ []
+no_pieces zero t = refl
+no_pieces (suc k) t = refl
 
 -- one more of those that are answered with the lifetime that is left
-pub left_more : (past t : ℕ) (xs : List Held) (i : ℕ) (h : Held) → i < length xs → h ≡ get_or xs i h → i < past → told_stale past t (take (i + 1) xs) ≡ told_stale past t (take i xs) ++ told_at t h ∷ []
+pub left_more : (stale_from t : ℕ) (xs : List Held) (i : ℕ) (h : Held) → i < length xs → h ≡ get_or xs i h → i < stale_from → with_stale_ttls stale_from t (take (i + 1) xs) ≡ with_stale_ttls stale_from t (take i xs) ++ with_ttl t h ∷ []
 left_more zero t xs i h lt is below = absurd (omega (arith, below))
 left_more (suc k) t [] i h lt is below = absurd (omega (arith, lt))
-left_more (suc k) t (x ∷ xs) zero h lt is below = ap (λ (told : List Told). told_at t x ∷ told) (nothing_told k t) ∙ ap (λ (y : Held). told_at t y ∷ []) (sym is)
+left_more (suc k) t (x ∷ xs) zero h lt is below = ap (λ (pieces : List PieceWithTtl). with_ttl t x ∷ pieces) (no_pieces k t) ∙ ap (λ (y : Held). with_ttl t y ∷ []) (sym is)
 left_more (suc k) t (x ∷ xs) (suc i) h lt is below =
-    ap (λ (n : ℕ). told_stale (suc k) t (take n (x ∷ xs))) (next_is i)
-    ∙ ap (λ (told : List Told). told_at t x ∷ told) (left_more k t xs i h (omega (arith, lt)) is (omega (arith, below)))
+    ap (λ (n : ℕ). with_stale_ttls (suc k) t (take n (x ∷ xs))) (next_is i)
+    ∙ ap (λ (pieces : List PieceWithTtl). with_ttl t x ∷ pieces) (left_more k t xs i h (omega (arith, lt)) is (omega (arith, below)))
 
 -- and of those after them
-pub past_more : (past t : ℕ) (xs : List Held) (i : ℕ) (h : Held) → i < length xs → h ≡ get_or xs i h → past ≤ i → told_stale past t (take (i + 1) xs) ≡ told_stale past t (take i xs) ++ told_past t h ∷ []
+pub past_more : (stale_from t : ℕ) (xs : List Held) (i : ℕ) (h : Held) → i < length xs → h ≡ get_or xs i h → stale_from ≤ i → with_stale_ttls stale_from t (take (i + 1) xs) ≡ with_stale_ttls stale_from t (take i xs) ++ with_stale_ttl t h ∷ []
 past_more zero t xs i h lt is above = past_one t xs i h lt is
 past_more (suc k) t [] i h lt is above = absurd (omega (arith, lt))
 past_more (suc k) t (x ∷ xs) zero h lt is above = absurd (omega (arith, above))
 past_more (suc k) t (x ∷ xs) (suc i) h lt is above =
-    ap (λ (n : ℕ). told_stale (suc k) t (take n (x ∷ xs))) (next_is i)
-    ∙ ap (λ (told : List Told). told_at t x ∷ told) (past_more k t xs i h (omega (arith, lt)) is (omega (arith, above)))
+    ap (λ (n : ℕ). with_stale_ttls (suc k) t (take n (x ∷ xs))) (next_is i)
+    ∙ ap (λ (pieces : List PieceWithTtl). with_ttl t x ∷ pieces) (past_more k t xs i h (omega (arith, lt)) is (omega (arith, above)))
 
 -- where none is after them, all are answered with the lifetime that is left
-pub none_past : (t : ℕ) (chain : List Held) → told_stale (length chain) t chain ≡ map (told_at t) chain
+pub none_past : (t : ℕ) (chain : List Held) → with_stale_ttls (length chain) t chain ≡ map (with_ttl t) chain
 none_past t [] = refl
-none_past t (h ∷ chain) = ap (λ (told : List Told). told_at t h ∷ told) (none_past t chain)
+none_past t (h ∷ chain) = ap (λ (pieces : List PieceWithTtl). with_ttl t h ∷ pieces) (none_past t chain)
 
 -- ---- a borrowed chain
 

@@ -2,12 +2,12 @@
 #![tactic(auto)]
 
 mod answers;
-mod past_ends;
 mod queries;
 mod refusals;
+mod stale_answers;
 mod texts;
 
 pub use answers::{Answers, answer};
-pub use past_ends::{local_answer, stale_answer};
 pub use queries::ask;
 pub use refusals::{failure, refusal};
+pub use stale_answers::{local_answer, stale_answer};

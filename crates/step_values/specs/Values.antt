@@ -136,7 +136,7 @@ abbrev pub actions_of : {A : Type 0} → List (OwnedAction A) → List Action
 actions_of actions = map action_of actions
 
 -- a step's input: moment in ms, eight random words, event
-pub record Handed : Type 0 where
+pub record StepInput : Type 0 where
   pub now : ℕ
   pub words : List ℕ
   pub event : Event
@@ -149,5 +149,5 @@ pub record Outcome : Type 0 where
 
 -- a step's input and output
 pub record Step : Type 0 where
-  pub handed : Handed
+  pub input : StepInput
   pub outcome : Outcome

@@ -10,4 +10,4 @@ pub use action::{Action, Why};
 pub use actions::Actions;
 pub use event::{Client, Event};
 pub use outstanding::Path;
-pub use step::{Handed, Outcome, Step};
+pub use step::{Outcome, Step, StepInput};

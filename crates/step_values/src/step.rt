@@ -28,26 +28,26 @@ impl<A: Allocator> Model for Outcome<A> {
 
 /// The input of a step: a moment in milliseconds, random words, and an event.
 #[derive(Drop)]
-pub struct Handed<A: Allocator = Global> {
+pub struct StepInput<A: Allocator = Global> {
     pub now: u64,
     pub words: [u32; 8],
     pub event: Event<A>,
 }
 
-impl<A: Allocator> Model for Handed<A> {
-    ghost use Rattle.step_values.specs.Values.{Handed, event_of};
+impl<A: Allocator> Model for StepInput<A> {
+    ghost use Rattle.step_values.specs.Values.{StepInput, event_of};
 
-    ghost Value = { Handed };
+    ghost Value = { StepInput };
 
     ghost view = { λ h. record { now = h.now; words = h.words; event = event_of h.event } };
 }
 
-impl<A: Allocator + Copy> Handed<A> {
+impl<A: Allocator + Copy> StepInput<A> {
     /// Equal values.
-    pub fn copy(&self, alloc: A) -> Result<Handed<A>, AllocError>
-        ensures { IfOk result (λ handed. handed ≡ self.entry.now) }
+    pub fn copy(&self, alloc: A) -> Result<StepInput<A>, AllocError>
+        ensures { IfOk result (λ input. input ≡ self.entry.now) }
     {
-        Ok(Handed {
+        Ok(StepInput {
             now: self.now,
             words: self.words,
             event: self.event.copy(alloc)?,
@@ -58,7 +58,7 @@ impl<A: Allocator + Copy> Handed<A> {
 /// A step, with its outcome.
 #[derive(Drop)]
 pub struct Step<A: Allocator = Global> {
-    pub handed: Handed<A>,
+    pub input: StepInput<A>,
     pub outcome: Outcome<A>,
 }
 
@@ -67,5 +67,5 @@ impl<A: Allocator> Model for Step<A> {
 
     ghost Value = { Step };
 
-    ghost view = { λ s. record { handed = s.handed; outcome = s.outcome } };
+    ghost view = { λ s. record { input = s.input; outcome = s.outcome } };
 }

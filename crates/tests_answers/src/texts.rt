@@ -161,7 +161,7 @@ const FOUND_ALIAS: &str = "123481800001000200000000\
      0162076578616d706c650000010001c00c000500010000001e00040161c00ec027000100010000012c0004c6336409";
 
 #[test]
-fn an_answer_past_its_end_has_30_seconds(rt: HostRuntime) -> Result<(), Fail> {
+fn a_stale_answer_has_30_seconds(rt: HostRuntime) -> Result<(), Fail> {
     for (past, reply, expected) in [
         (0, ADDRESS, PAST),
         (1, ALIAS, HELD_ALIAS),

@@ -1,6 +1,6 @@
 //! A look-up computes few hashes, however many labels the name has, and the promotion after it none.
 
-use crate::samples::{CONFIG, Denial, found_past};
+use crate::samples::{CONFIG, Denial, found_stale};
 use dns_name::{Name, NameFault};
 use lru::DefaultHasher;
 use negative_cache::{CacheAt, Found, find, shown};
@@ -59,10 +59,10 @@ fn begun_by(
         config,
         moment: 2000,
     };
-    let is_missed_past = matches!(found_past(&at, name, 60), Found::Miss);
+    let is_missed_stale = matches!(found_stale(&at, name, 60), Found::Miss);
     let past = begun.replace(0);
     shown(cache, name, 1);
-    if is_missed && is_missed_past {
+    if is_missed && is_missed_stale {
         Some([alive, past, begun.get()])
     } else {
         None

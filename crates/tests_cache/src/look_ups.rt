@@ -70,10 +70,10 @@ fn right_look_ups(
 ) -> Result<(usize, usize), Fail> {
     fill(alloc, cache, pieces)?;
     let (mut alive, mut past) = (0usize, 0usize);
-    for (name, wanted, wanted_past) in &LOOK_UPS {
+    for (name, wanted, wanted_stale) in &LOOK_UPS {
         let (found, expired) = words(alloc, cache, config, name)?;
         alive = alive.saturating_add(usize::from(found == *wanted));
-        past = past.saturating_add(usize::from(expired == *wanted_past));
+        past = past.saturating_add(usize::from(expired == *wanted_stale));
     }
     Ok((alive, past))
 }

@@ -1,6 +1,6 @@
 //! Refused allocations.
 
-use crate::samples::{DENYING, Denial, found_past};
+use crate::samples::{DENYING, Denial, found_stale};
 use dns_name::{Name, NameFault};
 use lru::DefaultHasher;
 use negative_cache::{CacheAt, Found, find, shown};
@@ -190,7 +190,7 @@ fn are_found<'a>(
         moment: 2000,
     };
     let is_missed = matches!(find(&*cache, &*beside, 1, 1, 2000, &*config), Found::Miss)
-        && matches!(found_past(&at, &*under, 60), Found::Miss);
+        && matches!(found_stale(&at, &*under, 60), Found::Miss);
     shown(cache, &*under, 1);
     is_local && is_denied && is_missed && is_one_left(heap)
 }

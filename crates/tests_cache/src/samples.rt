@@ -153,7 +153,7 @@ pub(crate) fn pieces_of(alloc: Global, digits: &str) -> Result<PlainList<Piece, 
 }
 
 /// What is found of the address of a name, expired entries too, with a window in seconds.
-pub(crate) fn found_past<'a, H: BuildHasher + Drop, A: Allocator + Copy>(
+pub(crate) fn found_stale<'a, H: BuildHasher + Drop, A: Allocator + Copy>(
     at: &CacheAt<'a, H, A>,
     name: &Name<A>,
     window: u64,

@@ -391,8 +391,8 @@ const SAID: [(Fault, u8, &str); 5] = [
 
 /// Whether this is said of a fault.
 fn is_said(alloc: Global, fault: Fault, text: &str) -> Result<bool, AllocError> {
-    let told = format!(in alloc; "{fault}")?;
-    Ok(told.as_str() == text)
+    let report = format!(in alloc; "{fault}")?;
+    Ok(report.as_str() == text)
 }
 
 #[test]

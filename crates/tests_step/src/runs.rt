@@ -11,11 +11,11 @@ use refusing_allocator::Refusing;
 use std::alloc::{AllocError, Allocator, Global};
 use std::mem::forget;
 use std::test::Fail;
-use step_values::{Handed, Outcome, Step};
+use step_values::{Outcome, Step, StepInput};
 
 /// The question is asked at 1000.
-fn first<A: Allocator + Copy>(alloc: A) -> Result<Handed<A>, AllocError> {
-    Ok(Handed {
+fn first<A: Allocator + Copy>(alloc: A) -> Result<StepInput<A>, AllocError> {
+    Ok(StepInput {
         now: 1000,
         words: WORDS,
         event: sends(alloc, &QUESTION)?,
@@ -23,8 +23,8 @@ fn first<A: Allocator + Copy>(alloc: A) -> Result<Handed<A>, AllocError> {
 }
 
 /// The reply comes at 1020.
-fn second<A: Allocator + Copy>(alloc: A) -> Result<Handed<A>, AllocError> {
-    Ok(Handed {
+fn second<A: Allocator + Copy>(alloc: A) -> Result<StepInput<A>, AllocError> {
+    Ok(StepInput {
         now: 1020,
         words: WORDS,
         event: replies(alloc)?,
@@ -47,7 +47,7 @@ fn are_worked<A: Allocator + Copy>(steps: &[Step<A>], unkept: u32) -> bool {
 
 /// Whether the step has this moment, `unkept` pieces were not kept, and nothing more is due.
 fn is_plain<A: Allocator>(step: &Step<A>, now: u64, unkept: u32) -> bool {
-    step.handed.now == now && is_done(&step.outcome, unkept)
+    step.input.now == now && is_done(&step.outcome, unkept)
 }
 
 /// Whether `unkept` pieces were not kept, and nothing more is due.
@@ -139,10 +139,10 @@ fn fate_of_list(
     refused: Refused,
     granted: u64,
 ) -> Result<Fate, AllocError> {
-    let handed = [first(heap)?, second(heap)?];
+    let input = [first(heap)?, second(heap)?];
     let config = config(heap)?;
     refused.begin(heap, granted);
-    let steps = run_list(heap, &config, &handed);
+    let steps = run_list(heap, &config, &input);
     heap.allow(u64::MAX);
     match &steps {
         Ok(steps) => Ok(fate_of_steps(steps)),
@@ -157,9 +157,9 @@ fn made_with<'a>(
     refused: Refused,
     granted: u64,
 ) -> Result<bool, AllocError> {
-    let handed = second(heap)?;
+    let input = second(heap)?;
     refused.begin(heap, granted);
-    let outcome = recorded.step(handed);
+    let outcome = recorded.step(input);
     heap.allow(u64::MAX);
     Ok(outcome.is_ok())
 }

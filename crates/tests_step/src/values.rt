@@ -4,7 +4,7 @@ use plain_values::PlainList;
 use refusing_allocator::Refusing;
 use std::alloc::{AllocError, Allocator, Global};
 use std::test::Fail;
-use step_values::{Action, Actions, Client, Event, Handed, Path, Why};
+use step_values::{Action, Actions, Client, Event, Path, StepInput, Why};
 use suffix_routes::Peer;
 
 type Heap<'a> = &'a Refusing<Global>;
@@ -270,30 +270,30 @@ fn copies_of_actions_are_equal(rt: HostRuntime) -> Result<(), Fail> {
 }
 
 /// Whether this input of a step is copied whole, and a refused allocation of that is reported.
-fn is_handed_copied<'a>(
+fn is_input_copied<'a>(
     heap: Heap<'a>,
-    handed: &Handed<Heap<'a>>,
+    input: &StepInput<Heap<'a>>,
 ) -> Result<(bool, bool), AllocError> {
     heap.allow(0);
-    let is_refused = handed.copy(heap).is_err();
+    let is_refused = input.copy(heap).is_err();
     heap.allow(1);
-    let copy = handed.copy(heap)?;
+    let copy = input.copy(heap)?;
     let is_equal = copy.now == 1020 && copy.words == [7; 8];
     Ok((
         is_refused,
-        is_equal && is_equal_event(&handed.event, &copy.event),
+        is_equal && is_equal_event(&input.event, &copy.event),
     ))
 }
 
 /// The same of a delivery.
 fn is_delivery_copied(alloc: Global) -> Result<(bool, bool), AllocError> {
     let heap = Refusing::new(alloc);
-    let handed = Handed {
+    let input = StepInput {
         now: 1020,
         words: [7; 8],
         event: event(&heap, 2)?,
     };
-    is_handed_copied(&heap, &handed)
+    is_input_copied(&heap, &input)
 }
 
 #[test]

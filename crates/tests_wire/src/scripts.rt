@@ -4,7 +4,7 @@ use crate::puts::{Puts, are_given_up, puts_of, unsent};
 use crate::worked::{CLIENT, QUESTION, REPLY, SECOND, SERVER, forwarder, forwarder_to};
 use forwarder_core::Forwarder;
 use lru::DefaultHasher;
-use network_model::{Arrival, ScriptRound, ScriptWire, Served, Wire, serve};
+use network_model::{Arrival, ScriptTurn, ScriptWire, Served, Wire, serve};
 use plain_values::PlainList;
 use std::alloc::{AllocError, Allocator};
 use std::mem::forget;
@@ -93,13 +93,13 @@ fn words_in(turn: u8, comes: Comes) -> [u32; 8] {
 /// Adds the turns of a script.
 fn add_turns<A: Allocator + Copy>(
     alloc: A,
-    rounds: &mut Vec<ScriptRound<A>, A>,
+    script_turns: &mut Vec<ScriptTurn<A>, A>,
     turns: &[Turn],
 ) -> Result<(), AllocError> {
     let mut number = 0u8;
     for (moment, comes) in turns {
         number = number.saturating_add(1);
-        rounds.push(ScriptRound {
+        script_turns.push(ScriptTurn {
             arrival: arrival(alloc, *comes)?,
             moment: *moment,
             words: words_in(number, *comes),
@@ -109,13 +109,13 @@ fn add_turns<A: Allocator + Copy>(
 }
 
 /// The turns of a script.
-pub(crate) fn rounds_of<A: Allocator + Copy>(
+pub(crate) fn script_turns_of<A: Allocator + Copy>(
     alloc: A,
     turns: &[Turn],
-) -> Result<Vec<ScriptRound<A>, A>, AllocError> {
-    let mut rounds = Vec::new(alloc);
-    match add_turns(alloc, &mut rounds, turns) {
-        Ok(()) => Ok(rounds),
+) -> Result<Vec<ScriptTurn<A>, A>, AllocError> {
+    let mut script_turns = Vec::new(alloc);
+    match add_turns(alloc, &mut script_turns, turns) {
+        Ok(()) => Ok(script_turns),
         Err(error) => Err(error),
     }
 }
@@ -127,8 +127,8 @@ pub(crate) fn wire_of<A: Allocator + Copy>(
     refuse: &[u64],
 ) -> Result<ScriptWire<A>, AllocError> {
     let refuse = Vec::from_slice(alloc, refuse)?;
-    let rounds = rounds_of(alloc, turns)?;
-    Ok(ScriptWire::new(alloc, rounds, refuse))
+    let script_turns = script_turns_of(alloc, turns)?;
+    Ok(ScriptWire::new(alloc, script_turns, refuse))
 }
 
 /// A run of a new forwarder over a wire in memory.

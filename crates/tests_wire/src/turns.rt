@@ -2,7 +2,7 @@
 
 use crate::puts::{Puts, puts_of};
 use crate::scripts::{
-    Comes, FIRST, Ran, Run, Turn, counted, ran_anew, rounds_of, serve_anew, wire_of,
+    Comes, FIRST, Ran, Run, Turn, counted, ran_anew, script_turns_of, serve_anew, wire_of,
 };
 use network_model::ScriptWire;
 use refusing_allocator::Refusing;
@@ -69,9 +69,9 @@ fn seen<'a>(heap: Heap<'a>, wire: &ScriptWire<Heap<'a>>) -> (Puts, bool) {
 fn seen_of_new(alloc: Global) -> Result<(Puts, bool), AllocError> {
     let heap = Refusing::new(alloc);
     let refuse = Vec::from_slice(&heap, &[1u64])?;
-    let rounds = rounds_of(&heap, &FIRST)?;
+    let script_turns = script_turns_of(&heap, &FIRST)?;
     heap.allow(1);
-    let wire = ScriptWire::new(&heap, rounds, refuse);
+    let wire = ScriptWire::new(&heap, script_turns, refuse);
     let seen = seen(&heap, &wire);
     forget(wire);
     Ok(seen)

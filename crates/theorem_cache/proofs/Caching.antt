@@ -18,7 +18,7 @@ use Rattle.step_history.specs.Sound.{SameSections, SameAsEarlierFromCache}
 use Rattle.step_history.proofs.CallerLemmas.{moment_later}
 use Rattle.alias_chains.specs.LookingUp.{ends, LookUp, promoted_all}
 use Rattle.alias_chains.specs.Offering.{put_all, unkept_of}
-use Rattle.theorem_cache.specs.Kept.{CanBeTold, CanBeKept, IsKept, SpellsAnswer, looked, IsStillFound, AreStillFound}
+use Rattle.theorem_cache.specs.Kept.{CanBeWrittenAt, CanBeKept, IsKept, SpellsAnswer, looked, IsStillFound, AreStillFound}
 use Rattle.step_table.proofs.CallerLemmas.{All-weaker}
 use Rattle.theorem_cache.specs.Laws.{QuietStepsKeep, PromotionsKeep, OffersKeep, AnswersFromCacheAgree, PromotionsFindTheSame}
 use Rattle.theorem_cache.proofs.LookingUp.{AreAlike, look_ups_alike, same_look_ups, promotions_keep}
@@ -28,7 +28,7 @@ use Rattle.theorem_cache.proofs.Texts.{same_sections}
 
 -- ---- entries at a later moment
 
-pub told_later : (m n : ℕ) (h : Held) → m ≤ n → CanBeTold m h → CanBeTold n h
+pub told_later : (m n : ℕ) (h : Held) → m ≤ n → CanBeWrittenAt m h → CanBeWrittenAt n h
 told_later m n h le k = record { formed = k.formed; writable = k.writable; earlier = let was : h.accepted ≤ m = k.earlier in omega (arith, was, le) }
 
 kept_later : (c : Config) (os : List Held) (m n : ℕ) (es : List Held) → m ≤ n → AllByRecursion (IsKept c os m) es → AllByRecursion (IsKept c os n) es

@@ -5,7 +5,7 @@ pub use Rattle.theorem_cache.proofs.Carrying.{accepted_pieces_can_be_kept, accep
 pub use Rattle.theorem_cache.proofs.Texts.{answers_are_spelled, stale_answers_are_spelled, local_answers_are_spelled}
 pub use Rattle.theorem_cache.proofs.Caching.{told_later, quiet_steps_keep, promotions_keep_cached, offers_keep_cached, answers_from_cache_agree, promotions_find_the_same}
 pub use Rattle.theorem_cache.proofs.Hits.{look_ups_are_right, look_ups_that_go_on_are_right}
-pub use Rattle.theorem_cache.proofs.PastEnds.{look_ups_past_ends_are_right}
+pub use Rattle.theorem_cache.proofs.StaleLookUps.{stale_look_ups_are_right}
 pub use Rattle.theorem_cache.proofs.LookingUp.{all_among, same_look_ups, still_held}
 pub use Rattle.theorem_cache.proofs.Keeping.{all_from, among_filtered, among_first, entry_among, own_key, not_taken, IsShown, shown_leaves}
 pub use Rattle.theorem_cache.proofs.Offers.{offers_keep}

@@ -9,6 +9,6 @@ pub mod Keeping
 pub mod Texts
 pub mod Caching
 pub mod Hits
-pub mod PastEnds
+pub mod StaleLookUps
 mod Worked
 pub mod CallerLemmas

@@ -34,7 +34,7 @@ use Rattle.step_history.proofs.CallerLemmas.{alias_to}
 use Rattle.cache_laws.proofs.CallerLemmas.{one_slot}
 use Rattle.dns_message.specs.Questions.{asked_at}
 use Rattle.alias_chains.specs.LookingUp.{LookUp, look_up_behind, look_up_after, one_too_many, through, look_up, promoted_all}
-use Rattle.theorem_cache.specs.Kept.{CanBeTold}
+use Rattle.theorem_cache.specs.Kept.{CanBeWrittenAt}
 use Rattle.theorem_cache.specs.Chains.{IsRightEnd, EndsRight, IsSized}
 use Rattle.theorem_cache.proofs.Slots.{slot_turned}
 use Rattle.step_table.proofs.CallerLemmas.{All-append}
@@ -45,7 +45,7 @@ use Rattle.theorem_cache.proofs.Justifying.{follows_append}
 -- an entry: it can be written, is well formed, within its route, and may serve each name of that
 -- route while it lives
 pub record IsUsable (l : Look) (n : ℕ) (h : Held) : Type 0 where
-  pub told : CanBeTold n h
+  pub told : CanBeWrittenAt n h
   pub formed : IsPiece h.piece
   pub on_route : serving_route_of l.config h.piece.slot.key ≡ Some h.piece.route
   pub serves : (name : List (List ℕ)) → n < end_of h → serving_route_of l.config name ≡ Some h.piece.route → Justified l name h
@@ -57,7 +57,7 @@ all_among P h (e ∷ entries) all (inr later) = all_among P h entries all.1 late
 
 -- an alias that leads on from the question
 abbrev IsRightAlias : Look → ℕ → Question → Held → Type 0
-IsRightAlias l n q h = CanBeTold n h × (q.kind ≢ 5) × Justified l q.name h × IsOf h.piece q.name q.class (Some 5)
+IsRightAlias l n q h = CanBeWrittenAt n h × (q.kind ≢ 5) × Justified l q.name h × IsOf h.piece q.name q.class (Some 5)
 
 abbrev IsRightFind : Look → ℕ → Question → Found → Type 0
 IsRightFind l n q found.local = Unit {0}
@@ -88,7 +88,7 @@ module _ (l : Look) (n : ℕ) (entries : List Held) (usable : AllByRecursion (Is
   use_of h living = (all_among (IsUsable l n) h entries usable living.among, ltb-true n (end_of h) living.alive)
 
   -- one of its slot serves the question
-  typed_serves : (q : Question) (kind : ℕ) (h : Held) → IsTyped n entries q kind h → CanBeTold n h × Justified l q.name h × IsOf h.piece q.name q.class (Some kind)
+  typed_serves : (q : Question) (kind : ℕ) (h : Held) → IsTyped n entries q kind h → CanBeWrittenAt n h × Justified l q.name h × IsOf h.piece q.name q.class (Some kind)
   typed_serves q kind h typed =
       let asked : Slot = record { key = q.name; class = q.class; kind = Some kind } in
       let one = one_slot asked h.piece.slot typed.slot in
@@ -121,7 +121,7 @@ module _ (l : Look) (n : ℕ) (entries : List Held) (usable : AllByRecursion (Is
 
   -- how it leads, and the piece that it ends at
   pub record IsLed (q : Question) (v : LookUp) : Type 0 where
-    pub told : AllByRecursion (CanBeTold n) v.held
+    pub told : AllByRecursion (CanBeWrittenAt n) v.held
     pub follows : FollowsAliases l q v.held v.wanted
     pub right_end : EndsRight l n v.wanted v.met
 
@@ -129,7 +129,7 @@ module _ (l : Look) (n : ℕ) (entries : List Held) (usable : AllByRecursion (Is
       → FollowsAliases l from (held ++ h ∷ []) (asked_at q name)
   one_more from q held h name follows right leads = follows_append l from q (asked_at q name) held (h ∷ []) follows (right.1, right.2, right.3, name, alias_to h.piece name leads, refl)
 
-  followed_right : (from q : Question) (held : List Held) (onward : Held → List (List ℕ) → LookUp) → AllByRecursion (CanBeTold n) held → FollowsAliases l from held q
+  followed_right : (from q : Question) (held : List Held) (onward : Held → List (List ℕ) → LookUp) → AllByRecursion (CanBeWrittenAt n) held → FollowsAliases l from held q
       → ((h : Held) (name : List (List ℕ)) → IsRightAlias l n q h → target_of h.piece.body ≡ Some name → IsLed from (onward h name))
       → (f : Found) → IsRightFind l n q f → IsLed from (look_up_after held q onward f)
   followed_right from q held onward told follows go found.local right = record { told = told; follows = follows; right_end = tt }
@@ -143,14 +143,14 @@ module _ (l : Look) (n : ℕ) (entries : List Held) (usable : AllByRecursion (Is
   followed_right from q held onward told follows go (found.denied h) right = record { told = told; follows = follows; right_end = right }
   followed_right from q held onward told follows go miss right = record { told = told; follows = follows; right_end = tt }
 
-  pub look_up_right : (from : Question) (more : ℕ) (held : List Held) (q : Question) → AllByRecursion (CanBeTold n) held → FollowsAliases l from held q → IsLed from (look_up l.config.routes n entries more held q)
+  pub look_up_right : (from : Question) (more : ℕ) (held : List Held) (q : Question) → AllByRecursion (CanBeWrittenAt n) held → FollowsAliases l from held q → IsLed from (look_up l.config.routes n entries more held q)
   look_up_right from zero held q told follows =
       followed_right from q held (one_too_many held q) told follows
-      (λ h name right leads. record { told = All-append (CanBeTold n) held (h ∷ []) told (right.0, tt); follows = one_more from q held h name follows right leads; right_end = tt })
+      (λ h name right leads. record { told = All-append (CanBeWrittenAt n) held (h ∷ []) told (right.0, tt); follows = one_more from q held h name follows right leads; right_end = tt })
       (found_in l.config.routes n entries q) (find_right q)
   look_up_right from (suc more) held q told follows =
       followed_right from q held (λ h name. through h (look_up l.config.routes n entries more (held ++ h ∷ []) (asked_at q name))) told follows
-      (λ h name right leads. let rest = look_up_right from more (held ++ h ∷ []) (asked_at q name) (All-append (CanBeTold n) held (h ∷ []) told (right.0, tt)) (one_more from q held h name follows right leads) in record { told = rest.told; follows = rest.follows; right_end = rest.right_end })
+      (λ h name right leads. let rest = look_up_right from more (held ++ h ∷ []) (asked_at q name) (All-append (CanBeWrittenAt n) held (h ∷ []) told (right.0, tt)) (one_more from q held h name follows right leads) in record { told = rest.told; follows = rest.follows; right_end = rest.right_end })
       (found_in l.config.routes n entries q) (find_right q)
 
 -- ---- how many aliases it takes

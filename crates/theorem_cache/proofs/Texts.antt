@@ -15,25 +15,25 @@ use Rattle.trust_rank.specs.Formed.{FitsKind, IsPiece, IsSoa}
 use Rattle.trust_rank.specs.Writable.{IsWritableBody, IsWritable}
 use Rattle.record_cache.specs.Values.{Held}
 use Rattle.record_cache.specs.Ageing.{is_alive, seconds_left}
-use Rattle.answer_builder.specs.Values.{Told, Asked, Sections}
-use Rattle.answer_builder.specs.Answers.{record_of, records_in, aged, soa_records, rcode_of, told_at, told_past, told_stale, answers_of, authority_of, last_of, sections_told, sections_of, full_answer, cut_answer, answer_message, bare}
+use Rattle.answer_builder.specs.Values.{PieceWithTtl, Asked, Sections}
+use Rattle.answer_builder.specs.Answers.{record_of, records_in, aged, soa_records, rcode_of, with_ttl, with_stale_ttl, with_stale_ttls, answers_of, authority_of, last_of, sections_with_ttls, sections_of, full_answer, cut_answer, answer_message, bare}
 use Rattle.step_values.specs.declared.event.Client.{Client}
 use Rattle.step_values.specs.declared.event.Client.TheVariants.{Udp, Tcp}
 use Rattle.step_history.specs.Replies.{full_text, short_text, stale_sections, denied_sections, sized_for, FitsTransport}
 use Rattle.step_history.specs.Sound.{SameSections}
-use Rattle.theorem_cache.specs.Kept.{CanBeTold, CanBeRepeated, SpellsSections, SpellsAnswer}
+use Rattle.theorem_cache.specs.Kept.{CanBeWrittenAt, CanBeRepeated, SpellsSections, SpellsAnswer}
 use Rattle.theorem_cache.specs.Laws.{AnswersAreSpelled, StaleAnswersAreSpelled, LocalAnswersAreSpelled}
 use Rattle.theorem_cache.proofs.Short.{question_short}
 use Rattle.step_table.proofs.CallerLemmas.{All-append}
 
 -- the piece can be written with these seconds
-record CanTell (x : Told) : Type 0 where
+record CanTell (x : PieceWithTtl) : Type 0 where
   pub formed : IsPiece x.piece
   pub writable : IsWritable x.piece
   pub seconds : x.seconds < 4294967296
 
 -- the seconds that are left of a lifetime fit 32 bits
-left_can : (t : ℕ) (h : Held) → CanBeTold t h → CanTell (told_at t h)
+left_can : (t : ℕ) (h : Held) → CanBeWrittenAt t h → CanTell (with_ttl t h)
 left_can t h told =
     let short : h.piece.lifetime ≤ 604800 = told.formed.lifetime in
     let before : h.accepted ≤ t = told.earlier in
@@ -41,23 +41,23 @@ left_can t h told =
     record { formed = told.formed; writable = told.writable; seconds = omega (arith, most) }
 
 -- so do the 30 seconds of an expired set (RFC 8767 4)
-past_can : (t : ℕ) (h : Held) → CanBeTold t h → CanTell (told_past t h)
+past_can : (t : ℕ) (h : Held) → CanBeWrittenAt t h → CanTell (with_stale_ttl t h)
 past_can t h told = by (is_alive t h)
   where
     by : (b : Bool) → CanTell (record { piece = h.piece; seconds = if b then seconds_left t h else 30 })
     by true = left_can t h told
     by false = record { formed = told.formed; writable = told.writable; seconds = omega arith }
 
-all_left_can : (t : ℕ) (chain : List Held) → AllByRecursion (CanBeTold t) chain → AllByRecursion CanTell (map (told_at t) chain)
+all_left_can : (t : ℕ) (chain : List Held) → AllByRecursion (CanBeWrittenAt t) chain → AllByRecursion CanTell (map (with_ttl t) chain)
 all_left_can t [] all = tt
 all_left_can t (h ∷ chain) all = (left_can t h all.0, all_left_can t chain all.1)
 
-all_past_can : (t : ℕ) (chain : List Held) → AllByRecursion (CanBeTold t) chain → AllByRecursion CanTell (map (told_past t) chain)
-all_past_can t [] all = tt
-all_past_can t (h ∷ chain) all = (past_can t h all.0, all_past_can t chain all.1)
+all_stale_ttls_can : (t : ℕ) (chain : List Held) → AllByRecursion (CanBeWrittenAt t) chain → AllByRecursion CanTell (map (with_stale_ttl t) chain)
+all_stale_ttls_can t [] all = tt
+all_stale_ttls_can t (h ∷ chain) all = (past_can t h all.0, all_stale_ttls_can t chain all.1)
 
-all_stale_can : (k t : ℕ) (chain : List Held) → AllByRecursion (CanBeTold t) chain → AllByRecursion CanTell (told_stale k t chain)
-all_stale_can zero t chain all = all_past_can t chain all
+all_stale_can : (k t : ℕ) (chain : List Held) → AllByRecursion (CanBeWrittenAt t) chain → AllByRecursion CanTell (with_stale_ttls k t chain)
+all_stale_can zero t chain all = all_stale_ttls_can t chain all
 all_stale_can (suc k) t [] all = tt
 all_stale_can (suc k) t (h ∷ chain) all = (left_can t h all.0, all_stale_can k t chain all.1)
 
@@ -70,7 +70,7 @@ rows_tell : (kind : ℕ) (p : Piece) (ttl : ℕ) → ttl < 4294967296 → IsWrit
 rows_tell kind p ttl small can k [] all = tt
 rows_tell kind p ttl small can k (row ∷ each) all = ((record { owner = can.owner; kind = k; class = can.class; ttl = small }, all.0), rows_tell kind p ttl small can k each all.1)
 
-set_tells : (x : Told) → CanTell x → AllByRecursion Tells (answers_of x)
+set_tells : (x : PieceWithTtl) → CanTell x → AllByRecursion Tells (answers_of x)
 set_tells x can = by x.piece.slot.kind x.piece.body can.formed.body can.writable.kind
   where
     by : (k : Option ℕ) (b : Body) → FitsKind k b → IfSome k (λ kind. kind < 65536) → AllByRecursion Tells (records_in x.seconds x.piece k b)
@@ -79,7 +79,7 @@ set_tells x can = by x.piece.slot.kind x.piece.body can.formed.body can.writable
     by (Some kind) (denied soa) fits small = tt
     by None b fits small = tt
 
-soa_tells : (x : Told) → CanTell x → AllByRecursion Tells (authority_of x)
+soa_tells : (x : PieceWithTtl) → CanTell x → AllByRecursion Tells (authority_of x)
 soa_tells x can = by x.piece.slot.kind x.piece.body can.formed.body can.writable.body
   where
     one : (soa : Option Record) → IfSome soa IsSoa → IfSome soa IsRecord → AllByRecursion Tells (aged x.seconds soa)
@@ -93,11 +93,11 @@ soa_tells x can = by x.piece.slot.kind x.piece.body can.formed.body can.writable
     by None (denied soa) fits writable = one soa fits writable
     by (Some kind) (denied soa) fits writable = absurd fits
 
-all_tell : (chain : List Told) → AllByRecursion CanTell chain → AllByRecursion Tells (flat_map answers_of chain)
+all_tell : (chain : List PieceWithTtl) → AllByRecursion CanTell chain → AllByRecursion Tells (flat_map answers_of chain)
 all_tell [] all = tt
 all_tell (x ∷ chain) all = All-append Tells (answers_of x) (flat_map answers_of chain) (set_tells x all.0) (all_tell chain all.1)
 
-last_can : (x : Told) (chain : List Told) → CanTell x → AllByRecursion CanTell chain → CanTell (last_of x chain)
+last_can : (x : PieceWithTtl) (chain : List PieceWithTtl) → CanTell x → AllByRecursion CanTell chain → CanTell (last_of x chain)
 last_can x [] can all = can
 last_can x (other ∷ chain) can all = last_can other chain all.0 all.1
 
@@ -112,7 +112,7 @@ record CanBeWritten (s : Sections) : Type 0 where
   pub authority : AllByRecursion Tells s.authority
   pub rcode : s.rcode < 16
 
-told_can : (chain : List Told) → AllByRecursion CanTell chain → CanBeWritten (sections_told chain)
+told_can : (chain : List PieceWithTtl) → AllByRecursion CanTell chain → CanBeWritten (sections_with_ttls chain)
 told_can [] all = record { answers = tt; authority = tt; rcode = omega arith }
 told_can (x ∷ chain) all = record {
   answers = all_tell (x ∷ chain) all;
@@ -120,8 +120,8 @@ told_can (x ∷ chain) all = record {
   rcode = small_code (last_of x chain).piece.body;
 }
 
-sections_can : (t : ℕ) (chain : List Held) → AllByRecursion (CanBeTold t) chain → CanBeWritten (sections_of t chain)
-sections_can t chain all = told_can (map (told_at t) chain) (all_left_can t chain all)
+sections_can : (t : ℕ) (chain : List Held) → AllByRecursion (CanBeWrittenAt t) chain → CanBeWritten (sections_of t chain)
+sections_can t chain all = told_can (map (with_ttl t) chain) (all_left_can t chain all)
 
 records_of : (rs : List Record) → AllByRecursion Tells rs → AllByRecursion IsRecord rs
 records_of [] all = tt
@@ -164,11 +164,11 @@ answers_are_spelled a q t aliases end asks told client fits = sections_spelled a
 
 pub stale_answers_are_spelled : StaleAnswersAreSpelled
 stale_answers_are_spelled a q t held past end asks told client fits =
-    sections_spelled a q (stale_sections t held past end) asks (told_can (told_stale (length held) t (held ++ (past ++ end ∷ []))) (all_stale_can (length held) t (held ++ (past ++ end ∷ [])) told)) client fits
+    sections_spelled a q (stale_sections t held past end) asks (told_can (with_stale_ttls (length held) t (held ++ (past ++ end ∷ []))) (all_stale_can (length held) t (held ++ (past ++ end ∷ [])) told)) client fits
 
 pub local_answers_are_spelled : LocalAnswersAreSpelled
 local_answers_are_spelled a q t aliases asks told client fits =
-    sections_spelled a q (denied_sections t aliases) asks (record { answers = all_tell (map (told_at t) aliases) (all_left_can t aliases told); authority = tt; rcode = omega arith }) client fits
+    sections_spelled a q (denied_sections t aliases) asks (record { answers = all_tell (map (with_ttl t) aliases) (all_left_can t aliases told); authority = tt; rcode = omega arith }) client fits
 
 -- ---- sections after reading
 

@@ -97,7 +97,7 @@ failure_text = 18 ∷ 52 ∷ 129 ∷ 130 ∷ 0 ∷ 1 ∷ 0 ∷ 0 ∷ 0 ∷ 0 ∷
 -- at 2000 it is answered from cache
 abbrev hit : Step
 hit = record {
-  handed = record { now = 2000; words = []; event = from_client client request };
+  input = record { now = 2000; words = []; event = from_client client request };
   outcome = record { actions = send_reply client cut_text Answered ∷ []; unkept = 0; more = false };
 }
 
@@ -162,7 +162,7 @@ sized_otherwise = (
 
 abbrev of_event : Event → Step
 of_event e = record {
-  handed = record { now = 2000; words = []; event = e };
+  input = record { now = 2000; words = []; event = e };
   outcome = record { actions = []; unkept = 0; more = false };
 }
 

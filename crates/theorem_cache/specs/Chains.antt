@@ -10,10 +10,10 @@ use Rattle.step_history.specs.History.{is_restart, Look, Carries, NothingAccepte
 use Rattle.step_history.specs.Carried.{Justified}
 use Rattle.step_history.specs.Answers.{IsOf, FollowsAliases, EndsChain}
 use Rattle.dns_message.specs.Questions.{asked_at}
-use Rattle.step_history.specs.Stale.{JustifiedPastItsEnd, FollowsPastEnds}
+use Rattle.step_history.specs.Stale.{JustifiedStale, FollowsStale}
 use Rattle.alias_chains.specs.LookingUp.{LookUpEnd, ends, too_long, missed, LookUp}
 use Rattle.alias_chains.specs.Offering.{held_at}
-use Rattle.theorem_cache.specs.Kept.{CanBeTold}
+use Rattle.theorem_cache.specs.Kept.{CanBeWrittenAt}
 
 -- the `Look` of this step and history
 abbrev pub look_from : Config → Step → List Step → List Step → Look
@@ -27,7 +27,7 @@ GoesOn c s past = (is_restart s ≡ false) × (NothingAccepted c s past ⊎ ((ps
 
 -- the piece can be written at t, is justified, and ends the look-up of q
 abbrev pub IsRightEnd : Look → ℕ → Question → Held → Type 0
-IsRightEnd l t q h = CanBeTold t h × Justified l q.name h × EndsChain q h.piece h.piece.body
+IsRightEnd l t q h = CanBeWrittenAt t h × Justified l q.name h × EndsChain q h.piece h.piece.body
 
 -- the piece at the look-up's end, if any, `IsRightEnd`
 abbrev pub EndsRight : Look → ℕ → Question → LookUpEnd → Type 0
@@ -44,25 +44,25 @@ IsSized missed k = k ≤ 8
 -- the look-up's aliases can be written and lead from q to the wanted question; `EndsRight` and
 -- `IsSized` hold
 pub record IsRight (l : Look) (t : ℕ) (q : Question) (v : LookUp) : Type 0 where
-  pub told : AllByRecursion (CanBeTold t) v.held
+  pub told : AllByRecursion (CanBeWrittenAt t) v.held
   pub follows : FollowsAliases l q v.held v.wanted
   pub right_end : EndsRight l t v.wanted v.met
   pub sized : IsSized v.met (length v.held)
 
 -- ---- of a look-up of expired data
 
--- at most `most` aliases lead from q to a set; all can be written and are `JustifiedPastItsEnd`
+-- at most `most` aliases lead from q to a set; all can be written and are `JustifiedStale`
 -- (RFC 8767 5)
-pub record IsRightPast (l : Look) (t : ℕ) (q : Question) (most : ℕ) (chain : List Held) : Type 0 where
+pub record IsRightStale (l : Look) (t : ℕ) (q : Question) (most : ℕ) (chain : List Held) : Type 0 where
   pub aliases : List Held
   pub end : Held
   pub whole : chain ≡ aliases ++ end ∷ []
   pub last : Question
-  pub follows : FollowsPastEnds l q aliases last
-  pub justified : JustifiedPastItsEnd l last.name end
+  pub follows : FollowsStale l q aliases last
+  pub justified : JustifiedStale l last.name end
   pub slot : IsOf end.piece last.name last.class (Some last.kind)
   pub few : length aliases ≤ most
-  pub told : AllByRecursion (CanBeTold t) chain
+  pub told : AllByRecursion (CanBeWrittenAt t) chain
 
 -- ---- of an accepted reply
 

@@ -36,7 +36,7 @@ pub record IsKept (c : Config) (carried : List Held) (moment : ℕ) (h : Held) :
   pub writable : IsWritable h.piece
 
 -- the entry is well formed, writable, and came at t or before
-pub record CanBeTold (t : ℕ) (h : Held) : Type 0 where
+pub record CanBeWrittenAt (t : ℕ) (h : Held) : Type 0 where
   pub formed : IsPiece h.piece
   pub writable : IsWritable h.piece
   pub earlier : h.accepted ≤ t

@@ -20,11 +20,11 @@ use Rattle.step_history.specs.Replies.{answer_text, cut_text, full_text, short_t
 use Rattle.step_history.specs.Replies.{sized_for, FitsTransport}
 use Rattle.step_history.specs.Sound.{FromCache, SameAsEarlierFromCache}
 use Rattle.alias_chains.specs.LookingUp.{look_up, promoted_all}
-use Rattle.alias_chains.specs.PastEnds.{look_up_past}
+use Rattle.alias_chains.specs.StaleLookUps.{look_up_stale}
 use Rattle.alias_chains.specs.Offering.{put_all}
-use Rattle.theorem_cache.specs.Kept.{CanBeKept, CanBeTold, CanBeRepeated, SpellsSections, SpellsAnswer, looked}
+use Rattle.theorem_cache.specs.Kept.{CanBeKept, CanBeWrittenAt, CanBeRepeated, SpellsSections, SpellsAnswer, looked}
 use Rattle.theorem_cache.specs.Kept.{IsStillFound, IsCached}
-use Rattle.theorem_cache.specs.Chains.{look_from, GoesOn, IsRight, IsRightPast, LeadToEnd, LeadOn}
+use Rattle.theorem_cache.specs.Chains.{look_from, GoesOn, IsRight, IsRightStale, LeadToEnd, LeadOn}
 
 -- ---- entries
 
@@ -91,17 +91,17 @@ LookUpsAreRight = (c : Config) (past : List Step) (m n : ℕ) (cache : Cache) (s
 abbrev pub LookUpsThatGoOnAreRight : Type 0
 LookUpsThatGoOnAreRight = (c : Config) (asked s : Step) (before past : List Step) (m n : ℕ) (cache : Cache)
     (q wanted : Question) (held : List Held) (more : ℕ) → IsCached c past m cache → m ≡ moment_at past
-    → InEra (asked ∷ before) past → GoesOn c s past → n ≡ moment_at (s ∷ past) → AllByRecursion (CanBeTold n) held
+    → InEra (asked ∷ before) past → GoesOn c s past → n ≡ moment_at (s ∷ past) → AllByRecursion (CanBeWrittenAt n) held
     → FollowsAliases (look_from c asked before (s ∷ past)) q held wanted → more + length held ≡ most_aliases
     → IsRight (look_from c asked before (s ∷ past)) n q (look_up c.routes n cache.entries more held wanted)
 
--- In a step without an accepted reply a look-up among stale entries `IsRightPast` (RFC 8767 5).
-abbrev pub LookUpsPastEndsAreRight : Type 0
-LookUpsPastEndsAreRight = (c : Config) (asked s : Step) (before past : List Step) (m n : ℕ) (cache : Cache)
+-- In a step without an accepted reply a look-up among stale entries `IsRightStale` (RFC 8767 5).
+abbrev pub StaleLookUpsAreRight : Type 0
+StaleLookUpsAreRight = (c : Config) (asked s : Step) (before past : List Step) (m n : ℕ) (cache : Cache)
     (q : Question) (most : ℕ) (chain : List Held) → IsCached c past m cache → m ≡ moment_at past
     → (is_restart s ≡ false) × NothingAccepted c s past → n ≡ moment_at (s ∷ past)
-    → look_up_past c.limits.stale_s n cache.entries most q ≡ Some chain
-    → IsRightPast (look_from c asked before (s ∷ past)) n q most chain
+    → look_up_stale c.limits.stale_s n cache.entries most q ≡ Some chain
+    → IsRightStale (look_from c asked before (s ∷ past)) n q most chain
 
 -- ---- answers
 
@@ -109,14 +109,14 @@ LookUpsPastEndsAreRight = (c : Config) (asked s : Step) (before past : List Step
 -- truncated.
 abbrev pub AnswersAreSpelled : Type 0
 AnswersAreSpelled = (a : Asked) (q : Question) (t : ℕ) (aliases : List Held) (end : Held) → CanBeRepeated a q
-    → AllByRecursion (CanBeTold t) (aliases ++ end ∷ []) → (client : Client)
+    → AllByRecursion (CanBeWrittenAt t) (aliases ++ end ∷ []) → (client : Client)
     → FitsTransport client (sized_for client (answer_text a aliases end t) (cut_text a aliases end t))
     → SpellsAnswer (sized_for client (answer_text a aliases end t) (cut_text a aliases end t)) a (aliases ++ end ∷ []) t
 
 -- The octets of an answer with expired data are read so, too (RFC 8767 4).
 abbrev pub StaleAnswersAreSpelled : Type 0
 StaleAnswersAreSpelled = (a : Asked) (q : Question) (t : ℕ) (held past : List Held) (end : Held) → CanBeRepeated a q
-    → AllByRecursion (CanBeTold t) (held ++ (past ++ end ∷ [])) → (client : Client)
+    → AllByRecursion (CanBeWrittenAt t) (held ++ (past ++ end ∷ [])) → (client : Client)
     → FitsTransport client (sized_for client (full_text a (stale_sections t held past end))
     (short_text a (stale_sections t held past end)))
     → SpellsSections (sized_for client (full_text a (stale_sections t held past end))
@@ -125,7 +125,7 @@ StaleAnswersAreSpelled = (a : Asked) (q : Question) (t : ℕ) (held past : List 
 -- The octets of a denial by the configuration are read so, too.
 abbrev pub LocalAnswersAreSpelled : Type 0
 LocalAnswersAreSpelled = (a : Asked) (q : Question) (t : ℕ) (aliases : List Held) → CanBeRepeated a q
-    → AllByRecursion (CanBeTold t) aliases → (client : Client)
+    → AllByRecursion (CanBeWrittenAt t) aliases → (client : Client)
     → FitsTransport client (sized_for client (full_text a (denied_sections t aliases))
     (short_text a (denied_sections t aliases)))
     → SpellsSections (sized_for client (full_text a (denied_sections t aliases))

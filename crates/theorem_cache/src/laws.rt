@@ -3,7 +3,7 @@
 ghost use Rattle.theorem_cache.specs.Laws.{AcceptedPiecesAnswer, AcceptedPiecesCanBeKept, AcceptedPiecesLeadOn};
 ghost use Rattle.theorem_cache.specs.Laws.{AnswersAreSpelled, AnswersFromCacheAgree, LeadsStayLeads};
 ghost use Rattle.theorem_cache.specs.Laws.{LocalAnswersAreSpelled};
-ghost use Rattle.theorem_cache.specs.Laws.{LookUpsAreRight, LookUpsPastEndsAreRight, LookUpsThatGoOnAreRight};
+ghost use Rattle.theorem_cache.specs.Laws.{LookUpsAreRight, StaleLookUpsAreRight, LookUpsThatGoOnAreRight};
 ghost use Rattle.theorem_cache.specs.Laws.{OffersKeep};
 ghost use Rattle.theorem_cache.specs.Laws.{PromotionsFindTheSame, PromotionsKeep, QuietStepsKeep};
 ghost use Rattle.theorem_cache.specs.Laws.{StaleAnswersAreSpelled};
@@ -36,8 +36,8 @@ pub fn look_ups_are_right()
 /// Look-ups of expired data, once no try is left: aliases lead to a set. Aliases and set were
 /// carried in the era and not replaced, and may have expired, less than the configured window ago
 /// (RFC 8767 5).
-pub fn look_ups_past_ends_are_right()
-    ensures { LookUpsPastEndsAreRight }
+pub fn stale_look_ups_are_right()
+    ensures { StaleLookUpsAreRight }
 {}
 
 /// An answer from cache has the result code and sections of each earlier answer to an equal

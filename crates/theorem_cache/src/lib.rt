@@ -6,5 +6,5 @@ mod laws;
 
 pub use laws::{
     accepted_pieces_serve, answers_are_spelled, answers_from_cache_agree, look_ups_are_right,
-    look_ups_past_ends_are_right, what_is_kept_stays_explained, what_leads_still_leads,
+    stale_look_ups_are_right, what_is_kept_stays_explained, what_leads_still_leads,
 };

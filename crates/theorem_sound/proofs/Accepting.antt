@@ -26,7 +26,7 @@ use Rattle.alias_chains.specs.LookingUp.{ends, LookUp}
 use Rattle.step_table.specs.Replies.{last_of, before_last, ends_at, unless_many, looked_by}
 use Rattle.step_table.specs.Clients.{fate_of}
 use Rattle.alias_chains.specs.Offering.{held_at}
-use Rattle.theorem_cache.specs.Kept.{CanBeKept, CanBeTold}
+use Rattle.theorem_cache.specs.Kept.{CanBeKept, CanBeWrittenAt}
 use Rattle.theorem_cache.specs.Chains.{look_from, LeadToEnd}
 use Rattle.theorem_sound.specs.Explains.{Comes, Waits}
 use Rattle.theorem_cache.proofs.CallerLemmas.{told_later, follows_append, follows_first, leads_stay_leads, accepted_pieces_answer}
@@ -67,7 +67,7 @@ ends_at_last n held q (p ∷ ps) last =
 -- ---- each question that waited for it
 
 -- pieces that come now can be written
-pub pieces_told : (c : Config) (n : ℕ) (ps : List Piece) → AllByRecursion (CanBeKept c) ps → AllByRecursion (CanBeTold n) (map (held_at n) ps)
+pub pieces_told : (c : Config) (n : ℕ) (ps : List Piece) → AllByRecursion (CanBeKept c) ps → AllByRecursion (CanBeWrittenAt n) (map (held_at n) ps)
 pieces_told c n [] all = tt
 pieces_told c n (p ∷ ps) all = (record { formed = all.0.formed; writable = all.0.writable; earlier = omega arith }, pieces_told c n ps all.1)
 
@@ -112,7 +112,7 @@ module _ (c : Config) (past : List Step) (step : Step) (n : ℕ) (os : List Held
     abbrev end : Held
     end = held_at n led.last
 
-    own_told : AllByRecursion (CanBeTold n) more × AllByRecursion (CanBeTold n) (end ∷ [])
+    own_told : AllByRecursion (CanBeWrittenAt n) more × AllByRecursion (CanBeWrittenAt n) (end ∷ [])
     own_told =
         let pieces = (All-first (CanBeKept c) w.pieces w.authority kept).0 in
         let parts = All-first (CanBeKept c) led.aliases (led.last ∷ []) (subst (AllByRecursion (CanBeKept c)) led.whole pieces) in
@@ -130,13 +130,13 @@ module _ (c : Config) (past : List Step) (step : Step) (n : ℕ) (os : List Held
     chain : length (y.held ++ more) ≤ 8 → Chain look was.comes.question (y.held ++ more) end
     chain few = record { last = led.to; leads = record { few = few; follows = follows }; justified = led.justified; ends = led.right_end }
 
-    held_told : AllByRecursion (CanBeTold n) y.held
+    held_told : AllByRecursion (CanBeWrittenAt n) y.held
     held_told =
         let le : moment_at past ≤ moment_at (step ∷ past) = moment_later step past runs in
-        All-weaker (CanBeTold (moment_at past)) (CanBeTold n) (λ o t. told_later (moment_at past) n o (omega (arith, le, is_now)) t) y.held was.told
+        All-weaker (CanBeWrittenAt (moment_at past)) (CanBeWrittenAt n) (λ o t. told_later (moment_at past) n o (omega (arith, le, is_now)) t) y.held was.told
 
-    told : AllByRecursion (CanBeTold n) ((y.held ++ more) ++ end ∷ [])
-    told = All-append (CanBeTold n) (y.held ++ more) (end ∷ []) (All-append (CanBeTold n) y.held more held_told own_told.0) own_told.1
+    told : AllByRecursion (CanBeWrittenAt n) ((y.held ++ more) ++ end ∷ [])
+    told = All-append (CanBeWrittenAt n) (y.held ++ more) (end ∷ []) (All-append (CanBeWrittenAt n) y.held more held_told own_told.0) own_told.1
 
     abbrev IsFated : LookUp → Type 0
     IsFated l = Fated (OwnsReply c now) (Waits c now) (fate_of c n y l) i

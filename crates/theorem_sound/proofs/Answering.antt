@@ -23,17 +23,17 @@ use Rattle.suffix_routes.specs.Serving.{serving_route_of, is_local}
 use Rattle.cache_laws.proofs.CallerLemmas.{denies_names_exactly, none_serves_exactly}
 use Rattle.step_history.specs.History.{is_restart, is_taken_request, listed, moment_at, Look, Reads}
 use Rattle.step_history.specs.Answers.{FollowsAliases, Leads, Chain}
-use Rattle.step_history.specs.Stale.{ChainPastEnds}
+use Rattle.step_history.specs.Stale.{StaleChain}
 use Rattle.step_history.specs.Local.{ChainToLocal}
 use Rattle.step_history.specs.Replies.{answer_text, cut_text, full_text, short_text, stale_sections, denied_sections, sized_for, FitsTransport, failure_text}
 use Rattle.step_history.specs.Causes.{AllTriesFailed, Cause, TriesFailed, NoneAsks}
 use Rattle.step_history.specs.Sound.{unanswered, RightReply}
 use Rattle.waiting_questions.specs.Values.{Waiting}
-use Rattle.step_table.specs.Steps.{transport_of, gives_up, sends, answered, answered_past, denied_locally}
+use Rattle.step_table.specs.Steps.{transport_of, gives_up, sends, answered, answered_stale, denied_locally}
 use Rattle.alias_chains.specs.LookingUp.{LookUpEnd, ends, too_long, missed, LookUp}
 use Rattle.step_table.specs.Clients.{without_server, fate_missed, fate_at}
-use Rattle.theorem_cache.specs.Kept.{CanBeTold, CanBeRepeated, SpellsSections, SpellsAnswer}
-use Rattle.theorem_cache.specs.Chains.{look_from, EndsRight, IsSized, IsRightPast}
+use Rattle.theorem_cache.specs.Kept.{CanBeWrittenAt, CanBeRepeated, SpellsSections, SpellsAnswer}
+use Rattle.theorem_cache.specs.Chains.{look_from, EndsRight, IsSized, IsRightStale}
 use Rattle.theorem_sound.specs.Explains.{Comes, Waits}
 use Rattle.theorem_sound.proofs.AskText.{read_well}
 use Rattle.theorem_cache.proofs.CallerLemmas.{answers_are_spelled, stale_answers_are_spelled, local_answers_are_spelled}
@@ -121,7 +121,7 @@ some_told octets a s (inr cut) = (_, cut)
 
 -- a chain is answered, or is too large to be
 pub answer_owned : (c : Config) (n : ℕ) (now : List Step) (x : Waiting) (i : ℕ) (k : Comes now x.client x.asked i) → n ≡ moment_at now → (aliases : List Held) (end : Held)
-    → Chain (look_from c k.asked k.before now) k.question aliases end → AllByRecursion (CanBeTold n) (aliases ++ end ∷ []) → OwnsReply c now i (answered n x aliases end)
+    → Chain (look_from c k.asked k.before now) k.question aliases end → AllByRecursion (CanBeWrittenAt n) (aliases ++ end ∷ []) → OwnsReply c now i (answered n x aliases end)
 answer_owned c n now x i k is aliases end chain told = sized_owned c now x i k Answered (sections_of n (aliases ++ end ∷ [])) right large
   where
     full : List ℕ
@@ -165,10 +165,10 @@ answer_owned c n now x i k is aliases end chain told = sized_owned c now x i k A
 -- once all tries failed, the expired data that was found is sent, or is too large to be
 pub stale_owned : (c : Config) (n : ℕ) (now : List Step) (x : Waiting) (i : ℕ) (k : Comes now x.client x.asked i) → n ≡ moment_at now
     → Leads (look_from c k.asked k.before now) k.question x.held x.wanted → TriesFailed c x.wanted now c.limits.tries → NoneAsks x.wanted (listed now)
-    → 1 ≤ c.limits.stale_s → AllByRecursion (CanBeTold n) x.held
-    → (most : ℕ) (found : List Held) → most + length x.held ≡ 8 → IsRightPast (look_from c k.asked k.before now) n x.wanted most found → OwnsReply c now i (answered_past n x found)
+    → 1 ≤ c.limits.stale_s → AllByRecursion (CanBeWrittenAt n) x.held
+    → (most : ℕ) (found : List Held) → most + length x.held ≡ 8 → IsRightStale (look_from c k.asked k.before now) n x.wanted most found → OwnsReply c now i (answered_stale n x found)
 stale_owned c n now x i k is leads failed none window told most found room right_past =
-    subst (λ (chain : List Held). OwnsReply c now i (answered_past n x chain)) (sym right_past.whole) (sized_owned c now x i k Stale (stale_sections n x.held past end) right large)
+    subst (λ (chain : List Held). OwnsReply c now i (answered_stale n x chain)) (sym right_past.whole) (sized_owned c now x i k Stale (stale_sections n x.held past end) right large)
   where
     look : Look
     look = look_from c k.asked k.before now
@@ -182,7 +182,7 @@ stale_owned c n now x i k is leads failed none window told most found room right
     tries : AllTriesFailed look k.request
     tries = record { question = k.question; reads = k.reads; aliases = x.held; last = x.wanted; leads = leads; failed = failed; none_left = none }
 
-    chain : ChainPastEnds look x.held x.wanted past end
+    chain : StaleChain look x.held x.wanted past end
     chain = record {
       last = right_past.last;
       follows = right_past.follows;
@@ -191,8 +191,8 @@ stale_owned c n now x i k is leads failed none window told most found room right
       slot = right_past.slot;
     }
 
-    all_told : AllByRecursion (CanBeTold n) (x.held ++ (past ++ end ∷ []))
-    all_told = All-append (CanBeTold n) x.held (past ++ end ∷ []) told (subst (AllByRecursion (CanBeTold n)) right_past.whole right_past.told)
+    all_told : AllByRecursion (CanBeWrittenAt n) (x.held ++ (past ++ end ∷ []))
+    all_told = All-append (CanBeWrittenAt n) x.held (past ++ end ∷ []) told (subst (AllByRecursion (CanBeWrittenAt n)) right_past.whole right_past.told)
 
     full : List ℕ
     full = full_text x.asked (stale_sections n x.held past end)
@@ -215,7 +215,7 @@ stale_owned c n now x i k is leads failed none window told most found room right
           served = k.served;
           window = window;
           answers = record {
-            past = past;
+            found = past;
             end = end;
             chain = chain;
             text = subst (λ (z : Client). sized_for cl full cut ≡ sized_for z (full_text own (stale_sections (moment_at now) x.held past end)) (short_text own (stale_sections (moment_at now) x.held past end))) (sym same) (text_is cl);
@@ -229,7 +229,7 @@ stale_owned c n now x i k is leads failed none window told most found room right
     large conn many waiting = inr (inl (record {
       tries = tries;
       window = window;
-      past = past;
+      found = past;
       end = end;
       chain = chain;
       large = subst (λ (o : List ℕ). 65535 < length o) (λ j. full_text (k.asked_is j) (stale_sections (is j) x.held past end)) many;
@@ -237,7 +237,7 @@ stale_owned c n now x i k is leads failed none window told most found room right
 
 -- aliases that lead to a denied name are sent, or are too large to be
 local_owned : (c : Config) (n : ℕ) (now : List Step) (x : Waiting) (i : ℕ) (k : Comes now x.client x.asked i) → n ≡ moment_at now → (aliases : List Held)
-    → ChainToLocal (look_from c k.asked k.before now) k.question aliases → AllByRecursion (CanBeTold n) aliases → OwnsReply c now i (denied_locally n x aliases)
+    → ChainToLocal (look_from c k.asked k.before now) k.question aliases → AllByRecursion (CanBeWrittenAt n) aliases → OwnsReply c now i (denied_locally n x aliases)
 local_owned c n now x i k is aliases chain told = sized_owned c now x i k LocalDenied (denied_sections n aliases) right large
   where
     look : Look
@@ -284,7 +284,7 @@ local_owned c n now x i k is aliases chain told = sized_owned c now x i k LocalD
 
 -- a name that no route serves, after aliases or not, is denied by the configuration or has no route
 pub without_server_owned : (c : Config) (n : ℕ) (now : List Step) (x : Waiting) (i : ℕ) (k : Comes now x.client x.asked i) → n ≡ moment_at now → (aliases : List Held) (last : Question)
-    → Leads (look_from c k.asked k.before now) k.question aliases last → serving_route_of c last.name ≡ None → (aliases ≡ [] → now ≡ k.asked ∷ k.before) → AllByRecursion (CanBeTold n) aliases
+    → Leads (look_from c k.asked k.before now) k.question aliases last → serving_route_of c last.name ≡ None → (aliases ≡ [] → now ≡ k.asked ∷ k.before) → AllByRecursion (CanBeWrittenAt n) aliases
     → OwnsReply c now i (without_server c n x aliases last.name)
 without_server_owned c n now x i k is aliases last leads none at_once told =
     cond_both (is_local c last.name) (denied_locally n x aliases) (gives_up NoRoute x) (OwnsReply c now i)
@@ -321,7 +321,7 @@ pub record IsTold (n : ℕ) (client : Client) (a : Asked) (aliases : List Held) 
   pub spells : SpellsAnswer octets a (aliases ++ end ∷ []) n
 
 -- a successful reply has the octets of its chain
-pub answered_told : (n : ℕ) (now : List Step) (x : Waiting) (i : ℕ) (k : Comes now x.client x.asked i) (aliases : List Held) (end : Held) → AllByRecursion (CanBeTold n) (aliases ++ end ∷ [])
+pub answered_told : (n : ℕ) (now : List Step) (x : Waiting) (i : ℕ) (k : Comes now x.client x.asked i) (aliases : List Held) (end : Held) → AllByRecursion (CanBeWrittenAt n) (aliases ++ end ∷ [])
     → (client : Client) (octets : List ℕ) (why : Why) → answered n x aliases end ≡ send_reply client octets why → why ≡ Answered → IsTold n x.client x.asked aliases end octets
 answered_told n now x i k aliases end told client octets why is success = by x.client is
   where
@@ -351,11 +351,11 @@ answered_told n now x i k aliases end told client octets why is success = by x.c
 -- a question is answered rightly after its look-up, or goes on waiting with aliases that it may
 -- hold
 pub fate_is_right : (c : Config) (n : ℕ) (now : List Step) (x : Waiting) (i : ℕ) (l : LookUp) (m : LookUpEnd) (k : Comes now x.client x.asked i) → n ≡ moment_at now → x.taken ≡ moment_at (k.asked ∷ k.before)
-    → AllByRecursion (CanBeTold n) l.held → FollowsAliases (look_from c k.asked k.before now) k.question l.held l.wanted → EndsRight (look_from c k.asked k.before now) n l.wanted m → IsSized m (length l.held)
+    → AllByRecursion (CanBeWrittenAt n) l.held → FollowsAliases (look_from c k.asked k.before now) k.question l.held l.wanted → EndsRight (look_from c k.asked k.before now) n l.wanted m → IsSized m (length l.held)
     → (l.held ≡ [] → now ≡ k.asked ∷ k.before)
     → Fated (OwnsReply c now) (Waits c now) (fate_at c n x l m) i
 fate_is_right c n now x i l (ends e) k is taken told follows right size at_once =
-    answer_owned c n now x i k is l.held e (record { last = l.wanted; leads = record { few = size; follows = follows }; justified = right.1; ends = right.2 }) (All-append (CanBeTold n) l.held (e ∷ []) told (right.0, tt))
+    answer_owned c n now x i k is l.held e (record { last = l.wanted; leads = record { few = size; follows = follows }; justified = right.1; ends = right.2 }) (All-append (CanBeWrittenAt n) l.held (e ∷ []) told (right.0, tt))
 fate_is_right c n now x i l too_long k is taken told follows right size at_once =
     owns c now x.client x.asked i k ChainLong (failure_text x.asked ChainLong) (λ waiting. (failure_told now x.client x.asked i k ChainLong, record { question = k.question; reads = k.reads; aliases = l.held; last = l.wanted; many = size; follows = follows }))
 fate_is_right c n now x i l missed k is taken told follows right size at_once = by (serving_route_of c l.wanted.name) refl
@@ -364,5 +364,5 @@ fate_is_right c n now x i l missed k is taken told follows right size at_once = 
     leads = record { few = size; follows = follows }
 
     by : (r : Option ℕ) → serving_route_of c l.wanted.name ≡ r → Fated (OwnsReply c now) (Waits c now) (fate_missed c n x l r) i
-    by (Some route) on = record { comes = k; moment = taken; leads = leads; told = subst (λ (t : ℕ). AllByRecursion (CanBeTold t) l.held) is told }
+    by (Some route) on = record { comes = k; moment = taken; leads = leads; told = subst (λ (t : ℕ). AllByRecursion (CanBeWrittenAt t) l.held) is told }
     by None none = without_server_owned c n now x i k is l.held l.wanted leads none at_once told

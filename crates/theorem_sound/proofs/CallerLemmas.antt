@@ -2,7 +2,7 @@
 -- delivery, and questions that are sent on.
 pub use Rattle.theorem_sound.proofs.Theorem.{row_explained, start_explained}
 pub use Rattle.theorem_sound.proofs.Deliveries.{IsHeard, heard, heard_carried, carries, offered}
-pub use Rattle.theorem_sound.proofs.Runs.{row_stays, IsExplained-start, explained_is_sound, explained_more, run_more, stays_at, handed_more}
+pub use Rattle.theorem_sound.proofs.Runs.{row_stays, IsExplained-initial, explained_is_sound, explained_more, run_more, stays_at, input_more}
 pub use Rattle.theorem_sound.proofs.Names.{told_same_name}
 pub use Rattle.theorem_sound.proofs.Nexts.{gave_up, asked_next, asked_again}
 pub use Rattle.theorem_sound.proofs.SendingOn.{question_led, CanBeSent, IsSent, all_sent, IsNew, asked_is_new}

@@ -12,16 +12,16 @@ use Rattle.outstanding.specs.declared.ask.Path.TheVariants.{Udp, Tcp}
 use Rattle.outstanding.specs.Lists.{same_path, AreListed}
 use Rattle.outstanding.specs.Values.{Ask}
 use Rattle.step_values.specs.declared.action.Why.{Why}
-use Rattle.step_values.specs.Values.{Action, send_reply, Handed, Step}
+use Rattle.step_values.specs.Values.{Action, send_reply, StepInput, Step}
 use Rattle.record_cache.specs.Values.{Cache}
 use Rattle.step_history.specs.History.{is_restart, moment_at, asks_after, listed, tcp_asks_in, tcp_asks, closes_path, takes_question, NothingAccepted}
 use Rattle.step_history.specs.Sound.{among, unanswered, Owns, EachOwned, Replies, FromCache, SameAsEarlierFromCache}
 use Rattle.step_history.specs.Asked.{AreRightAsks}
 use Rattle.step_table.specs.State.{State}
 use Rattle.waiting_questions.specs.Values.{Waiting}
-use Rattle.step_table.specs.Steps.{Fate, gets, waits, replies, still_waiting, closing, without_ask, asks, asks_by, ask_list, tcp_count, start}
+use Rattle.step_table.specs.Steps.{Fate, gets, waits, replies, still_waiting, closing, without_ask, asks, asks_by, ask_list, tcp_count, initial}
 use Rattle.step_table.specs.Row.{is_due_at}
-use Rattle.theorem_cache.specs.Kept.{CanBeTold, IsCached}
+use Rattle.theorem_cache.specs.Kept.{CanBeWrittenAt, IsCached}
 use Rattle.theorem_sound.specs.Explains.{shown, Waits, Tried, Explains}
 use Rattle.step_table.specs.Progress.{IsBelow, ArePreferred}
 use Rattle.theorem_cache.specs.Chains.{GoesOn}
@@ -48,7 +48,7 @@ waits_later c s past x i on h = record {
   comes = comes_later s past x.client x.asked i on.0 h.comes;
   moment = h.moment;
   leads = leads_stay_leads c h.comes.asked s h.comes.before past h.comes.question x.held x.wanted on h.leads;
-  told = All-weaker (CanBeTold (moment_at past)) (CanBeTold (moment_at (s ∷ past))) (λ o t. told_later (moment_at past) (moment_at (s ∷ past)) o (moment_later s past on.0) t) x.held h.told;
+  told = All-weaker (CanBeWrittenAt (moment_at past)) (CanBeWrittenAt (moment_at (s ∷ past))) (λ o t. told_later (moment_at past) (moment_at (s ∷ past)) o (moment_later s past on.0) t) x.held h.told;
 }
 
 pub each_later : (c : Config) (s : Step) (past : List Step) (zs : List (Waiting × ℕ)) → GoesOn c s past → AllByRecursion (λ z. Waits c past z.0 z.1) zs → AllByRecursion (λ z. Waits c (s ∷ past) z.0 z.1) zs
@@ -62,8 +62,8 @@ few_left : (fates : List Fate) → length (still_waiting fates) ≤ length fates
 few_left [] = omega arith
 few_left (v ∷ fates) = few_one v (still_waiting fates) (length fates) (few_left fates)
 
-abbrev pub step_of : Handed → List Action → ℕ → Bool → Step
-step_of h actions unkept more = record { handed = h; outcome = record { actions = actions; unkept = unkept; more = more } }
+abbrev pub step_of : StepInput → List Action → ℕ → Bool → Step
+step_of h actions unkept more = record { input = h; outcome = record { actions = actions; unkept = unkept; more = more } }
 
 -- ---- the cases
 
@@ -116,7 +116,7 @@ explained c past w before after s is x p = record {
     asks_now : map shown after.asks ≡ listed (s ∷ past)
     asks_now = p.asks ∙ sym (cond-false (is_restart s) _ _ p.runs)
 
-module _ (c : Config) (past : List Step) (w : List (List ℕ)) (s : State) (x : Explains c past w s) (h : Handed) (unkept : ℕ) (more : Bool) (n : ℕ) where
+module _ (c : Config) (past : List Step) (w : List (List ℕ)) (s : State) (x : Explains c past w s) (h : StepInput) (unkept : ℕ) (more : Bool) (n : ℕ) where
   -- the moment of a step that is no restart
   abbrev pub IsNow : List Action → Type 0
   IsNow actions = (is_restart (step_of h actions unkept more) ≡ false) × (n ≡ moment_at (step_of h actions unkept more ∷ past))
@@ -340,13 +340,13 @@ module _ (c : Config) (past : List Step) (w : List (List ℕ)) (s : State) (x : 
       earlier_one (Some a) e = (omega (arith, e), tt)
 
   -- a restart
-  pub restart_explained : (after : State) → after ≡ start c → is_restart (step_of h [] unkept more) ≡ true → more ≡ is_due_at c after.moment after
+  pub restart_explained : (after : State) → after ≡ initial c → is_restart (step_of h [] unkept more) ≡ true → more ≡ is_due_at c after.moment after
       → Explains c (step_of h [] unkept more ∷ past) ([] ∷ w) after
   restart_explained after after_is restarts more_is = subst (λ (st : State). more ≡ is_due_at c st.moment st → Explains c (step ∷ past) ([] ∷ w) st) (sym after_is) (λ now_more. record {
     config = x.config;
     sound = (x.sound, refl, λ q octets f. absurd f.1);
     asked_well = asked_more c step past [] x.asked_well (sym (cond-true (is_restart step) _ _ restarts)) none_listed tt tt;
-    tells = (x.tells, now_more ∙ due_is c (step ∷ past) (concat w) (start c) [] (sym (cond-true (is_restart step) _ _ restarts)) (sym (cond-true (is_restart step) _ _ restarts)) refl (sym (cond-true (is_restart step) _ _ restarts)) tt);
+    tells = (x.tells, now_more ∙ due_is c (step ∷ past) (concat w) (initial c) [] (sym (cond-true (is_restart step) _ _ restarts)) (sym (cond-true (is_restart step) _ _ restarts)) refl (sym (cond-true (is_restart step) _ _ restarts)) tt);
     moment = sym (cond-true (is_restart step) _ _ restarts);
     tcp = sym (cond-true (is_restart step) _ _ restarts);
     asks = sym (cond-true (is_restart step) _ _ restarts);

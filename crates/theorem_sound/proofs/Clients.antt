@@ -18,7 +18,7 @@ use Rattle.outstanding.specs.Values.{Ask}
 use Rattle.step_values.specs.declared.event.Client.{Client}
 use Rattle.step_values.specs.declared.action.Why.{Why}
 use Rattle.step_values.specs.declared.action.Why.TheVariants.{Answered, BadFormat, BadOpcode, NotServed, QuestionsFull, InquiriesFull, NoPort, ChainLong}
-use Rattle.step_values.specs.Values.{from_client, Action, ask_udp, ask_tcp, close_udp, close_tcp, send_reply, Handed, Step}
+use Rattle.step_values.specs.Values.{from_client, Action, ask_udp, ask_tcp, close_udp, close_tcp, send_reply, StepInput, Step}
 use Rattle.plain_values.specs.Octets.{AreOctets}
 use Rattle.suffix_routes.specs.Serving.{serving_route_of}
 use Rattle.step_history.specs.History.{moment_at, listed, Reads, NothingAccepted}
@@ -29,7 +29,7 @@ use Rattle.step_history.specs.Replies.{failure_text}
 use Rattle.answer_builder.specs.Values.{asked_in}
 use Rattle.step_history.specs.Answers.{Chain, Leads}
 use Rattle.step_history.specs.Sound.{unanswered, RightReply, Replies, FromCache, SameAsEarlierFromCache}
-use Rattle.step_table.specs.State.{State, turn}
+use Rattle.step_table.specs.State.{State, start}
 use Rattle.waiting_questions.specs.Values.{Waiting}
 use Rattle.step_table.specs.Attempts.{peer_at, over_udp, preferred_on, first_ask, first_ask_on}
 use Rattle.step_table.specs.Steps.{Done, reply_step, gives_up, answered, asks, tcp_count}
@@ -37,7 +37,7 @@ use Rattle.alias_chains.specs.LookingUp.{LookUpEnd, ends, too_long, missed, Look
 use Rattle.step_table.specs.Row.{is_due_at}
 use Rattle.step_table.specs.Clients.{waits_with, taken_now, without_server, fate_missed, fate_at, row_of_opening, row_of_inquiry, row_of_waiting, row_of_fate, row_of_route, row_of_question, row_of_request}
 use Rattle.record_cache.specs.Values.{Held, Cache}
-use Rattle.theorem_cache.specs.Kept.{CanBeTold, looked, IsStillFound, IsCached}
+use Rattle.theorem_cache.specs.Kept.{CanBeWrittenAt, looked, IsStillFound, IsCached}
 use Rattle.theorem_cache.specs.Chains.{look_from, IsRightEnd, EndsRight, IsSized, IsRight}
 use Rattle.theorem_sound.specs.Explains.{shown, Comes, Waits, Explains}
 use Rattle.step_table.specs.Progress.{IsBelow}
@@ -59,11 +59,11 @@ module _ (c : Config) (past : List Step) (w : List (List ℕ)) (s : State) (x : 
   abbrev n : ℕ
   n = max (min now (2 ^ 62)) s.moment
 
-  abbrev handed : Handed
-  handed = record { now = now; words = words; event = from_client client request }
+  abbrev input : StepInput
+  input = record { now = now; words = words; event = from_client client request }
 
   abbrev step : List Action → Step
-  step actions = step_of handed actions unkept more
+  step actions = step_of input actions unkept more
 
   -- the actions, and whether more is due, are explained
   abbrev P : Done → Type 0
@@ -85,7 +85,7 @@ module _ (c : Config) (past : List Step) (w : List (List ℕ)) (s : State) (x : 
       → P (reply_step n (send_reply client text why) (record s { cache = cache }))
   refused cache was text why takes failure right more_is = (
     length past ∷ [],
-    at_once_explained c past w s x handed unkept more n client text why cache (record s { cache = cache; moment = n }) refl (refl, moment) takes (no_delivery (send_reply client text why ∷ []))
+    at_once_explained c past w s x input unkept more n client text why cache (record s { cache = cache; moment = n }) refl (refl, moment) takes (no_delivery (send_reply client text why ∷ []))
         (record { asked = step (send_reply client text why ∷ []); before = past; in_era = inl refl; number = refl; request = request; sent = refl; taken = takes; right = right })
         (λ q octets f. absurd (never octets f.1)) (cached (send_reply client text why ∷ []) cache was (λ q octets f. absurd (never octets f.1))) more_is,
   )
@@ -104,7 +104,7 @@ module _ (c : Config) (past : List Step) (w : List (List ℕ)) (s : State) (x : 
       by : (a : Action) → reply ≡ a → P (reply_step n a (record s { cache = cache }))
       by (send_reply cl octets why) is = λ more_is. (
         length past ∷ [],
-        at_once_explained c past w s x handed unkept more n cl octets why cache (record s { cache = cache; moment = n }) refl (refl, moment) takes (no_delivery (send_reply cl octets why ∷ []))
+        at_once_explained c past w s x input unkept more n cl octets why cache (record s { cache = cache; moment = n }) refl (refl, moment) takes (no_delivery (send_reply cl octets why ∷ []))
             (owned (send_reply cl octets why) is (concat w)) (λ q text f. absurd (never text f.1)) (cached (send_reply cl octets why ∷ []) cache was (λ q text f. absurd (never text f.1))) more_is,
       )
         where
@@ -180,11 +180,11 @@ module _ (c : Config) (past : List Step) (w : List (List ℕ)) (s : State) (x : 
         comes = comes actions;
         moment = moment;
         leads = record { few = subst (λ (m : LookUpEnd). IsSized m (length l.held)) met (right actions).sized; follows = (right actions).follows };
-        told = subst (λ (t : ℕ). AllByRecursion (CanBeTold t) l.held) moment (right actions).told;
+        told = subst (λ (t : ℕ). AllByRecursion (CanBeWrittenAt t) l.held) moment (right actions).told;
       }
 
       opened : length s.waiting + 1 ≤ c.limits.questions → length s.asks + 1 ≤ c.limits.inquiries → of_question l.wanted s.asks ≡ None
-          → (r : Option Ask) → first_ask (turn c n words s) l.wanted route ≡ r → P (row_of_opening n z (record s { cache = used }) r)
+          → (r : Option Ask) → first_ask (start c n words s) l.wanted route ≡ r → P (row_of_opening n z (record s { cache = used }) r)
       opened room room_asked new None none = refused used used_is _ NoPort takes (λ e. cc) (told NoPort, inl no_draw)
         where
           peer : (p : Peer) × (peer_at c route (preferred_on s route) ≡ Some p)
@@ -197,7 +197,7 @@ module _ (c : Config) (past : List Step) (w : List (List ℕ)) (s : State) (x : 
               ∙ udp-none (udp_draw words s.asks None) (ask_by-none n l.wanted route (preferred_on s route) 1 (peer_at c route (preferred_on s route)) peer.0 (over_udp (udp_draw words s.asks None)) peer.1 none)
       opened room room_asked new (Some a) is = λ more_is. (
         [],
-        taken_explained c past w s x handed unkept more n z (Some a) used after refl (refl, moment) takes (no_delivery (asks a ∷ [])) (waits_now (asks a ∷ [])) room facts.asked
+        taken_explained c past w s x input unkept more n z (Some a) used after refl (refl, moment) takes (no_delivery (asks a ∷ [])) (waits_now (asks a ∷ [])) room facts.asked
             (record { path = free; question = ap (λ (v : Question). of_question v s.asks) facts.question ∙ new; later = later; in_time = in_time }, omega (arith, room_asked))
             (next_tried c (step (asks a ∷ []) ∷ past) l.wanted a next, tt)
             below
@@ -264,21 +264,21 @@ module _ (c : Config) (past : List Step) (w : List (List ℕ)) (s : State) (x : 
           below = All-append (λ b. IsBelow (s.tcp_asks + tcp_count (Some a)) b.path) s.asks (a ∷ []) (all_below s.tcp_asks (tcp_count (Some a)) s.asks x.connections) (new_below a.path refl draw.1, tt)
 
       inquired : length s.waiting + 1 ≤ c.limits.questions → (r : Option Ask) → of_question l.wanted s.asks ≡ r
-          → P (row_of_inquiry (turn c n words (record s { cache = used })) z r)
+          → P (row_of_inquiry (start c n words (record s { cache = used })) z r)
       inquired room (Some a) there = λ more_is. (
         [],
-        taken_explained c past w s x handed unkept more n z None used (record s { cache = used; asks = s.asks ++ []; waiting = s.waiting ++ z ∷ []; moment = n; tcp_asks = s.tcp_asks + 0 }) refl (refl, moment) takes (no_delivery []) (waits_now []) room tt
+        taken_explained c past w s x input unkept more n z None used (record s { cache = used; asks = s.asks ++ []; waiting = s.waiting ++ z ∷ []; moment = n; tcp_asks = s.tcp_asks + 0 }) refl (refl, moment) takes (no_delivery []) (waits_now []) room tt
             tt tt (subst (λ (as' : List Ask). AllByRecursion (λ b. IsBelow (s.tcp_asks + 0) b.path) as') (sym (append-nil s.asks)) all_below_one) tt
             (cached [] used used_is (λ v octets f. absurd f.1)) more_is,
       )
       inquired room None new =
           cond_both (nat_le c.limits.inquiries (length s.asks)) _ _ P
           (λ t. refused used used_is _ InquiriesFull takes (λ e. cc) (told InquiriesFull, (refl, asks_number ∙ is_full c.limits.inquiries (length s.asks) t x.asks_are.few)))
-          (λ f. subst (λ (r : Option Ask). P (row_of_opening n z (record s { cache = used }) r)) (sym (ap (first_ask_on (turn c n words s) l.wanted) on))
-          (opened room (has_room c.limits.inquiries (length s.asks) f) new (first_ask (turn c n words s) l.wanted route) refl))
+          (λ f. subst (λ (r : Option Ask). P (row_of_opening n z (record s { cache = used }) r)) (sym (ap (first_ask_on (start c n words s) l.wanted) on))
+          (opened room (has_room c.limits.inquiries (length s.asks) f) new (first_ask (start c n words s) l.wanted route) refl))
 
       -- the cache has no answer
-      waited : P (row_of_waiting (turn c n words (record s { cache = used })) z)
+      waited : P (row_of_waiting (start c n words (record s { cache = used })) z)
       waited =
           cond_both (nat_le c.limits.questions (length s.waiting)) _ _ P
           (λ t. refused used used_is _ QuestionsFull takes (λ e. cc) (told QuestionsFull, (refl, sym waiting_number ∙ is_full c.limits.questions (length s.waiting) t x.few)))
@@ -297,17 +297,17 @@ module _ (c : Config) (past : List Step) (w : List (List ℕ)) (s : State) (x : 
         ends = (right_end actions).2;
       }
 
-      can_be_told : (actions : List Action) → AllByRecursion (CanBeTold n) (l.held ++ end ∷ [])
-      can_be_told actions = All-append (CanBeTold n) l.held (end ∷ []) (right actions).told ((right_end actions).0, tt)
+      can_be_written_at : (actions : List Action) → AllByRecursion (CanBeWrittenAt n) (l.held ++ end ∷ [])
+      can_be_written_at actions = All-append (CanBeWrittenAt n) l.held (end ∷ []) (right actions).told ((right_end actions).0, tt)
 
       owned : (a : Action) → answered n y l.held end ≡ a → OwnsReply c (step (a ∷ []) ∷ past) (length past) a
-      owned a is = subst (OwnsReply c (step (a ∷ []) ∷ past) (length past)) is (answer_owned c n (step (a ∷ []) ∷ past) y (length past) (comes (a ∷ [])) moment l.held end (chain (a ∷ [])) (can_be_told (a ∷ [])))
+      owned a is = subst (OwnsReply c (step (a ∷ []) ∷ past) (length past)) is (answer_owned c n (step (a ∷ []) ∷ past) y (length past) (comes (a ∷ [])) moment l.held end (chain (a ∷ [])) (can_be_written_at (a ∷ [])))
 
       -- it is found now
       found_now : (cl : Client) (octets : List ℕ) (why : Why) → answered n y l.held end ≡ send_reply cl octets why → (z : Question) (text : List ℕ) → FromCache (step (send_reply cl octets why ∷ [])) z text → IsStillFound c n s.cache.entries z text
       found_now cl octets why is z text (asks_z, inr never) = absurd never
       found_now cl octets why is z text (asks_z, inl answer) =
-          let told_so : IsTold n client y.asked l.held end octets = answered_told n (step [] ∷ past) y (length past) (comes []) l.held end (can_be_told []) cl octets why is answer.0 in
+          let told_so : IsTold n client y.asked l.held end octets = answered_told n (step [] ∷ past) y (length past) (comes []) l.held end (can_be_written_at []) cl octets why is answer.0 in
           let one : Some q ≡ Some z = sym reads ∙ asks_z in
           let question_is : q ≡ z = cc in
           subst (λ (v : Question). IsStillFound c n s.cache.entries v text) question_is (subst (IsStillFound c n s.cache.entries q) answer.1 (record {
@@ -326,7 +326,7 @@ module _ (c : Config) (past : List Step) (w : List (List ℕ)) (s : State) (x : 
       hit_by : (a : Action) → answered n y l.held end ≡ a → P (reply_step n a (record s { cache = used }))
       hit_by (send_reply cl octets why) is = λ more_is. (
         length past ∷ [],
-        at_once_explained c past w s x handed unkept more n cl octets why used (record s { cache = used; moment = n }) refl (refl, moment) takes (no_delivery (send_reply cl octets why ∷ []))
+        at_once_explained c past w s x input unkept more n cl octets why used (record s { cache = used; moment = n }) refl (refl, moment) takes (no_delivery (send_reply cl octets why ∷ []))
             (owned (send_reply cl octets why) is (concat w))
             (λ z text f. subst (λ (t : ℕ). SameAsEarlierFromCache c t z text past) moment (agreeing cl octets why is z text f))
             (cached (send_reply cl octets why ∷ []) used used_is (λ z text f. promotions_find_the_same c past s.moment n s.cache l.used z text x.cache (found_now cl octets why is z text f)))
@@ -342,13 +342,13 @@ module _ (c : Config) (past : List Step) (w : List (List ℕ)) (s : State) (x : 
 
     -- a name that no route serves is denied, or has no route
     unserved : (actions : List Action) (aliases : List Held) (last : Question) (a : Action) → Leads (look_from c (step actions) past (step actions ∷ past)) q aliases last → serving_route_of c last.name ≡ None
-        → AllByRecursion (CanBeTold n) aliases → without_server c n y aliases last.name ≡ a → OwnsReply c (step actions ∷ past) (length past) a
+        → AllByRecursion (CanBeWrittenAt n) aliases → without_server c n y aliases last.name ≡ a → OwnsReply c (step actions ∷ past) (length past) a
     unserved actions aliases last a leads none told_so is =
         subst (OwnsReply c (step actions ∷ past) (length past)) is
         (without_server_owned c n (step actions ∷ past) y (length past) (comes actions) moment aliases last leads none (λ e. refl) told_so)
 
     -- the question that its look-up missed is asked, where its name has a route
-    missed_row : l.met ≡ missed → (r : Option ℕ) → serving_route_of c l.wanted.name ≡ r → P (row_of_fate (turn c n words (record s { cache = used })) (fate_missed c n y l r))
+    missed_row : l.met ≡ missed → (r : Option ℕ) → serving_route_of c l.wanted.name ≡ r → P (row_of_fate (start c n words (record s { cache = used })) (fate_missed c n y l r))
     missed_row met None none = told_at_once used used_is takes (without_server c n y l.held l.wanted.name)
         (λ a is. unserved (a ∷ []) l.held l.wanted a (record { few = subst (λ (m : LookUpEnd). IsSized m (length l.held)) met (right (a ∷ [])).sized; follows = (right (a ∷ [])).follows }) none (right (a ∷ [])).told is)
         (without_server_fails c n y l.held l.wanted.name)
@@ -367,28 +367,28 @@ module _ (c : Config) (past : List Step) (w : List (List ℕ)) (s : State) (x : 
       },
     )
 
-    looked_up : (m : LookUpEnd) → l.met ≡ m → P (row_of_fate (turn c n words (record s { cache = used })) (fate_at c n y l m))
+    looked_up : (m : LookUpEnd) → l.met ≡ m → P (row_of_fate (start c n words (record s { cache = used })) (fate_at c n y l m))
     looked_up (ends end) met = hit end met
     looked_up too_long met = too_long_row met
     looked_up missed met = missed_row met (serving_route_of c l.wanted.name) refl
 
-    routed : (r : Option ℕ) → serving_route_of c q.name ≡ r → P (row_of_route (turn c n words s) y r)
+    routed : (r : Option ℕ) → serving_route_of c q.name ≡ r → P (row_of_route (start c n words s) y r)
     routed None none = told_at_once s.cache x.cache takes (without_server c n y [] q.name)
         (λ a is. unserved (a ∷ []) [] q a (record { few = omega arith; follows = refl }) none tt is)
         (without_server_fails c n y [] q.name)
     routed (Some route) on = looked_up l.met refl
 
-  asked : is_taken request ≡ true → (header_in request).opcode ≡ 0 → (r : Option Question) → one_question request ≡ r → P (row_of_question (turn c n words s) client (header_in request) r)
+  asked : is_taken request ≡ true → (header_in request).opcode ≡ 0 → (r : Option Question) → one_question request ≡ r → P (row_of_question (start c n words s) client (header_in request) r)
   asked takes opcode None none = refused s.cache x.cache _ BadFormat takes (λ e. cc) (refl, (refl, opcode, λ q reads. let e : None ≡ Some q = sym none ∙ reads in absurd (cc)))
   asked takes opcode (Some q) reads =
       cond_both (is_unserved q) _ _ P
       (λ t. refused s.cache x.cache _ NotServed takes (λ e. cc) ((q, reads, refl), record { at_once = refl; opcode = opcode; question = q; reads = reads; unserved = t }))
       (λ f. routed takes opcode q reads f (serving_route_of c q.name) refl)
 
-  pub client_explained : P (row_of_request (turn c n words s) client request)
+  pub client_explained : P (row_of_request (start c n words s) client request)
   client_explained =
       cond_both (is_taken request) _ _ P
       (λ t. cond_both ((header_in request).opcode == 0) _ _ P
       (λ z. asked t (eqb-true (header_in request).opcode 0 z) (one_question request) refl)
       (λ z. refused s.cache x.cache _ BadOpcode t (λ e. cc) (refl, (refl, eqb-false (header_in request).opcode 0 z))))
-      (λ f more_is. ([], idle_explained c past w s x handed unkept more n (record s { moment = n }) refl (refl, moment) f (no_delivery []) more_is))
+      (λ f more_is. ([], idle_explained c past w s x input unkept more n (record s { moment = n }) refl (refl, moment) f (no_delivery []) more_is))

@@ -38,7 +38,7 @@ use Rattle.step_history.specs.Asked.{IsDrawn}
 use Rattle.step_history.specs.Replies.{failure_text}
 use Rattle.step_history.proofs.CallerLemmas.{moment_small, accepted_fine, accepted_pieces, walk_accepted, walk_accepted-asked}
 use Rattle.cache_laws.proofs.CallerLemmas.{serves_exactly}
-use Rattle.step_table.specs.State.{State, turn}
+use Rattle.step_table.specs.State.{State, start}
 use Rattle.waiting_questions.specs.Values.{Waiting, waits_for}
 use Rattle.step_table.specs.Steps.{Done, Fate, gets, waits, still_waiting, with_preferred_server, with_promoted, ask_list, tcp_count, closing_step, offering_step}
 use Rattle.step_table.specs.Attempts.{servers_in, peer_at, over_udp, preferred_on, first_ask, first_ask_on}
@@ -217,7 +217,7 @@ module _ (c : Config) (past : List Step) (w : List (List ℕ)) (s : State) (x : 
         }
 
     failed : nat_lt n (timeout_of c a) ≡ true → matches a from octets ≡ true → (IsHeard → ⊥) → (f : Rattle.retry_failover.specs.declared.Failure.Failure)
-        → D (Rattle.step_table.specs.Failures.row_of_failure (turn c n words s) a f)
+        → D (Rattle.step_table.specs.Failures.row_of_failure (start c n words s) a f)
     failed live matched none f = failures.failure_row c past w s x now words unkept more (delivery path from octets) refl refl a on_own (quiet none)
         (λ actions. inl (octets, matches_it live matched actions)) f
 
@@ -341,7 +341,7 @@ module _ (c : Config) (past : List Step) (w : List (List ℕ)) (s : State) (x : 
         drawn_is fate' next speak = failures.udp_drawn c past w s x now words unkept more (delivery path from octets) refl refl a on_own (map fate' s.waiting) next speak ∙ sym (draws_left words a.path s.asks)
 
         -- without a port those that would wait on for it fail
-        no_port : first_ask (turn c n words listed_then) q new.route ≡ None → D (offering_step n rooms (walk.pieces ++ walk.authority) (closing_step n a (unless_no_port fate a.question) None (after used)))
+        no_port : first_ask (start c n words listed_then) q new.route ≡ None → D (offering_step n rooms (walk.pieces ++ walk.authority) (closing_step n a (unless_no_port fate a.question) None (after used)))
         no_port none = closed used (unless_no_port fate a.question) None each tt tt tt tt tt
           where
             peer : (p : Peer) × (peer_at c new.route place ≡ Some p)
@@ -363,7 +363,7 @@ module _ (c : Config) (past : List Step) (w : List (List ℕ)) (s : State) (x : 
                 (λ _. on_later (done (unless_no_port fate a.question) None) y i was)
 
         -- otherwise one ask goes out for all of them
-        asked_next : (next : Ask) → first_ask (turn c n words listed_then) q new.route ≡ Some next → D (offering_step n rooms (walk.pieces ++ walk.authority) (closing_step n a fate (Some next) (after used)))
+        asked_next : (next : Ask) → first_ask (start c n words listed_then) q new.route ≡ Some next → D (offering_step n rooms (walk.pieces ++ walk.authority) (closing_step n a fate (Some next) (after used)))
         asked_next next is = closed used fate (Some next) (fates (done fate (Some next))) facts.asked
             (record { path = free; question = ap (λ (z : Question). of_question z (without_path a.path s.asks)) facts.question ∙ new.new; later = later; in_time = in_time }, room)
             (next_tried c (told_by fate (Some next) ∷ past) q next first, tt)
@@ -417,7 +417,7 @@ module _ (c : Config) (past : List Step) (w : List (List ℕ)) (s : State) (x : 
             room : length (without_path a.path s.asks) < c.limits.inquiries
             room = let fewer = without_shorter a.path s.asks a on_own in let few = x.asks_are.few in omega (arith, fewer, few)
 
-        next_name : (r : Option Ask) → first_ask (turn c n words listed_then) q new.route ≡ r → D (offering_step n rooms (walk.pieces ++ walk.authority) (row_of_next_name n a fate (after used) r))
+        next_name : (r : Option Ask) → first_ask (start c n words listed_then) q new.route ≡ r → D (offering_step n rooms (walk.pieces ++ walk.authority) (row_of_next_name n a fate (after used) r))
         next_name None is = no_port is
         next_name (Some next) is = asked_next next is
 
@@ -430,26 +430,26 @@ module _ (c : Config) (past : List Step) (w : List (List ℕ)) (s : State) (x : 
           x.waits)
 
       sent : (used : List Slot) (name : List (List ℕ)) → walk.end ≡ elsewhere name → (r : Option Question) → to_be_asked (without_path a.path s.asks) (still_waiting (map fate (filter (waits_for a.question) s.waiting))) ≡ r
-          → D (offering_step n rooms (walk.pieces ++ walk.authority) (row_of_sent_on (turn c n words (after used)) a fate r))
+          → D (offering_step n rooms (walk.pieces ++ walk.authority) (row_of_sent_on (start c n words (after used)) a fate r))
       sent used name is None none = closed used fate None (fates (done fate None)) tt tt tt tt tt
       sent used name is (Some q) some =
-          subst (λ (r : Option Ask). D (offering_step n rooms (walk.pieces ++ walk.authority) (row_of_next_name n a fate (after used) r))) (sym (ap (first_ask_on (turn c n words (listed_then used q new)) q) new.on_route))
-          (next_name used q new (first_ask (turn c n words (listed_then used q new)) q new.route) refl)
+          subst (λ (r : Option Ask). D (offering_step n rooms (walk.pieces ++ walk.authority) (row_of_next_name n a fate (after used) r))) (sym (ap (first_ask_on (start c n words (listed_then used q new)) q) new.on_route))
+          (next_name used q new (first_ask (start c n words (listed_then used q new)) q new.route) refl)
         where
           new : IsNew c (without_path a.path s.asks) q
           new = asked_is_new c (without_path a.path s.asks) (still_waiting (map fate (filter (waits_for a.question) s.waiting))) q (all_can name is) some
 
-      end_row : (e : End) → walk.end ≡ e → is_lame e ≡ false → D (offering_step n rooms (walk.pieces ++ walk.authority) (row_of_end (turn c n words (with_preferred_server a s)) a walk fate e))
+      end_row : (e : End) → walk.end ≡ e → is_lame e ≡ false → D (offering_step n rooms (walk.pieces ++ walk.authority) (row_of_end (start c n words (with_preferred_server a s)) a walk fate e))
       end_row found is not_lame = closed [] fate None (fates (done fate None)) tt tt tt tt tt
       end_row ends_no_data is not_lame = closed [] fate None (fates (done fate None)) tt tt tt tt tt
       end_row ends_denied is not_lame = closed [] fate None (fates (done fate None)) tt tt tt tt tt
       end_row (elsewhere name) is not_lame = sent (used_by c n s.cache.entries a walk s.waiting) name is (to_be_asked (without_path a.path s.asks) (still_waiting (map fate (filter (waits_for a.question) s.waiting)))) refl
       end_row lame is not_lame = absurd (false≢true (sym not_lame))
 
-      accepted_row : D (row_of_acceptance (turn c n words s) rooms a walk)
+      accepted_row : D (row_of_acceptance (start c n words s) rooms a walk)
       accepted_row = end_row walk.end refl fine
 
-    walk_row : (m : Message) → nat_lt n (timeout_of c a) ≡ true → judge a from octets ≡ Whole → message_of octets ≡ Ok m → D (row_of_walk (turn c n words s) rooms a (walk_of c m a.question a.route))
+    walk_row : (m : Message) → nat_lt n (timeout_of c a) ≡ true → judge a from octets ≡ Whole → message_of octets ≡ Ok m → D (row_of_walk (start c n words s) rooms a (walk_of c m a.question a.route))
     walk_row m live whole read =
         cond_both (is_lame (walk_of c m a.question a.route).end) _ _ D
         (λ t. failed live (judged_parts from octets a whole).0 (λ h. no_end h (same_ask h) t) failure.Lame)
@@ -461,23 +461,23 @@ module _ (c : Config) (past : List Step) (w : List (List ℕ)) (s : State) (x : 
             let message_is : h.message ≡ m = cc in
             false≢true (sym h.fine ∙ (λ i. is_lame (walk_of c (message_is i) (same i).question (same i).route).end) ∙ t)
 
-    message_row : nat_lt n (timeout_of c a) ≡ true → judge a from octets ≡ Whole → (r : Result Message Fault) → message_of octets ≡ r → D (row_of_message (turn c n words s) rooms a r)
+    message_row : nat_lt n (timeout_of c a) ≡ true → judge a from octets ≡ Whole → (r : Result Message Fault) → message_of octets ≡ r → D (row_of_message (start c n words s) rooms a r)
     message_row live whole (Ok m) read = walk_row m live whole read
     message_row live whole (Err fault) read = failed live (judged_parts from octets a whole).0 (λ h. let e : Ok h.message ≡ Err fault = sym h.read ∙ read in absurd (cc)) failure.Malformed
 
-    verdict_row : nat_lt n (timeout_of c a) ≡ true → (v : Verdict) → judge a from octets ≡ v → D (row_of_verdict (turn c n words s) rooms a octets v)
+    verdict_row : nat_lt n (timeout_of c a) ≡ true → (v : Verdict) → judge a from octets ≡ v → D (row_of_verdict (start c n words s) rooms a octets v)
     verdict_row live Stranger is = nothing_more (λ h. let e : Stranger ≡ Whole = sym is ∙ ap (λ q. judge q from octets) (sym (same_ask h)) ∙ h.whole in absurd (cc))
     verdict_row live Truncated is = failed live (judged_match from octets a Truncated is tt) (λ h. let e : Truncated ≡ Whole = sym is ∙ ap (λ q. judge q from octets) (sym (same_ask h)) ∙ h.whole in absurd (cc)) failure.Truncated
     verdict_row live (Failed rcode) is = failed live (judged_match from octets a (Failed rcode) is tt) (λ h. let e : Failed rcode ≡ Whole = sym is ∙ ap (λ q. judge q from octets) (sym (same_ask h)) ∙ h.whole in absurd (cc)) failure.Rcode
     verdict_row live Malformed is = failed live (judged_match from octets a Malformed is tt) (λ h. let e : Malformed ≡ Whole = sym is ∙ ap (λ q. judge q from octets) (sym (same_ask h)) ∙ h.whole in absurd (cc)) failure.Malformed
     verdict_row live Whole is = message_row live is (message_of octets) refl
 
-  delivery_row : (r : Option Ask) → ask_on path s.asks ≡ r → D (row_of_delivery (turn c n words s) rooms from octets r)
+  delivery_row : (r : Option Ask) → ask_on path s.asks ≡ r → D (row_of_delivery (start c n words s) rooms from octets r)
   delivery_row None on = nothing_more (λ h. let e : Some h.ask ≡ None = sym h.on ∙ on in absurd (cc))
   delivery_row (Some a) on =
       cond_both (nat_lt n (timeout_of c a)) _ _ D
       (λ t. verdict_row a on t (judge a from octets) refl)
       (λ f. nothing_more (λ h. absurd (false≢true (sym f ∙ ap (λ q. nat_lt n (timeout_of c q)) (sym (same_ask a on h)) ∙ h.live))))
 
-  pub delivery_explained : D (row_of_delivery (turn c n words s) rooms from octets (ask_on path s.asks))
+  pub delivery_explained : D (row_of_delivery (start c n words s) rooms from octets (ask_on path s.asks))
   delivery_explained = delivery_row (ask_on path s.asks) refl

@@ -20,7 +20,7 @@ use Rattle.retry_failover.specs.declared.Next.TheVariants.{AskUdp, AskTcp, GiveU
 use Rattle.retry_failover.specs.Table.{next_server, after_failure}
 use Rattle.step_values.specs.declared.action.Why.{Why}
 use Rattle.step_values.specs.declared.action.Why.TheVariants.{NoPort, Exhausted, Stale}
-use Rattle.step_values.specs.Values.{Event, request_in, Action, Handed, Step}
+use Rattle.step_values.specs.Values.{Event, request_in, Action, StepInput, Step}
 use Rattle.record_cache.specs.Values.{Held, Cache}
 use Rattle.answer_builder.specs.declared.fault.Fault.{Fault}
 use Rattle.answer_builder.specs.Transports.{stale_answer_of}
@@ -30,16 +30,16 @@ use Rattle.step_history.specs.Causes.{ClosesAsk, NoneAsks, MayFail, FailsAsk, Tr
 use Rattle.step_history.specs.Asked.{IsDrawn}
 use Rattle.step_history.specs.Sound.{RightReply, FromCache, AsksIn}
 use Rattle.step_history.specs.Replies.{failure_text}
-use Rattle.step_table.specs.State.{State, turn}
+use Rattle.step_table.specs.State.{State, start}
 use Rattle.waiting_questions.specs.Values.{Waiting, waits_for}
 use Rattle.step_table.specs.Attempts.{peer_at, over_udp, over_tcp, freed_by, plan_of, next_ask}
-use Rattle.step_table.specs.Steps.{Done, Fate, gets, waits, gives_up, transport_of, sends, answered_past, fails, asks, ask_list, tcp_count, closing, replies, closing_step}
-use Rattle.alias_chains.specs.PastEnds.{look_up_past}
+use Rattle.step_table.specs.Steps.{Done, Fate, gets, waits, gives_up, transport_of, sends, answered_stale, fails, asks, ask_list, tcp_count, closing, replies, closing_step}
+use Rattle.alias_chains.specs.StaleLookUps.{look_up_stale}
 use Rattle.step_table.specs.Row.{is_due_at}
-use Rattle.step_table.specs.Failures.{told_past, found_past, runs_out, row_of_attempt, row_of_next, row_of_failure}
-use Rattle.theorem_cache.specs.Kept.{CanBeTold, IsCached}
+use Rattle.step_table.specs.Failures.{with_stale_ttl, found_stale, runs_out, row_of_attempt, row_of_next, row_of_failure}
+use Rattle.theorem_cache.specs.Kept.{CanBeWrittenAt, IsCached}
 use Rattle.theorem_cache.specs.Chains.{GoesOn, look_from}
-use Rattle.theorem_cache.proofs.CallerLemmas.{leads_stay_leads, look_ups_past_ends_are_right, told_later, quiet_steps_keep}
+use Rattle.theorem_cache.proofs.CallerLemmas.{leads_stay_leads, stale_look_ups_are_right, told_later, quiet_steps_keep}
 use Rattle.step_table.proofs.CallerLemmas.{All-weaker, All-append, All-filter, still_earlier, IsAskBy, ask_by-some, ask_by-none, udp-some, udp-none, tcp-some, tcp-none, peer_within, peer_there, ask_on-is, drawn_fresh, free_then, none_above, drawn_numbered, drawn_last, without_shorter, none_same}
 use Rattle.step_history.specs.Answers.{Leads}
 use Rattle.theorem_sound.proofs.Answering.{comes_later, owns, failure_told, stale_owned}
@@ -64,14 +64,14 @@ sends_speak : (why : Why) (x : Waiting) (r : Result (List ℕ) Fault) → Speaks
 sends_speak why x (Ok text) = tt
 sends_speak why x (Err fault) = tt
 
-past_speaks : (n : ℕ) (x : Waiting) (r : Option (List Held)) → Speaks (gets (told_past n x r))
+past_speaks : (n : ℕ) (x : Waiting) (r : Option (List Held)) → Speaks (gets (with_stale_ttl n x r))
 past_speaks n x None = tt
 past_speaks n x (Some found) = sends_speak Stale x (stale_answer_of x.asked (x.held ++ found) (length x.held) n (transport_of x.client))
 
 -- so is the last possible reply
 runs_out_speak : (c : Config) (n : ℕ) (entries : List Held) (q : Question) (xs : List Waiting) → AllByRecursion Speaks (map (runs_out c n entries q) xs)
 runs_out_speak c n entries q [] = tt
-runs_out_speak c n entries q (x ∷ xs) = (cond_both (waits_for q x) (gets (told_past n x (found_past c n entries x))) (waits x) Speaks (λ _. past_speaks n x (found_past c n entries x)) (λ _. tt), runs_out_speak c n entries q xs)
+runs_out_speak c n entries q (x ∷ xs) = (cond_both (waits_for q x) (gets (with_stale_ttl n x (found_stale c n entries x))) (waits x) Speaks (λ _. past_speaks n x (found_stale c n entries x)) (λ _. tt), runs_out_speak c n entries q xs)
 
 -- where expired data was found, there is a window
 found_so : (window : ℕ) (b : Bool) (r : Option (List Held)) (found : List Held) → (window == 0) ≡ b → cond b None r ≡ Some found → (1 ≤ window) × (r ≡ Some found)
@@ -87,11 +87,11 @@ module _ (c : Config) (past : List Step) (w : List (List ℕ)) (s : State) (x : 
   abbrev pub n : ℕ
   n = max (min now (2 ^ 62)) s.moment
 
-  abbrev pub handed : Handed
-  handed = record { now = now; words = words; event = e }
+  abbrev pub input : StepInput
+  input = record { now = now; words = words; event = e }
 
   abbrev pub step : List Action → Step
-  step actions = step_of handed actions unkept more
+  step actions = step_of input actions unkept more
 
   -- the actions, and whether more is due, are explained
   abbrev pub P : Done → Type 0
@@ -114,7 +114,7 @@ module _ (c : Config) (past : List Step) (w : List (List ℕ)) (s : State) (x : 
 
   -- nothing happens
   pub idle_row : NothingAccepted c (step []) past → P (record { actions = []; unkept = 0; state = record s { moment = n } })
-  idle_row quiet more_is = ([], idle_explained c past w s x handed unkept more n (record s { moment = n }) refl (runs, moment_now []) takes quiet more_is)
+  idle_row quiet more_is = ([], idle_explained c past w s x input unkept more n (record s { moment = n }) refl (runs, moment_now []) takes quiet more_is)
 
   fates_eq : (fate : Waiting → Fate) → fates_in (fated fate x.numbers_of) ≡ map fate s.waiting
   fates_eq fate = fated_fates fate x.numbers_of ∙ ap (map fate) x.waiting
@@ -174,7 +174,7 @@ module _ (c : Config) (past : List Step) (w : List (List ℕ)) (s : State) (x : 
         → IsCached c (step (actions_by (map fate s.waiting) next) ∷ past) n cache
         → P (record { actions = actions_by (map fate s.waiting) next; unkept = count; state = record (closing_step n a fate next (record s { preferred = preferred })).state { cache = cache } })
     closed_row fate next preferred cache count speak fates asked_at may tried below right are_preferred cached more_is =
-        settled_explained c past w s x handed unkept more n (Some a) (fated fate x.numbers_of) next preferred cache (actions_by (map fate s.waiting) next)
+        settled_explained c past w s x input unkept more n (Some a) (fated fate x.numbers_of) next preferred cache (actions_by (map fate s.waiting) next)
         (record (closing_step n a fate next (record s { preferred = preferred })).state { cache = cache })
         (ap (λ (vs : List Fate). actions_by vs next) (sym (fates_eq fate)))
         (λ i. record { cache = cache; asks = without_path a.path s.asks ++ ask_list next; waiting = Rattle.step_table.specs.Steps.still_waiting (sym (fates_eq fate) i); preferred = preferred; moment = n; tcp_asks = s.tcp_asks + tcp_count next })
@@ -248,20 +248,20 @@ module _ (c : Config) (past : List Step) (w : List (List ℕ)) (s : State) (x : 
         none = subst (NoneAsks y.wanted) left_listed (none_asks c past y.wanted (without_path a.path s.asks) (All-filter (Tried c past) (λ b. Rattle.std.specs.Prelude.not (same_path b.path a.path)) s.asks x.tried)
             (none_same y.wanted (without_path a.path s.asks) (question_free a.path y.wanted s.asks a x.asks_are.by_arrival on (same_question-sym y.wanted a.question t))))
 
-        held_told : AllByRecursion (CanBeTold n) y.held
-        held_told = All-weaker (CanBeTold (moment_at past)) (CanBeTold n) (λ o k. told_later (moment_at past) n o (let le = later_moment in let was_at : s.moment ≡ moment_at past = x.moment in omega (arith, le, was_at)) k) y.held was.told
+        held_told : AllByRecursion (CanBeWrittenAt n) y.held
+        held_told = All-weaker (CanBeWrittenAt (moment_at past)) (CanBeWrittenAt n) (λ o k. told_later (moment_at past) n o (let le = later_moment in let was_at : s.moment ≡ moment_at past = x.moment in omega (arith, le, was_at)) k) y.held was.told
 
-        found_owned : (found : List Held) → found_past c n s.cache.entries y ≡ Some found → OwnsReply c now_of i (answered_past n y found)
+        found_owned : (found : List Held) → found_stale c n s.cache.entries y ≡ Some found → OwnsReply c now_of i (answered_stale n y found)
         found_owned found is =
-            let so = found_so c.limits.stale_s (c.limits.stale_s == 0) (look_up_past c.limits.stale_s n s.cache.entries (8 - length y.held) y.wanted) found refl is in
+            let so = found_so c.limits.stale_s (c.limits.stale_s == 0) (look_up_stale c.limits.stale_s n s.cache.entries (8 - length y.held) y.wanted) found refl is in
             let few : length y.held ≤ 8 = leads.few in
             stale_owned c n now_of y i comes (moment_now (actions_by lasts None)) leads failed none so.0 held_told (8 - length y.held) found (omega (arith, few))
-            (look_ups_past_ends_are_right c was.comes.asked (step (actions_by lasts None)) was.comes.before past s.moment n s.cache y.wanted (8 - length y.held) found x.cache x.moment (runs, quiet (actions_by lasts None)) (moment_now (actions_by lasts None)) so.1)
+            (stale_look_ups_are_right c was.comes.asked (step (actions_by lasts None)) was.comes.before past s.moment n s.cache y.wanted (8 - length y.held) found x.cache x.moment (runs, quiet (actions_by lasts None)) (moment_now (actions_by lasts None)) so.1)
 
-        last_owned : OwnsReply c now_of i (told_past n y (found_past c n s.cache.entries y))
-        last_owned = by (found_past c n s.cache.entries y) refl
+        last_owned : OwnsReply c now_of i (with_stale_ttl n y (found_stale c n s.cache.entries y))
+        last_owned = by (found_stale c n s.cache.entries y) refl
           where
-            by : (r : Option (List Held)) → found_past c n s.cache.entries y ≡ r → OwnsReply c now_of i (told_past n y r)
+            by : (r : Option (List Held)) → found_stale c n s.cache.entries y ≡ r → OwnsReply c now_of i (with_stale_ttl n y r)
             by None is = owns c now_of y.client y.asked i comes Exhausted (failure_text y.asked Exhausted) (λ k. (
               failure_told past y.client y.asked i was.comes Exhausted,
               record { question = was.comes.question; reads = was.comes.reads; aliases = y.held; last = y.wanted; leads = leads; failed = failed; none_left = none },
@@ -270,7 +270,7 @@ module _ (c : Config) (past : List Step) (w : List (List ℕ)) (s : State) (x : 
 
       exhausted_row : (a.used == c.limits.tries) ≡ true → P (closing_step n a last_of None s)
       exhausted_row last = closed_row last_of None s.preferred s.cache 0 lasts_speak
-          (λ y i was. cond_both (waits_for a.question y) (gets (told_past n y (found_past c n s.cache.entries y))) (waits y) (λ v. Fated (OwnsReply c (step (actions_by lasts None) ∷ past)) (Waits c (step (actions_by lasts None) ∷ past)) v i)
+          (λ y i was. cond_both (waits_for a.question y) (gets (with_stale_ttl n y (found_stale c n s.cache.entries y))) (waits y) (λ v. Fated (OwnsReply c (step (actions_by lasts None) ∷ past)) (Waits c (step (actions_by lasts None) ∷ past)) v i)
           (λ t. last_owned last y i was t)
           (λ _. waits_later c (step (actions_by lasts None)) past y i (on_now (actions_by lasts None)) was))
           tt tt tt tt tt x.preferred (cached_now (actions_by lasts None))
@@ -324,7 +324,7 @@ module _ (c : Config) (past : List Step) (w : List (List ℕ)) (s : State) (x : 
             );
           }
 
-      udp_row : (server : ℕ) (p : Peer) → peer_at c a.route server ≡ Some p → (r : Option Ask) → next_ask (turn c n words s) a (AskUdp server) ≡ r → P (row_of_attempt n a s r)
+      udp_row : (server : ℕ) (p : Peer) → peer_at c a.route server ≡ Some p → (r : Option Ask) → next_ask (start c n words s) a (AskUdp server) ≡ r → P (row_of_attempt n a s r)
       udp_row server p there None none = no_path_row refl (inl (udp_drawn (map (fails NoPort a.question) s.waiting) None (fails_speak NoPort a.question s.waiting)
           ∙ udp-none (udp_draw words s.asks (freed_by a.path)) (ask_by-none n a.question a.route server (a.used + 1) (peer_at c a.route server) p (over_udp (udp_draw words s.asks (freed_by a.path))) there none)))
       udp_row server p there (Some next) is =
@@ -336,7 +336,7 @@ module _ (c : Config) (past : List Step) (w : List (List ℕ)) (s : State) (x : 
           (subst (IsBelow (s.tcp_asks + tcp_count (Some next))) (sym draw.1) tt)
           (subst (IsDrawn (step (actions_by (map (λ y. waits y) s.waiting) (Some next))) past next.id) (sym draw.1) (udp_drawn (map (λ y. waits y) s.waiting) (Some next) (waits_speak s.waiting) ∙ draw.2))
 
-      tcp_row : (server : ℕ) (p : Peer) → peer_at c a.route server ≡ Some p → (r : Option Ask) → next_ask (turn c n words s) a (AskTcp server) ≡ r → P (row_of_attempt n a s r)
+      tcp_row : (server : ℕ) (p : Peer) → peer_at c a.route server ≡ Some p → (r : Option Ask) → next_ask (start c n words s) a (AskTcp server) ≡ r → P (row_of_attempt n a s r)
       tcp_row server p there None none = no_path_row refl (inr (sym x.tcp
           ∙ drawn_last words s.tcp_asks (tcp-none (drawn_by_tcp words s.tcp_asks) (ask_by-none n a.question a.route server (a.used + 1) (peer_at c a.route server) p (over_tcp (drawn_by_tcp words s.tcp_asks)) there none))))
       tcp_row server p there (Some next) is =
@@ -357,10 +357,10 @@ module _ (c : Config) (past : List Step) (w : List (List ℕ)) (s : State) (x : 
           let within = peer_within c a.route a.server a.peer tried_a.server in
           peer_there c a.route server (omega (arith, is, within))
 
-      pub failure_row : (f : Failure) → P (row_of_failure (turn c n words s) a f)
+      pub failure_row : (f : Failure) → P (row_of_failure (start c n words s) a f)
       failure_row f = by (after_failure (plan_of c a) f) refl
         where
-          by : (v : Next) → after_failure (plan_of c a) f ≡ v → P (row_of_next (turn c n words s) a v)
-          by (AskUdp server) is = let there = next_there server (asked_next (a.used == c.limits.tries) (plan_of c a).tcp f (plan_of c a) server is) in udp_row server there.0 there.1 (next_ask (turn c n words s) a (AskUdp server)) refl
-          by (AskTcp server) is = let same : server ≡ a.server = asked_again (a.used == c.limits.tries) (plan_of c a).tcp f (plan_of c a) server is in tcp_row server a.peer (ap (peer_at c a.route) same ∙ tried_a.server) (next_ask (turn c n words s) a (AskTcp server)) refl
+          by : (v : Next) → after_failure (plan_of c a) f ≡ v → P (row_of_next (start c n words s) a v)
+          by (AskUdp server) is = let there = next_there server (asked_next (a.used == c.limits.tries) (plan_of c a).tcp f (plan_of c a) server is) in udp_row server there.0 there.1 (next_ask (start c n words s) a (AskUdp server)) refl
+          by (AskTcp server) is = let same : server ≡ a.server = asked_again (a.used == c.limits.tries) (plan_of c a).tcp f (plan_of c a) server is in tcp_row server a.peer (ap (peer_at c a.route) same ∙ tried_a.server) (next_ask (start c n words s) a (AskTcp server)) refl
           by GiveUp is = exhausted_row (gave_up (a.used == c.limits.tries) (plan_of c a).tcp f (plan_of c a) is)

@@ -33,7 +33,7 @@ unanswered-more (s ∷ past) os taken = elim (is_restart s) as (λ v. cond v [] 
   | true ↦ refl
   | false ↦ ap (λ xs. xs ++ more) (unanswered-more past os taken)
       ∙ ap (λ xs. filter f (unanswered past taken) ++ xs)
-      (subst (λ (v : Bool). cond (takes_question s.handed.event && not v) (n ∷ []) [] ≡ filter f one) (sym (among-append n os taken)) (one_kept f n (takes_question s.handed.event) (among n os) (among n taken) refl))
+      (subst (λ (v : Bool). cond (takes_question s.input.event && not v) (n ∷ []) [] ≡ filter f one) (sym (among-append n os taken)) (one_kept f n (takes_question s.input.event) (among n os) (among n taken) refl))
       ∙ sym (filter-append f (unanswered past taken) one)
 ]
   where
@@ -44,10 +44,10 @@ unanswered-more (s ∷ past) os taken = elim (is_restart s) as (λ v. cond v [] 
     f i = not (among i os)
 
     more : List ℕ
-    more = cond (takes_question s.handed.event && not (among (length past) (os ++ taken))) (length past ∷ []) []
+    more = cond (takes_question s.input.event && not (among (length past) (os ++ taken))) (length past ∷ []) []
 
     one : List ℕ
-    one = cond (takes_question s.handed.event && not (among (length past) taken)) (length past ∷ []) []
+    one = cond (takes_question s.input.event && not (among (length past) taken)) (length past ∷ []) []
 
 Distinct-push : (is : List ℕ) (n : ℕ) → Distinct is → AllByRecursion (λ i. i < n) is → Distinct (is ++ n ∷ [])
 Distinct-push [] n d below = (tt, tt)
@@ -80,16 +80,16 @@ free_one n taken is b t e h = cases b t e
 
 free : (past : List Step) (taken : List ℕ) → Free (length past) taken (unanswered past taken)
 free [] taken = (tt, tt, tt)
-free (s ∷ past) taken = elim (is_restart s) as (λ v. Free (suc (length past)) taken (cond v [] (unanswered past taken ++ cond (takes_question s.handed.event && not (among (length past) taken)) (length past ∷ []) []))) [
+free (s ∷ past) taken = elim (is_restart s) as (λ v. Free (suc (length past)) taken (cond v [] (unanswered past taken ++ cond (takes_question s.input.event && not (among (length past) taken)) (length past ∷ []) []))) [
   | true ↦ (tt, tt, tt)
-  | false ↦ free_one (length past) taken (unanswered past taken) (takes_question s.handed.event) (among (length past) taken) refl (free past taken)
+  | false ↦ free_one (length past) taken (unanswered past taken) (takes_question s.input.event) (among (length past) taken) refl (free past taken)
 ]
 
 pub are_free : (past : List Step) (taken : List ℕ) → AreFree past taken
 are_free past taken = let h = free past taken in record { below = h.0; not_taken = h.1; distinct = h.2 }
 
 -- no question
-pub numbers_left : (s : Step) (past : List Step) (taken : List ℕ) → is_restart s ≡ false → takes_question s.handed.event ≡ false
+pub numbers_left : (s : Step) (past : List Step) (taken : List ℕ) → is_restart s ≡ false → takes_question s.input.event ≡ false
     → unanswered (s ∷ past) taken ≡ unanswered past taken
 numbers_left s past taken run asks =
     cond-false (is_restart s) _ _ run
@@ -105,12 +105,12 @@ filter_all f [] h = refl
 filter_all f (x ∷ xs) h = cond-true (f x) _ _ h.0 ∙ ap (λ ys. x ∷ ys) (filter_all f xs h.1)
 
 -- a question that gets its reply at once
-pub numbers_at_once : (s : Step) (past : List Step) (taken : List ℕ) → is_restart s ≡ false → takes_question s.handed.event ≡ true
+pub numbers_at_once : (s : Step) (past : List Step) (taken : List ℕ) → is_restart s ≡ false → takes_question s.input.event ≡ true
     → unanswered (s ∷ past) (length past ∷ taken) ≡ unanswered past taken
 numbers_at_once s past taken run asks =
     cond-false (is_restart s) _ _ run
-    ∙ ap (λ (v : Bool). unanswered past (n ∷ taken) ++ cond (takes_question s.handed.event && not v) (n ∷ []) []) found
-    ∙ ap (λ (v : Bool). unanswered past (n ∷ taken) ++ cond v (n ∷ []) []) (and_no (takes_question s.handed.event))
+    ∙ ap (λ (v : Bool). unanswered past (n ∷ taken) ++ cond (takes_question s.input.event && not v) (n ∷ []) []) found
+    ∙ ap (λ (v : Bool). unanswered past (n ∷ taken) ++ cond v (n ∷ []) []) (and_no (takes_question s.input.event))
     ∙ append-nil (unanswered past (n ∷ taken))
     ∙ unanswered-more past (n ∷ []) taken
     ∙ filter_all (λ i. not (among i (n ∷ []))) (unanswered past taken) (All-weaker (λ i. i < n) (λ i. not (among i (n ∷ [])) ≡ true) (λ i l. ap (λ v. not (v || false)) (ne_eqb n i (λ e. omega (arith, l, e)))) (unanswered past taken) (are_free past taken).below)
@@ -126,7 +126,7 @@ numbers_at_once s past taken run asks =
     and_no false = refl
 
 -- a question that waits
-pub numbers_waiting : (s : Step) (past : List Step) (taken : List ℕ) → is_restart s ≡ false → takes_question s.handed.event ≡ true → AllByRecursion (λ i. i < length past) taken
+pub numbers_waiting : (s : Step) (past : List Step) (taken : List ℕ) → is_restart s ≡ false → takes_question s.input.event ≡ true → AllByRecursion (λ i. i < length past) taken
     → unanswered (s ∷ past) taken ≡ unanswered past taken ++ length past ∷ []
 numbers_waiting s past taken run asks below =
     cond-false (is_restart s) _ _ run

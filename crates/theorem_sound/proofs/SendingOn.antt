@@ -28,7 +28,7 @@ use Rattle.alias_chains.specs.LookingUp.{LookUpEnd, ends, too_long, missed, Look
 use Rattle.step_table.specs.Replies.{goes_on, looked_by, unless_open, to_be_asked, without_port, unless_no_port}
 use Rattle.step_table.specs.Clients.{fate_missed, fate_at, fate_of}
 use Rattle.alias_chains.specs.Offering.{held_at}
-use Rattle.theorem_cache.specs.Kept.{CanBeKept, CanBeTold, IsCached}
+use Rattle.theorem_cache.specs.Kept.{CanBeKept, CanBeWrittenAt, IsCached}
 use Rattle.theorem_cache.specs.Chains.{look_from, GoesOn, IsRight, LeadOn}
 use Rattle.theorem_cache.proofs.CallerLemmas.{told_later, follows_append, leads_stay_leads, accepted_pieces_lead_on, look_ups_that_go_on_are_right, still_held}
 use Rattle.step_table.proofs.CallerLemmas.{All-append, All-weaker, All-first}
@@ -151,13 +151,13 @@ module _ (c : Config) (past : List Step) (step : Step) (t n : ℕ) (cache : Cach
     follows : FollowsAliases look was.comes.question held wanted
     follows = follows_append look was.comes.question y.wanted wanted y.held more held_leads.follows lead.follows
 
-    held_told : AllByRecursion (CanBeTold n) y.held
+    held_told : AllByRecursion (CanBeWrittenAt n) y.held
     held_told =
         let le : moment_at past ≤ moment_at (step ∷ past) = moment_later step past runs in
-        All-weaker (CanBeTold (moment_at past)) (CanBeTold n) (λ o k. told_later (moment_at past) n o (omega (arith, le, is_now)) k) y.held was.told
+        All-weaker (CanBeWrittenAt (moment_at past)) (CanBeWrittenAt n) (λ o k. told_later (moment_at past) n o (omega (arith, le, is_now)) k) y.held was.told
 
-    told : AllByRecursion (CanBeTold n) held
-    told = All-append (CanBeTold n) y.held more held_told (pieces_told c n w.pieces (All-first (CanBeKept c) w.pieces w.authority kept).0)
+    told : AllByRecursion (CanBeWrittenAt n) held
+    told = All-append (CanBeWrittenAt n) y.held more held_told (pieces_told c n w.pieces (All-first (CanBeKept c) w.pieces w.authority kept).0)
 
     some : 1 ≤ length held
     some = let longer = length-append y.held more in let long = length-map w.pieces (held_at n) in let one = lead.some in omega (arith, longer, long, one)

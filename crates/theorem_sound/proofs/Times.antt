@@ -14,7 +14,7 @@ use Rattle.step_values.specs.declared.action.Why.TheVariants.{Deadline}
 use Rattle.step_values.specs.Values.{path_failed, tick, Action, Step}
 use Rattle.step_history.specs.History.{moment_at, NothingAccepted}
 use Rattle.step_history.specs.Replies.{failure_text}
-use Rattle.step_table.specs.State.{State, turn}
+use Rattle.step_table.specs.State.{State, start}
 use Rattle.waiting_questions.specs.Values.{Waiting, waits_for}
 use Rattle.step_table.specs.Steps.{Done, Fate, gets, waits, gives_up, asks, closing, replies, without_ask}
 use Rattle.step_table.specs.Ticks.{question, attempt, expiry_step, deadline_of, Item, first_item, left_alone, row_of_item, row_of_tick}
@@ -54,12 +54,12 @@ module _ (c : Config) (past : List Step) (w : List (List ℕ)) (s : State) (x : 
     quiet : (actions : List Action) → NothingAccepted c (step_of (record { now = now; words = words; event = path_failed path }) actions unkept more) past
     quiet actions ps k = absurd (let never = k.accepts.matches.delivered in cc)
 
-    by : (r : Option Ask) → ask_on path s.asks ≡ r → P (row_of_failed_path (turn c n words s) r)
+    by : (r : Option Ask) → ask_on path s.asks ≡ r → P (row_of_failed_path (start c n words s) r)
     by None on = failures.idle_row c past w s x now words unkept more (path_failed path) refl refl (quiet [])
     by (Some a) on = failures.failure_row c past w s x now words unkept more (path_failed path) refl refl a (ap (λ (p : Path). ask_on p s.asks) (path_of path s.asks a on) ∙ on) quiet
         (λ actions. inr (inl (ap path_failed (sym (path_of path s.asks a on))))) failure.Broken
 
-    pub path_explained : P (row_of_failed_path (turn c n words s) (ask_on path s.asks))
+    pub path_explained : P (row_of_failed_path (start c n words s) (ask_on path s.asks))
     path_explained = by (ask_on path s.asks) refl
 
   -- ---- the passing of time
@@ -164,27 +164,27 @@ module _ (c : Config) (past : List Step) (w : List (List ℕ)) (s : State) (x : 
     expired_row : T (expiry_step n y others (left_alone y.wanted others s.asks) s)
     expired_row = expired_by (left_alone y.wanted others s.asks) (alone_listed (of_question y.wanted s.asks) refl (list_any (waits_for y.wanted) others)) x.numbers_of refl
 
-  due_question : (y : Waiting) (others : List Waiting) → s.waiting ≡ y ∷ others → T (row_of_item (turn c n words s) (question y others))
+  due_question : (y : Waiting) (others : List Waiting) → s.waiting ≡ y ∷ others → T (row_of_item (start c n words s) (question y others))
   due_question y others first =
       cond_both (nat_le (deadline_of c y) n) _ _ T
       (λ t. expired_row y others first (leb-true (deadline_of c y) n t))
       (λ _. idle_tick)
 
-  due_attempt : (a : Ask) (others : List Ask) → s.asks ≡ a ∷ others → T (row_of_item (turn c n words s) (attempt a))
+  due_attempt : (a : Ask) (others : List Ask) → s.asks ≡ a ∷ others → T (row_of_item (start c n words s) (attempt a))
   due_attempt a others first =
       cond_both (nat_le (timeout_of c a) n) _ _ T
       (λ t. failures.failure_row c past w s x now words unkept more tick refl refl a (ap (ask_on a.path) first ∙ cond-true (same_path a.path a.path) _ _ (same_path_reflexive a.path)) no_delivery
       (λ actions. inr (inr (refl, subst (λ (m : ℕ). timeout_of c a ≤ m) (moment_now actions) (leb-true (timeout_of c a) n t)))) failure.TimedOut)
       (λ _. idle_tick)
 
-  item_row : (ws : List Waiting) → s.waiting ≡ ws → (listed : List Ask) → s.asks ≡ listed → T (row_of_item (turn c n words s) (first_item c ws listed))
+  item_row : (ws : List Waiting) → s.waiting ≡ ws → (listed : List Ask) → s.asks ≡ listed → T (row_of_item (start c n words s) (first_item c ws listed))
   item_row [] is [] as_is = idle_tick
   item_row [] is (a ∷ others) as_is = due_attempt a others as_is
   item_row (y ∷ ys) is [] as_is = due_question y ys is
   item_row (y ∷ ys) is (a ∷ others) as_is =
-      cond_both (nat_le (deadline_of c y) (timeout_of c a)) (question y ys) (attempt a) (λ (i : Item). T (row_of_item (turn c n words s) i))
+      cond_both (nat_le (deadline_of c y) (timeout_of c a)) (question y ys) (attempt a) (λ (i : Item). T (row_of_item (start c n words s) i))
       (λ _. due_question y ys is)
       (λ _. due_attempt a others as_is)
 
-  pub tick_explained : T (row_of_tick (turn c n words s))
+  pub tick_explained : T (row_of_tick (start c n words s))
   tick_explained = item_row s.waiting refl s.asks refl

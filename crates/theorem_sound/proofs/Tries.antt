@@ -137,8 +137,8 @@ IsOther q b = same_question b.question q ≡ false
 -- where the ask on a path is of another question, and so are all that are not on it, all are
 pub other_asks : (path : Path) (q : Question) (listed : List Ask) (a : Ask) → AreInTurn listed → ask_on path listed ≡ Some a → same_question a.question q ≡ false
     → AllByRecursion (λ b. same_question b.question q ≡ false) (without_path path listed) → AllByRecursion (λ b. same_question b.question q ≡ false) listed
-other_asks path q [] a turn on other rest = tt
-other_asks path q (b ∷ listed) a turn on other rest = by (same_path b.path path) refl on rest (λ here left. other_asks path q listed a turn.1 here other left)
+other_asks path q [] a start on other rest = tt
+other_asks path q (b ∷ listed) a start on other rest = by (same_path b.path path) refl on rest (λ here left. other_asks path q listed a start.1 here other left)
   where
     kept : (xs : List Ask) → AllByRecursion (Follows b) xs → same_path b.path path ≡ true → AllByRecursion (IsOther q) (without_path path xs) → AllByRecursion (IsOther q) xs
     kept [] follow at all = tt
@@ -153,7 +153,7 @@ other_asks path q (b ∷ listed) a turn on other rest = by (same_path b.path pat
 
     by : (v : Bool) → same_path b.path path ≡ v → cond v (Some b) (ask_on path listed) ≡ Some a → AllByRecursion (IsOther q) (cond (not v) (b ∷ without_path path listed) (without_path path listed))
         → (ask_on path listed ≡ Some a → AllByRecursion (IsOther q) (without_path path listed) → AllByRecursion (IsOther q) listed) → AllByRecursion (IsOther q) (b ∷ listed)
-    by true at here left more = let is : b ≡ a = cc in (subst (IsOther q) (sym is) other, kept listed turn.0 at left)
+    by true at here left more = let is : b ≡ a = cc in (subst (IsOther q) (sym is) other, kept listed start.0 at left)
     by false apart here left more = (left.0, more here left.1)
 
 -- ---- equal questions

@@ -24,7 +24,7 @@ use Rattle.step_history.specs.Asked.{AsksRight, AsksWell}
 use Rattle.step_history.specs.Sound.{Replies}
 use Rattle.step_table.specs.State.{State}
 use Rattle.waiting_questions.specs.Values.{Waiting}
-use Rattle.step_table.specs.Steps.{start}
+use Rattle.step_table.specs.Steps.{initial}
 use Rattle.step_table.specs.Row.{Row}
 use Rattle.step_table.proofs.Played.{a, address, server, other_server, client, config, asked}
 use Rattle.theorem_cache.specs.Kept.{IsCached}
@@ -43,7 +43,7 @@ text id kind = 0 ∷ id ∷ 1 ∷ 0 ∷ 0 ∷ 1 ∷ 0 ∷ 0 ∷ 0 ∷ 0 ∷ 0 �
 
 abbrev asks_for : ℕ → Step
 asks_for kind = record {
-  handed = record { now = 1000; words = 524296 ∷ []; event = from_client client (text 7 kind) };
+  input = record { now = 1000; words = 524296 ∷ []; event = from_client client (text 7 kind) };
   outcome = record { actions = ask_udp 1032 server (text 8 kind) ∷ []; unkept = 0; more = false };
 }
 
@@ -54,7 +54,7 @@ first = asks_for 1
 -- its time is over, and the next server is asked
 abbrev second : Step
 second = record {
-  handed = record { now = 2500; words = 1048592 ∷ []; event = tick };
+  input = record { now = 2500; words = 1048592 ∷ []; event = tick };
   outcome = record { actions = close_udp 1032 ∷ ask_udp 1040 other_server (text 16 1) ∷ []; unkept = 0; more = false };
 }
 
@@ -113,11 +113,11 @@ are_octets (x ∷ xs) all = by (nat_le x 255) refl all (are_octets xs)
 octets_of_request : AreOctets (text 7 1)
 octets_of_request = are_octets (text 7 1) refl
 
-first_row : Row for_one (start for_one) first.handed first.outcome asked_once
+first_row : Row for_one (initial for_one) first.input first.outcome asked_once
 unfolding written ◌▹◌ each name_text first_question question_at octets_end name_within walk_in name_step route_of
 first_row = record { octets = octets_of_request; happens = refl; more = refl }
 
-second_row : Row for_one asked_once second.handed second.outcome asked_twice
+second_row : Row for_one asked_once second.input second.outcome asked_twice
 unfolding written ◌▹◌ each name_text
 second_row = record { octets = tt; happens = refl; more = refl }
 
@@ -170,7 +170,7 @@ waits = record { comes = comes; moment = refl; leads = record { few = omega arit
 
 -- the one step of a history asked the question
 question_is : (s : Step) (octets : List ℕ) (q : Question) (x : Asked) (i : ℕ)
-    → request_in s.handed.event ≡ Some (record { client = client; octets = octets }) → one_question octets ≡ Some q
+    → request_in s.input.event ≡ Some (record { client = client; octets = octets }) → one_question octets ≡ Some q
     → (h : Comes (s ∷ []) client x i) → h.question ≡ q
 question_is s octets q x i sends reads h = by h.in_era
   where
@@ -182,7 +182,7 @@ question_is s octets q x i sends reads h = by h.in_era
     by (inl same) =
         let step : h.asked ≡ s = cc in
         let own : h.request ≡ octets =
-        ap octets_in (sym h.sent ∙ ap (λ (t : Step). request_in t.handed.event) step ∙ sends) in
+        ap octets_in (sym h.sent ∙ ap (λ (t : Step). request_in t.input.event) step ∙ sends) in
         let read : Some h.question ≡ Some q = sym h.reads ∙ ap one_question own ∙ reads in
         cc
     by (inr later) = absurd later.1

@@ -24,7 +24,7 @@ use Rattle.step_table.specs.Attempts.{peer_at}
 use Rattle.outstanding.specs.Values.{Ask}
 use Rattle.outstanding.specs.Lists.{AreListed}
 use Rattle.step_history.specs.Asked.{AsksWell}
-use Rattle.theorem_cache.specs.Kept.{CanBeTold, IsCached}
+use Rattle.theorem_cache.specs.Kept.{CanBeWrittenAt, IsCached}
 use Rattle.theorem_cache.specs.Chains.{look_from}
 use Rattle.step_table.specs.Progress.{ArePreferred, IsBelow}
 
@@ -41,8 +41,8 @@ pub record Comes (now : List Step) (client : Client) (a : Asked) (i : ℕ) : Typ
   pub number : i ≡ length before
   pub request : List ℕ
   pub octets : AreOctets request
-  pub sent : Sends asked.handed.event client request
-  pub taken : takes_question asked.handed.event ≡ true
+  pub sent : Sends asked.input.event client request
+  pub taken : takes_question asked.input.event ≡ true
   pub question : Question
   pub reads : Reads request question
   pub asked_is : a ≡ asked_in (header_in request) (Some question)
@@ -55,7 +55,7 @@ pub record Waits (c : Config) (now : List Step) (x : Waiting) (i : ℕ) : Type 0
   pub comes : Comes now x.client x.asked i
   pub moment : x.taken ≡ moment_at (comes.asked ∷ comes.before)
   pub leads : Leads (look_from c comes.asked comes.before now) comes.question x.held x.wanted
-  pub told : AllByRecursion (CanBeTold (moment_at now)) x.held
+  pub told : AllByRecursion (CanBeWrittenAt (moment_at now)) x.held
 
 -- the listed ask's text has its question and identifier, its server is at its place on the name's
 -- route, and the earlier tries of its inquiry failed

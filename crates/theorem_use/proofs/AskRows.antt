@@ -39,7 +39,7 @@ use Rattle.step_values.specs.declared.action.Why.TheVariants.{NoPort, Deadline}
 use Rattle.step_values.specs.Values.{Action, Event, from_client, delivery, path_failed, tick, restart, Step}
 use Rattle.suffix_routes.specs.Serving.{serving_route_of}
 use Rattle.step_values.specs.Requests.{is_taken}
-use Rattle.step_table.specs.State.{State, turn}
+use Rattle.step_table.specs.State.{State, start}
 use Rattle.waiting_questions.specs.Values.{Waiting, waits_for}
 use Rattle.step_table.specs.Attempts.{peer_at, over_udp, over_tcp, preferred_on, first_ask_on, first_ask_for, freed_by, plan_of, next_ask}
 use Rattle.alias_chains.specs.LookingUp.{LookUp, look_up}
@@ -48,7 +48,7 @@ use Rattle.step_table.specs.Steps.{Done, Fate, gets, waits, waiting_in, with_pre
 use Rattle.step_table.specs.Row.{Happens}
 use Rattle.step_table.specs.Ticks.{question, attempt, Item, first_item, left_alone, expiry_step, row_of_item, row_of_tick, deadline_of}
 use Rattle.step_table.specs.Replies.{fate_by, ends_at, unless_many, used_by, to_be_asked, unless_open, without_port, unless_no_port, timeout_of, row_of_next_name, row_of_sent_on, row_of_end, row_of_acceptance, row_of_walk, row_of_message, row_of_verdict, row_of_delivery}
-use Rattle.step_table.specs.Failures.{told_past, found_past, row_of_attempt, row_of_next, row_of_failure, row_of_failed_path}
+use Rattle.step_table.specs.Failures.{with_stale_ttl, found_stale, row_of_attempt, row_of_next, row_of_failure, row_of_failed_path}
 use Rattle.step_table.specs.Clients.{fate_of, taken_now, row_of_opening, row_of_inquiry, row_of_fate, row_of_look_up, row_of_route, row_of_question, row_of_request}
 use Rattle.step_table.proofs.SentOn.{sent_on_questions_want_one}
 use Rattle.step_table.proofs.CallerLemmas.{All-weaker, looked_at_end, ask_on-is, ask_by-some, none_same, of_question-is, own_on}
@@ -60,16 +60,16 @@ use Rattle.theorem_use.proofs.Asked.{any_weaker, any_with, any_first, any_last, 
 -- ---- a first ask is for its question
 
 first_asks : (c : Config) (n : ℕ) (words : List ℕ) (q : Question) (s : State) (a : Ask)
-    → first_ask_for (turn c n words s) q ≡ Some a → a.question ≡ q
+    → first_ask_for (start c n words s) q ≡ Some a → a.question ≡ q
 first_asks c n words q s a is = by (serving_route_of c q.name) is
   where
-    by : (r : Option ℕ) → first_ask_on (turn c n words s) q r ≡ Some a → a.question ≡ q
+    by : (r : Option ℕ) → first_ask_on (start c n words s) q r ≡ Some a → a.question ≡ q
     by None is = absurd (cc)
     by (Some route) is = (ask_by-some n q route (preferred_on s route) 1 (peer_at c route (preferred_on s route))
         (over_udp (udp_draw words s.asks None)) a is).question
 
 next_asks : (c : Config) (n : ℕ) (words : List ℕ) (a : Ask) (s : State) (v : Next) (d : Ask)
-    → next_ask (turn c n words s) a v ≡ Some d → d.question ≡ a.question
+    → next_ask (start c n words s) a v ≡ Some d → d.question ≡ a.question
 next_asks c n words a s (AskUdp server) d is =
     (ask_by-some n a.question a.route server (a.used + 1) (peer_at c a.route server)
     (over_udp (udp_draw words s.asks (freed_by a.path))) d is).question
@@ -80,7 +80,7 @@ next_asks c n words a s GiveUp d is = absurd (cc)
 
 -- an ask that follows one is one try later
 next_used : (c : Config) (n : ℕ) (words : List ℕ) (a : Ask) (s : State) (v : Next) (d : Ask)
-    → next_ask (turn c n words s) a v ≡ Some d → d.used ≡ a.used + 1
+    → next_ask (start c n words s) a v ≡ Some d → d.used ≡ a.used + 1
 next_used c n words a s (AskUdp server) d is =
     (ask_by-some n a.question a.route server (a.used + 1) (peer_at c a.route server)
     (over_udp (udp_draw words s.asks (freed_by a.path))) d is).used_is
@@ -206,21 +206,21 @@ module _ (c : Config) (n : ℕ) (words : List ℕ) (s : State) (served : AreServ
           used = used_is;
         })))
 
-    attempt_row : (v : Next) (r : Option Ask) → next_ask (turn c n words s) a v ≡ r → K (row_of_attempt n a s r)
+    attempt_row : (v : Next) (r : Option Ask) → next_ask (start c n words s) a v ≡ r → K (row_of_attempt n a s r)
     attempt_row v None is = given_up (gives_up NoPort)
     attempt_row v (Some d) is = asked_again d (next_asks c n words a s v d is) (next_used c n words a s v d is)
 
-    next_row : (v : Next) → K (row_of_next (turn c n words s) a v)
-    next_row (AskUdp server) = attempt_row (AskUdp server) (next_ask (turn c n words s) a (AskUdp server)) refl
-    next_row (AskTcp server) = attempt_row (AskTcp server) (next_ask (turn c n words s) a (AskTcp server)) refl
-    next_row GiveUp = given_up (λ x. told_past n x (found_past c n s.cache.entries x))
+    next_row : (v : Next) → K (row_of_next (start c n words s) a v)
+    next_row (AskUdp server) = attempt_row (AskUdp server) (next_ask (start c n words s) a (AskUdp server)) refl
+    next_row (AskTcp server) = attempt_row (AskTcp server) (next_ask (start c n words s) a (AskTcp server)) refl
+    next_row GiveUp = given_up (λ x. with_stale_ttl n x (found_stale c n s.cache.entries x))
 
-    pub failure_row : (f : Failure) → K (row_of_failure (turn c n words s) a f)
+    pub failure_row : (f : Failure) → K (row_of_failure (start c n words s) a f)
     failure_row f = next_row (after_failure (plan_of c a) f)
 
   -- ---- a client's message
 
-  opening_row : (used : List Slot) (y : Waiting) (r : Option Ask) → first_ask_for (turn c n words (with_promoted used s)) y.wanted ≡ r
+  opening_row : (used : List Slot) (y : Waiting) (r : Option Ask) → first_ask_for (start c n words (with_promoted used s)) y.wanted ≡ r
       → K (row_of_opening n y (with_promoted used s) r)
   opening_row used y None is = same
   opening_row used y (Some a) is =
@@ -230,31 +230,31 @@ module _ (c : Config) (n : ℕ) (words : List ℕ) (s : State) (served : AreServ
       (inl (ap (same_question y.wanted) first ∙ same_as_itself y.wanted))) first
 
   inquiry_row : (used : List Slot) (y : Waiting) (r : Option Ask) → of_question y.wanted s.asks ≡ r
-      → K (row_of_inquiry (turn c n words (with_promoted used s)) y r)
+      → K (row_of_inquiry (start c n words (with_promoted used s)) y r)
   inquiry_row used y None is = cond_both (nat_le c.limits.inquiries (length s.asks)) _ _ K (λ t. same)
-      (λ f. opening_row used y (first_ask_for (turn c n words (with_promoted used s)) y.wanted) refl)
+      (λ f. opening_row used y (first_ask_for (start c n words (with_promoted used s)) y.wanted) refl)
   inquiry_row used y (Some a) is =
       taken_on Accepted [] s.asks s.waiting y None served (asks_close_none None) (any_first (λ b. waits_for b.question y ≡ true) s.asks []
       (of_question_any y s.asks a is)) tt
 
-  fate_row : (used : List Slot) (v : Fate) → K (row_of_fate (turn c n words (with_promoted used s)) v)
+  fate_row : (used : List Slot) (v : Fate) → K (row_of_fate (start c n words (with_promoted used s)) v)
   fate_row used (gets reply) = same
   fate_row used (waits y) = cond_both (nat_le c.limits.questions (length s.waiting)) _ _ K (λ t. same)
       (λ f. inquiry_row used y (of_question y.wanted s.asks) refl)
 
-  pub request_row : (client : Client) (octets : List ℕ) → K (row_of_request (turn c n words s) client octets)
+  pub request_row : (client : Client) (octets : List ℕ) → K (row_of_request (start c n words s) client octets)
   request_row client octets = cond_both (is_taken octets) _ _ K
       (λ t. cond_both ((header_in octets).opcode == 0) _ _ K (λ z. asked (one_question octets)) (λ z. same))
       (λ f. same)
     where
-      looked : (x : Waiting) (l : LookUp) → K (row_of_look_up (turn c n words s) x l)
+      looked : (x : Waiting) (l : LookUp) → K (row_of_look_up (start c n words s) x l)
       looked x l = fate_row l.used (fate_of c n x l)
 
-      routed : (x : Waiting) (r : Option ℕ) → K (row_of_route (turn c n words s) x r)
+      routed : (x : Waiting) (r : Option ℕ) → K (row_of_route (start c n words s) x r)
       routed x None = same
       routed x (Some route) = looked x (look_up c.routes n s.cache.entries most_aliases [] x.wanted)
 
-      asked : (r : Option Question) → K (row_of_question (turn c n words s) client (header_in octets) r)
+      asked : (r : Option Question) → K (row_of_question (start c n words s) client (header_in octets) r)
       asked None = same
       asked (Some q) = cond_both (is_unserved q) _ _ K (λ t. same)
           (λ f. routed (taken_now n client (header_in octets) q) (serving_route_of c q.name))
@@ -340,27 +340,27 @@ module _ (c : Config) (n : ℕ) (words : List ℕ) (s : State) (served : AreServ
         (sym (all_wait_on behind)) (expired expires.actions (list_any (waits_for y.wanted) behind) refl
         (of_question y.wanted s.asks) refl)
 
-    pub question_row : K (row_of_item (turn c n words s) (question y behind))
+    pub question_row : K (row_of_item (start c n words s) (question y behind))
     question_row = cond_both (nat_le (deadline_of c y) n) _ _ K (λ t. expiry_row) (λ f. same)
 
-  attempt_item : (a : Ask) (others : List Ask) → s.asks ≡ a ∷ others → K (row_of_item (turn c n words s) (attempt a))
+  attempt_item : (a : Ask) (others : List Ask) → s.asks ≡ a ∷ others → K (row_of_item (start c n words s) (attempt a))
   attempt_item a others first = cond_both (nat_le (timeout_of c a) n) _ _ K
       (λ t. failure_row a (ap (ask_on a.path) first
       ∙ cond-true (same_path a.path a.path) _ _ (same_path_reflexive a.path)) failure.TimedOut)
       (λ f. same)
 
   item_row : (ws : List Waiting) → s.waiting ≡ ws → (listed : List Ask) → s.asks ≡ listed
-      → K (row_of_item (turn c n words s) (first_item c ws listed))
+      → K (row_of_item (start c n words s) (first_item c ws listed))
   item_row [] is [] as_is = same
   item_row [] is (a ∷ others) as_is = attempt_item a others as_is
   item_row (y ∷ ys) is [] as_is = question_row y ys is
   item_row (y ∷ ys) is (a ∷ others) as_is =
       cond_both (nat_le (deadline_of c y) (timeout_of c a)) (question y ys) (attempt a)
-      (λ (i : Item). K (row_of_item (turn c n words s) i))
+      (λ (i : Item). K (row_of_item (start c n words s) i))
       (λ _. question_row y ys is)
       (λ _. attempt_item a others as_is)
 
-  pub tick_row : K (row_of_tick (turn c n words s))
+  pub tick_row : K (row_of_tick (start c n words s))
   tick_row = item_row s.waiting refl s.asks refl
 
   -- ---- a failed path
@@ -370,7 +370,7 @@ module _ (c : Config) (n : ℕ) (words : List ℕ) (s : State) (served : AreServ
   own_path path a on = ap (λ (p : Path). ask_on p s.asks)
       (ask_on-is (λ b. Unit {0}) path s.asks a on (all_of (λ b. Unit {0}) (λ b. tt) s.asks)).0 ∙ on
 
-  pub path_row : (path : Path) (r : Option Ask) → ask_on path s.asks ≡ r → K (row_of_failed_path (turn c n words s) r)
+  pub path_row : (path : Path) (r : Option Ask) → ask_on path s.asks ≡ r → K (row_of_failed_path (start c n words s) r)
   path_row path None on = same
   path_row path (Some a) on = failure_row a (own_path path a on) failure.Broken
 
@@ -475,15 +475,15 @@ module _ (c : Config) (n : ℕ) (words : List ℕ) (s : State) (served : AreServ
             failed_so (gets reply) = tt
             failed_so (waits z) = tt
 
-        name_row : (r : Option Ask) → first_ask_for (turn c n words (record after { asks = next_others })) y.wanted ≡ r
+        name_row : (r : Option Ask) → first_ask_for (start c n words (record after { asks = next_others })) y.wanted ≡ r
             → K (row_of_next_name n a fate after r)
         name_row None none = without_one
         name_row (Some d) some = next_named d (first_asks c n words y.wanted
             (record after { asks = next_others }) d some)
 
         open_row : (r : Option Ask) → of_question y.wanted next_others ≡ r
-            → K (row_of_sent_on (turn c n words after) a fate (unless_open y.wanted r))
-        open_row None new = name_row (first_ask_for (turn c n words (record after { asks = next_others })) y.wanted) refl
+            → K (row_of_sent_on (start c n words after) a fate (unless_open y.wanted r))
+        open_row None new = name_row (first_ask_for (start c n words (record after { asks = next_others })) y.wanted) refl
         open_row (Some b) there = sent_closed None
             (All-weaker (λ z. z.wanted ≡ y.wanted) (Asked a on None)
             (λ z want. any_first (λ d. waits_for d.question z ≡ true) next_others []
@@ -491,7 +491,7 @@ module _ (c : Config) (n : ℕ) (words : List ℕ) (s : State) (served : AreServ
             ∙ there))) Ys all_want)
             tt tt
 
-      sent_row : (zs : List Waiting) → Ys ≡ zs → K (row_of_sent_on (turn c n words after) a fate (to_be_asked next_others zs))
+      sent_row : (zs : List Waiting) → Ys ≡ zs → K (row_of_sent_on (start c n words after) a fate (to_be_asked next_others zs))
       sent_row [] none = sent_closed None (subst (AllByRecursion (Asked a on None)) (sym none) tt) tt tt
       sent_row (y ∷ ys) are = open_row y ys are (of_question y.wanted next_others) refl
 
@@ -515,7 +515,7 @@ module _ (c : Config) (n : ℕ) (words : List ℕ) (s : State) (served : AreServ
         by lame h fine = absurd (false≢true fine)
 
     end_row : Accepted → (e : End) → w.end ≡ e → is_lame e ≡ false
-        → K (row_of_end (turn c n words (with_preferred_server a s)) a w fate e)
+        → K (row_of_end (start c n words (with_preferred_server a s)) a w fate e)
     end_row accepted found is fine = last_row (ap has_last is) (some_pieces found is refl)
     end_row accepted ends_no_data is fine = last_row (ap has_last is) (some_pieces ends_no_data is refl)
     end_row accepted ends_denied is fine = last_row (ap has_last is) (some_pieces ends_denied is refl)
@@ -524,11 +524,11 @@ module _ (c : Config) (n : ℕ) (words : List ℕ) (s : State) (served : AreServ
     end_row accepted lame is fine = absurd (true≢false fine)
 
     accepted_row : (rooms : List Bool) → Accepted → is_lame w.end ≡ false
-        → K (row_of_acceptance (turn c n words s) rooms a w)
+        → K (row_of_acceptance (start c n words s) rooms a w)
     accepted_row rooms accepted fine = end_row accepted w.end refl fine
 
     pub walk_row : (rooms : List Bool) → (is_lame w.end ≡ false → Accepted)
-        → K (row_of_walk (turn c n words s) rooms a w)
+        → K (row_of_walk (start c n words s) rooms a w)
     walk_row rooms accepts = cond_both (is_lame w.end) _ _ K (λ t. failure_row a on failure.Lame)
         (λ f. accepted_row rooms (accepts f) f)
 
@@ -541,13 +541,13 @@ module _ (c : Config) (n : ℕ) (words : List ℕ) (s : State) (served : AreServ
       on = own_path path a there
 
       message_row : judge a from octets ≡ Whole → (r : Result Message Fault) → message_of octets ≡ r
-          → K (row_of_message (turn c n words s) rooms a r)
+          → K (row_of_message (start c n words s) rooms a r)
       message_row whole (Ok m) read = walk_row a on (ask_on-is (Tried c past) path s.asks a there tried).1.on_route m
           (spelled_message_has_shapes octets m (read_spells octets m read)) rooms
           (λ fine. heard a there m live whole read fine)
       message_row whole (Err fault) read = failure_row a on failure.Malformed
 
-      verdict_row : (v : Verdict) → judge a from octets ≡ v → K (row_of_verdict (turn c n words s) rooms a octets v)
+      verdict_row : (v : Verdict) → judge a from octets ≡ v → K (row_of_verdict (start c n words s) rooms a octets v)
       verdict_row Stranger is = same
       verdict_row Truncated is = failure_row a on failure.Truncated
       verdict_row (Failed rcode) is = failure_row a on failure.Rcode
@@ -555,7 +555,7 @@ module _ (c : Config) (n : ℕ) (words : List ℕ) (s : State) (served : AreServ
       verdict_row Whole is = message_row is (message_of octets) refl
 
     pub delivery_row : (r : Option Ask) → ask_on path s.asks ≡ r
-        → K (row_of_delivery (turn c n words s) rooms from octets r)
+        → K (row_of_delivery (start c n words s) rooms from octets r)
     delivery_row None none = same
     delivery_row (Some a) there = cond_both (nat_lt n (timeout_of c a)) _ _ K
         (λ t. verdict_row a there t (judge a from octets) refl)
@@ -564,7 +564,7 @@ module _ (c : Config) (n : ℕ) (words : List ℕ) (s : State) (served : AreServ
   -- ---- each event
 
   pub event_row : (past : List Step) → AllByRecursion (Tried c past) s.asks → (e : Event) (d : Done)
-      → GivesIfHeard c n s Accepted e → Happens (turn c n words s) e d → K d
+      → GivesIfHeard c n s Accepted e → Happens (start c n words s) e d → K d
   event_row past tried (from_client client octets) d heard h = subst K (sym h) (request_row client octets)
   event_row past tried (delivery path from octets) d heard h =
       subst K (sym h.1) (delivery_row past tried path from octets h.0 heard (ask_on path s.asks) refl)

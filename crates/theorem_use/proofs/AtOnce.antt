@@ -14,20 +14,20 @@ use Rattle.answer_builder.specs.Transports.{answer_of}
 use Rattle.step_values.specs.declared.event.Client.{Client}
 use Rattle.step_values.specs.declared.action.Why.{Why}
 use Rattle.step_values.specs.declared.action.Why.TheVariants.{Answered, TooLarge}
-use Rattle.step_values.specs.Values.{from_client, Request, Action, send_reply, SentReply, Handed, Step}
+use Rattle.step_values.specs.Values.{from_client, Request, Action, send_reply, SentReply, StepInput, Step}
 use Rattle.suffix_routes.specs.Serving.{serving_route_of}
 use Rattle.step_history.specs.History.{InEra, Sends, moment_at, NothingAccepted}
 use Rattle.step_values.specs.Requests.{is_taken}
 use Rattle.step_history.specs.Replies.{failure_text}
 use Rattle.step_history.specs.Answers.{Chain}
 use Rattle.step_history.specs.Sound.{unanswered, RightReply, Owns, FromCache, SameAsEarlierFromCache}
-use Rattle.step_table.specs.State.{State, turn}
+use Rattle.step_table.specs.State.{State, start}
 use Rattle.waiting_questions.specs.Values.{Waiting}
 use Rattle.alias_chains.specs.LookingUp.{LookUpEnd, ends, too_long, missed, LookUp, promoted_all}
 use Rattle.step_table.specs.Steps.{Done, with_promoted, reply_step, answered, sends, transport_of}
 use Rattle.step_table.specs.Row.{is_due_at}
 use Rattle.step_table.specs.Clients.{fate_at, taken_now, row_of_fate, row_of_route, row_of_question, row_of_request}
-use Rattle.theorem_cache.specs.Kept.{CanBeTold, looked, IsStillFound, IsCached}
+use Rattle.theorem_cache.specs.Kept.{CanBeWrittenAt, looked, IsStillFound, IsCached}
 use Rattle.theorem_cache.specs.Chains.{look_from, IsRightEnd, EndsRight, IsSized, IsRight}
 use Rattle.theorem_cache.proofs.CallerLemmas.{quiet_steps_keep, promotions_keep_cached, look_ups_are_right, answers_from_cache_agree, promotions_find_the_same}
 use Rattle.step_table.proofs.CallerLemmas.{All-append}
@@ -56,13 +56,13 @@ newest_is asked before s past (inr behind) number =
 abbrev RightFor : Config → List Step → List ℕ → SentReply → List ℕ → List Step → Type 0
 RightFor c now owners r request [] = ⊥
 RightFor c now owners r request (asked ∷ before) =
-    Sends asked.handed.event r.client request
+    Sends asked.input.event r.client request
     × RightReply (record { config = c; asked = asked; before = before; now = now }) r.client request
     (length (unanswered before owners)) r.why r.octets
 
 -- a reply that the newest step's question owns is right for it
 own_is_right : (c : Config) (s : Step) (past : List Step) (owners : List ℕ) (r : SentReply) (request : List ℕ)
-    → Owns c (s ∷ past) owners (length past) r → Sends s.handed.event r.client request
+    → Owns c (s ∷ past) owners (length past) r → Sends s.input.event r.client request
     → RightReply (record { config = c; asked = s; before = past; now = s ∷ past }) r.client request
     (length (unanswered past owners)) r.why r.octets
 own_is_right c s past owners r request own sent =
@@ -84,11 +84,11 @@ module _ (c : Config) (past : List Step) (w : List (List ℕ)) (s : State) (x : 
   abbrev n : ℕ
   n = max (min now (2 ^ 62)) s.moment
 
-  abbrev handed : Handed
-  handed = record { now = now; words = words; event = from_client client request }
+  abbrev input : StepInput
+  input = record { now = now; words = words; event = from_client client request }
 
   abbrev step : List Action → Step
-  step actions = step_of handed actions unkept more
+  step actions = step_of input actions unkept more
 
   moment : n ≡ max (min now (2 ^ 62)) (moment_at past)
   moment = ap (max (min now (2 ^ 62))) x.moment
@@ -242,13 +242,13 @@ module _ (c : Config) (past : List Step) (w : List (List ℕ)) (s : State) (x : 
       ends = (right_end actions).2;
     }
 
-    can_be_told : (actions : List Action) → AllByRecursion (CanBeTold n) (l.held ++ h.end ∷ [])
-    can_be_told actions = All-append (CanBeTold n) l.held (h.end ∷ []) (right actions).told ((right_end actions).0, tt)
+    can_be_written_at : (actions : List Action) → AllByRecursion (CanBeWrittenAt n) (l.held ++ h.end ∷ [])
+    can_be_written_at actions = All-append (CanBeWrittenAt n) l.held (h.end ∷ []) (right actions).told ((right_end actions).0, tt)
 
     owned : (a : Action) → answered n y l.held h.end ≡ a → OwnsReply c (step (a ∷ []) ∷ past) (length past) a
     owned a is = subst (OwnsReply c (step (a ∷ []) ∷ past) (length past)) is
         (answer_owned c n (step (a ∷ []) ∷ past) y (length past) (comes (a ∷ [])) moment l.held h.end (chain (a ∷ []))
-        (can_be_told (a ∷ [])))
+        (can_be_written_at (a ∷ [])))
 
     module _ (octets : List ℕ) (why : Why) (is : answered n y l.held h.end ≡ send_reply client octets why) where
       abbrev done : Done
@@ -261,7 +261,7 @@ module _ (c : Config) (past : List Step) (w : List (List ℕ)) (s : State) (x : 
       found_now z text (asks_z, inl answer) =
           let told_so : IsTold n client y.asked l.held h.end octets =
           answered_told n (step [] ∷ past) y (length past) (comes []) l.held h.end
-          (can_be_told []) client octets why is answer.0 in
+          (can_be_written_at []) client octets why is answer.0 in
           let one : Some h.question ≡ Some z = sym h.reads ∙ asks_z in
           let question_is : h.question ≡ z = cc in
           subst (λ (v : Question). IsStillFound c n s.cache.entries v text) question_is
@@ -291,7 +291,7 @@ module _ (c : Config) (past : List Step) (w : List (List ℕ)) (s : State) (x : 
         reason = reason;
         right = own_is_right c (step done.actions) past (concat w)
             (record { client = client; octets = octets; why = why }) request own refl;
-        explained = at_once_explained c past w s x handed unkept more n client octets why used done.state refl
+        explained = at_once_explained c past w s x input unkept more n client octets why used done.state refl
             (refl, moment) h.takes (no_delivery done.actions)
             own
             (λ z text f. subst (λ (t : ℕ). SameAsEarlierFromCache c t z text past) moment (agreeing z text f))
@@ -302,16 +302,16 @@ module _ (c : Config) (past : List Step) (w : List (List ℕ)) (s : State) (x : 
       }
 
     -- the row answers it
-    row_is : row_of_request (turn c n words s) client request ≡ reply_step n (answered n y l.held h.end) (with_promoted l.used s)
+    row_is : row_of_request (start c n words s) client request ≡ reply_step n (answered n y l.held h.end) (with_promoted l.used s)
     row_is =
         cond-true (is_taken request) _ _ h.takes
         ∙ cond-true ((header_in request).opcode == 0) _ _ (eq-eqb (header_in request).opcode 0 h.opcode)
-        ∙ ap (row_of_question (turn c n words s) client (header_in request)) h.reads
+        ∙ ap (row_of_question (start c n words s) client (header_in request)) h.reads
         ∙ cond-false (is_unserved h.question) _ _ h.served
-        ∙ ap (row_of_route (turn c n words s) y) h.on_route
-        ∙ ap (λ (m : LookUpEnd). row_of_fate (turn c n words (with_promoted l.used s)) (fate_at c n y l m)) h.ends_so
+        ∙ ap (row_of_route (start c n words s) y) h.on_route
+        ∙ ap (λ (m : LookUpEnd). row_of_fate (start c n words (with_promoted l.used s)) (fate_at c n y l m)) h.ends_so
 
-    pub hit_is_owned : (d : Done) → d ≡ row_of_request (turn c n words s) client request
+    pub hit_is_owned : (d : Done) → d ≡ row_of_request (start c n words s) client request
         → more ≡ is_due_at c d.state.moment d.state → IsOwnAnswer d
     hit_is_owned d is more_is = by (answer_of y.asked (l.held ++ h.end ∷ []) n (transport_of client)) refl
       where

@@ -27,7 +27,7 @@ use Rattle.record_cache.specs.Values.{Cache}
 use Rattle.step_values.specs.declared.event.Client.{Client}
 use Rattle.suffix_routes.specs.Serving.{serving_route_of}
 use Rattle.step_values.specs.Requests.{is_taken}
-use Rattle.step_table.specs.State.{State, turn}
+use Rattle.step_table.specs.State.{State, start}
 use Rattle.waiting_questions.specs.Values.{Waiting, waits_for}
 use Rattle.step_table.specs.Attempts.{first_ask_for, plan_of, next_ask}
 use Rattle.alias_chains.specs.LookingUp.{LookUp, look_up, promoted_all}
@@ -64,12 +64,12 @@ module _ (n : ℕ) (cache : Cache) (s : State) (was : IsUsed cache s) where
   attempt_is a None = record { used = was.0; cache_is = was.1; moment_is = refl }
   attempt_is a (Some next) = record { used = was.0; cache_is = was.1; moment_is = refl }
 
-  next_is : (c : Config) (words : List ℕ) (a : Ask) (v : Next) → IsQuiet n cache (row_of_next (turn c n words s) a v)
-  next_is c words a (AskUdp server) = attempt_is a (next_ask (turn c n words s) a (AskUdp server))
-  next_is c words a (AskTcp server) = attempt_is a (next_ask (turn c n words s) a (AskTcp server))
+  next_is : (c : Config) (words : List ℕ) (a : Ask) (v : Next) → IsQuiet n cache (row_of_next (start c n words s) a v)
+  next_is c words a (AskUdp server) = attempt_is a (next_ask (start c n words s) a (AskUdp server))
+  next_is c words a (AskTcp server) = attempt_is a (next_ask (start c n words s) a (AskTcp server))
   next_is c words a GiveUp = record { used = was.0; cache_is = was.1; moment_is = refl }
 
-  pub failure_is : (c : Config) (words : List ℕ) (a : Ask) (f : Failure) → IsQuiet n cache (row_of_failure (turn c n words s) a f)
+  pub failure_is : (c : Config) (words : List ℕ) (a : Ask) (f : Failure) → IsQuiet n cache (row_of_failure (start c n words s) a f)
   failure_is c words a f = next_is c words a (after_failure (plan_of c a) f)
 
   -- ---- a question that waits
@@ -78,18 +78,18 @@ module _ (n : ℕ) (cache : Cache) (s : State) (was : IsUsed cache s) where
   opening_is y None = record { used = was.0; cache_is = was.1; moment_is = refl }
   opening_is y (Some a) = record { used = was.0; cache_is = was.1; moment_is = refl }
 
-  inquiry_is : (c : Config) (words : List ℕ) (y : Waiting) (r : Option Ask) → IsQuiet n cache (row_of_inquiry (turn c n words s) y r)
+  inquiry_is : (c : Config) (words : List ℕ) (y : Waiting) (r : Option Ask) → IsQuiet n cache (row_of_inquiry (start c n words s) y r)
   inquiry_is c words y None = cond_both (nat_le c.limits.inquiries (length s.asks)) _ _ (IsQuiet n cache)
       (λ t. record { used = was.0; cache_is = was.1; moment_is = refl })
-      (λ f. opening_is y (first_ask_for (turn c n words s) y.wanted))
+      (λ f. opening_is y (first_ask_for (start c n words s) y.wanted))
   inquiry_is c words y (Some a) = record { used = was.0; cache_is = was.1; moment_is = refl }
 
-  waiting_is : (c : Config) (words : List ℕ) (y : Waiting) → IsQuiet n cache (row_of_waiting (turn c n words s) y)
+  waiting_is : (c : Config) (words : List ℕ) (y : Waiting) → IsQuiet n cache (row_of_waiting (start c n words s) y)
   waiting_is c words y = cond_both (nat_le c.limits.questions (length s.waiting)) _ _ (IsQuiet n cache)
       (λ t. record { used = was.0; cache_is = was.1; moment_is = refl })
       (λ f. inquiry_is c words y (of_question y.wanted s.asks))
 
-  fate_is : (c : Config) (words : List ℕ) (v : Fate) → IsQuiet n cache (row_of_fate (turn c n words s) v)
+  fate_is : (c : Config) (words : List ℕ) (v : Fate) → IsQuiet n cache (row_of_fate (start c n words s) v)
   fate_is c words (gets reply) = record { used = was.0; cache_is = was.1; moment_is = refl }
   fate_is c words (waits y) = waiting_is c words y
 
@@ -99,9 +99,9 @@ module _ (n : ℕ) (cache : Cache) (s : State) (was : IsUsed cache s) where
   next_name_is a fate None = record { used = was.0; cache_is = was.1; moment_is = refl }
   next_name_is a fate (Some next) = record { used = was.0; cache_is = was.1; moment_is = refl }
 
-  sent_is : (c : Config) (words : List ℕ) (a : Ask) (fate : Waiting → Fate) (r : Option Question) → IsQuiet n cache (row_of_sent_on (turn c n words s) a fate r)
+  sent_is : (c : Config) (words : List ℕ) (a : Ask) (fate : Waiting → Fate) (r : Option Question) → IsQuiet n cache (row_of_sent_on (start c n words s) a fate r)
   sent_is c words a fate None = record { used = was.0; cache_is = was.1; moment_is = refl }
-  sent_is c words a fate (Some q) = next_name_is a fate (first_ask_for (turn c n words (record s { asks = without_path a.path s.asks })) q)
+  sent_is c words a fate (Some q) = next_name_is a fate (first_ask_for (start c n words (record s { asks = without_path a.path s.asks })) q)
 
 module _ (c : Config) (n : ℕ) (words : List ℕ) (s : State) where
   -- nothing was promoted before
@@ -110,32 +110,32 @@ module _ (c : Config) (n : ℕ) (words : List ℕ) (s : State) where
 
   -- ---- events that bring no reply
 
-  pub request_is : (client : Client) (octets : List ℕ) → IsQuiet n s.cache (row_of_request (turn c n words s) client octets)
+  pub request_is : (client : Client) (octets : List ℕ) → IsQuiet n s.cache (row_of_request (start c n words s) client octets)
   request_is client octets = cond_both (is_taken octets) _ _ (IsQuiet n s.cache)
       (λ t. cond_both ((header_in octets).opcode == 0) _ _ (IsQuiet n s.cache) (λ z. asked (one_question octets)) (λ z. record { used = []; cache_is = refl; moment_is = refl }))
       (λ f. idle_is n s.cache s own)
     where
-      looked : (x : Waiting) (l : LookUp) → IsQuiet n s.cache (row_of_look_up (turn c n words s) x l)
+      looked : (x : Waiting) (l : LookUp) → IsQuiet n s.cache (row_of_look_up (start c n words s) x l)
       looked x l = fate_is n s.cache (with_promoted l.used s) (l.used, refl) c words (fate_of c n x l)
 
-      routed : (x : Waiting) (r : Option ℕ) → IsQuiet n s.cache (row_of_route (turn c n words s) x r)
+      routed : (x : Waiting) (r : Option ℕ) → IsQuiet n s.cache (row_of_route (start c n words s) x r)
       routed x None = record { used = []; cache_is = refl; moment_is = refl }
       routed x (Some route) = looked x (look_up c.routes n s.cache.entries most_aliases [] x.wanted)
 
-      asked : (r : Option Question) → IsQuiet n s.cache (row_of_question (turn c n words s) client (header_in octets) r)
+      asked : (r : Option Question) → IsQuiet n s.cache (row_of_question (start c n words s) client (header_in octets) r)
       asked None = record { used = []; cache_is = refl; moment_is = refl }
       asked (Some q) = cond_both (is_unserved q) _ _ (IsQuiet n s.cache)
           (λ t. record { used = []; cache_is = refl; moment_is = refl })
           (λ f. routed (taken_now n client (header_in octets) q) (serving_route_of c q.name))
 
-  pub path_is : (r : Option Ask) → IsQuiet n s.cache (row_of_failed_path (turn c n words s) r)
+  pub path_is : (r : Option Ask) → IsQuiet n s.cache (row_of_failed_path (start c n words s) r)
   path_is None = idle_is n s.cache s own
   path_is (Some a) = failure_is n s.cache s own c words a failure.Broken
 
-  pub tick_is : IsQuiet n s.cache (row_of_tick (turn c n words s))
+  pub tick_is : IsQuiet n s.cache (row_of_tick (start c n words s))
   tick_is = item (first_item c s.waiting s.asks)
     where
-      item : (i : Item) → IsQuiet n s.cache (row_of_item (turn c n words s) i)
+      item : (i : Item) → IsQuiet n s.cache (row_of_item (start c n words s) i)
       item nothing = idle_is n s.cache s own
       item (question x others) = cond_both (nat_le (deadline_of c x) n) _ _ (IsQuiet n s.cache)
           (λ t. record { used = []; cache_is = refl; moment_is = refl })
@@ -149,26 +149,26 @@ module _ (c : Config) (n : ℕ) (words : List ℕ) (s : State) where
   module _ (rooms : List Bool) (path : Path) (from : Peer) (octets : List ℕ) where
     -- a delivery that is not accepted
     pub unheard_is : ((a : Ask) → ask_on path s.asks ≡ Some a → (m : Message) → nat_lt n (timeout_of c a) ≡ true → judge a from octets ≡ Whole → message_of octets ≡ Ok m → is_lame (walk_of c m a.question a.route).end ≡ false → ⊥)
-        → IsQuiet n s.cache (row_of_delivery (turn c n words s) rooms from octets (ask_on path s.asks))
+        → IsQuiet n s.cache (row_of_delivery (start c n words s) rooms from octets (ask_on path s.asks))
     unheard_is none = delivered (ask_on path s.asks) refl
       where
-        failed : (a : Ask) (f : Failure) → IsQuiet n s.cache (row_of_failure (turn c n words s) a f)
+        failed : (a : Ask) (f : Failure) → IsQuiet n s.cache (row_of_failure (start c n words s) a f)
         failed a f = failure_is n s.cache s own c words a f
 
-        read_is : (a : Ask) → ask_on path s.asks ≡ Some a → nat_lt n (timeout_of c a) ≡ true → judge a from octets ≡ Whole → (r : Result Message Fault) → message_of octets ≡ r → IsQuiet n s.cache (row_of_message (turn c n words s) rooms a r)
+        read_is : (a : Ask) → ask_on path s.asks ≡ Some a → nat_lt n (timeout_of c a) ≡ true → judge a from octets ≡ Whole → (r : Result Message Fault) → message_of octets ≡ r → IsQuiet n s.cache (row_of_message (start c n words s) rooms a r)
         read_is a on live whole (Ok m) read = cond_both (is_lame (walk_of c m a.question a.route).end) _ _ (IsQuiet n s.cache)
             (λ t. failed a failure.Lame)
             (λ f. absurd (none a on m live whole read f))
         read_is a on live whole (Err fault) read = failed a failure.Malformed
 
-        judged : (a : Ask) → ask_on path s.asks ≡ Some a → nat_lt n (timeout_of c a) ≡ true → (v : Verdict) → judge a from octets ≡ v → IsQuiet n s.cache (row_of_verdict (turn c n words s) rooms a octets v)
+        judged : (a : Ask) → ask_on path s.asks ≡ Some a → nat_lt n (timeout_of c a) ≡ true → (v : Verdict) → judge a from octets ≡ v → IsQuiet n s.cache (row_of_verdict (start c n words s) rooms a octets v)
         judged a on live Stranger is = idle_is n s.cache s own
         judged a on live Truncated is = failed a failure.Truncated
         judged a on live (Failed rcode) is = failed a failure.Rcode
         judged a on live Malformed is = failed a failure.Malformed
         judged a on live Whole is = read_is a on live is (message_of octets) refl
 
-        delivered : (r : Option Ask) → ask_on path s.asks ≡ r → IsQuiet n s.cache (row_of_delivery (turn c n words s) rooms from octets r)
+        delivered : (r : Option Ask) → ask_on path s.asks ≡ r → IsQuiet n s.cache (row_of_delivery (start c n words s) rooms from octets r)
         delivered None on = idle_is n s.cache s own
         delivered (Some a) on = cond_both (nat_lt n (timeout_of c a)) _ _ (IsQuiet n s.cache)
             (λ t. judged a on t (judge a from octets) refl)
@@ -176,16 +176,16 @@ module _ (c : Config) (n : ℕ) (words : List ℕ) (s : State) where
 
     -- one that is accepted is an acceptance
     pub heard_is : (a : Ask) (m : Message) → ask_on path s.asks ≡ Some a → nat_lt n (timeout_of c a) ≡ true → judge a from octets ≡ Whole → message_of octets ≡ Ok m → is_lame (walk_of c m a.question a.route).end ≡ false
-        → row_of_delivery (turn c n words s) rooms from octets (ask_on path s.asks) ≡ row_of_acceptance (turn c n words s) rooms a (walk_of c m a.question a.route)
+        → row_of_delivery (start c n words s) rooms from octets (ask_on path s.asks) ≡ row_of_acceptance (start c n words s) rooms a (walk_of c m a.question a.route)
     heard_is a m on live whole read fine =
-        ap (row_of_delivery (turn c n words s) rooms from octets) on
+        ap (row_of_delivery (start c n words s) rooms from octets) on
         ∙ cond-true (nat_lt n (timeout_of c a)) _ _ live
-        ∙ ap (row_of_verdict (turn c n words s) rooms a octets) whole
-        ∙ ap (row_of_message (turn c n words s) rooms a) read
+        ∙ ap (row_of_verdict (start c n words s) rooms a octets) whole
+        ∙ ap (row_of_message (start c n words s) rooms a) read
         ∙ cond-false (is_lame (walk_of c m a.question a.route).end) _ _ fine
 
   -- the end of its walk promotes the entries that look-ups used
-  pub end_is : (a : Ask) (w : Walk) (fate : Waiting → Fate) (e : End) → IsQuiet n s.cache (row_of_end (turn c n words (with_preferred_server a s)) a w fate e)
+  pub end_is : (a : Ask) (w : Walk) (fate : Waiting → Fate) (e : End) → IsQuiet n s.cache (row_of_end (start c n words (with_preferred_server a s)) a w fate e)
   end_is a w fate (elsewhere name) = sent_is n s.cache (with_promoted (used_by c n s.cache.entries a w s.waiting) (with_preferred_server a s)) (used_by c n s.cache.entries a w s.waiting, refl) c words a fate
       (to_be_asked (without_path a.path s.asks) (still_waiting (map fate (filter (waits_for a.question) s.waiting))))
   end_is a w fate found = record { used = []; cache_is = refl; moment_is = refl }

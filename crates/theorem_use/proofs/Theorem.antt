@@ -19,16 +19,16 @@ use Rattle.trust_rank.specs.Walks.{most_aliases, walk_of}
 use Rattle.record_cache.specs.Values.{Held, Cache}
 use Rattle.record_cache.specs.Entries.{AreHeld}
 use Rattle.step_values.specs.declared.event.Client.{Client}
-use Rattle.step_values.specs.Values.{Event, from_client, delivery, path_failed, tick, restart, Request, Delivered, Handed, Outcome, Step}
+use Rattle.step_values.specs.Values.{Event, from_client, delivery, path_failed, tick, restart, Request, Delivered, StepInput, Outcome, Step}
 use Rattle.step_history.specs.History.{is_restart, moment_at, Carries, NothingAccepted}
 use Rattle.step_values.specs.Requests.{is_taken}
 use Rattle.step_history.specs.Carried.{CarriedInEra, then_carried}
 use Rattle.step_history.specs.Sound.{unanswered}
-use Rattle.step_table.specs.State.{State, turn}
+use Rattle.step_table.specs.State.{State, start}
 use Rattle.waiting_questions.specs.Values.{Waiting}
 use Rattle.alias_chains.specs.LookingUp.{LookUp, look_up, promoted_all}
 use Rattle.alias_chains.specs.Offering.{put_all, unkept_of}
-use Rattle.step_table.specs.Steps.{Done, start}
+use Rattle.step_table.specs.Steps.{Done, initial}
 use Rattle.step_table.specs.Row.{is_due_at, Happens, HandsOctets, effective, Row}
 use Rattle.step_table.specs.Replies.{fate_by, row_of_end, row_of_acceptance, row_of_delivery}
 use Rattle.step_table.specs.Clients.{row_of_request}
@@ -83,7 +83,7 @@ module _ (c : Config) (past : List Step) (w : List (List ℕ)) (s : State) (x : 
   n = effective now s
 
   abbrev told : Event → Done → Step
-  told e d = record { handed = record { now = now; words = words; event = e }; outcome = record { actions = d.actions; unkept = unkept; more = more } }
+  told e d = record { input = record { now = now; words = words; event = e }; outcome = record { actions = d.actions; unkept = unkept; more = more } }
 
   later : s.moment ≤ n
   later = omega arith
@@ -115,7 +115,7 @@ module _ (c : Config) (past : List Step) (w : List (List ℕ)) (s : State) (x : 
     event = delivery path from octets
 
     abbrev row : Done
-    row = row_of_delivery (turn c n words s) rooms from octets (ask_on path s.asks)
+    row = row_of_delivery (start c n words s) rooms from octets (ask_on path s.asks)
 
     module _ (d : Done) (is_row : d ≡ row) where
       -- an accepted reply is offered
@@ -129,10 +129,10 @@ module _ (c : Config) (past : List Step) (w : List (List ℕ)) (s : State) (x : 
         abbrev pieces : List Piece
         pieces = walk.pieces ++ walk.authority
 
-        accepted : d ≡ row_of_acceptance (turn c n words s) rooms h.ask walk
+        accepted : d ≡ row_of_acceptance (start c n words s) rooms h.ask walk
         accepted = is_row ∙ heard_is c n words s rooms path from octets h.ask h.message h.on h.live h.whole h.read h.fine
 
-        ended : IsQuiet n s.cache (row_of_end (turn c n words (Rattle.step_table.specs.Steps.with_preferred_server h.ask s)) h.ask walk (fate_by c n s.cache.entries h.ask walk) walk.end)
+        ended : IsQuiet n s.cache (row_of_end (start c n words (Rattle.step_table.specs.Steps.with_preferred_server h.ask s)) h.ask walk (fate_by c n s.cache.entries h.ask walk) walk.end)
         ended = end_is c n words s h.ask walk (fate_by c n s.cache.entries h.ask walk) walk.end
 
         abbrev entries : List Held
@@ -191,7 +191,7 @@ module _ (c : Config) (past : List Step) (w : List (List ℕ)) (s : State) (x : 
   -- ---- a question that is known
 
   module _ (client : Client) (octets : List ℕ) (are : AreOctets octets) (d : Done)
-      (is_row : d ≡ row_of_request (turn c n words s) client octets) where
+      (is_row : d ≡ row_of_request (start c n words s) client octets) where
     abbrev step : Step
     step = told (from_client client octets) d
 
@@ -251,7 +251,7 @@ module _ (c : Config) (past : List Step) (w : List (List ℕ)) (s : State) (x : 
 
   -- a message that the cache answers owns its answer; for any other nothing is claimed
   message_after : (client : Client) (octets : List ℕ) (are : AreOctets octets) (d : Done)
-      → d ≡ row_of_request (turn c n words s) client octets → more ≡ is_due_at c d.state.moment d.state
+      → d ≡ row_of_request (start c n words s) client octets → more ≡ is_due_at c d.state.moment d.state
       → IsExplainedAfter (from_client client octets) d → (b : Bool)
       → is_hit c past w s x now words unkept more client octets are ≡ b → IsUsedAfter (from_client client octets) d
   message_after client octets are d h more_is other true hit = (
@@ -287,7 +287,7 @@ module _ (c : Config) (past : List Step) (w : List (List ℕ)) (s : State) (x : 
         absurd (true≢false (sym (hit_is c past w s x now words unkept more client octets are hit) ∙ not_hit)),
   )
 
-  used_after : (e : Event) → HandsOctets e → (d : Done) → Happens (turn c n words s) e d
+  used_after : (e : Event) → HandsOctets e → (d : Done) → Happens (start c n words s) e d
       → more ≡ is_due_at c d.state.moment d.state → IsExplainedAfter e d → IsUsedAfter e d
   used_after (from_client client octets) are d h more_is other =
       message_after client octets are d h more_is other
@@ -304,7 +304,7 @@ module _ (c : Config) (past : List Step) (w : List (List ℕ)) (s : State) (x : 
   used_after restart are d h more_is other =
       (other.0, other.1, λ client q carried asks is room known. absurd (none_sent _ asks.sends))
 
-  mirrored_after : (e : Event) → HandsOctets e → (d : Done) → Happens (turn c n words s) e d → d.unkept ≡ unkept
+  mirrored_after : (e : Event) → HandsOctets e → (d : Done) → Happens (start c n words s) e d → d.unkept ≡ unkept
       → MirrorsAfter e d
   mirrored_after (from_client client octets) are d h same =
       quiet_after (from_client client octets) d refl
@@ -322,16 +322,16 @@ module _ (c : Config) (past : List Step) (w : List (List ℕ)) (s : State) (x : 
       nothing_there : (t : ℕ) → Mirrors t [] []
       nothing_there t = record { was_carried = λ y among. among; stands = λ m le y among alive. among; held = λ m le y among. among }
 
-      restarted : (d : Done) → d ≡ record { actions = []; unkept = 0; state = start c } → MirrorsAfter restart d
+      restarted : (d : Done) → d ≡ record { actions = []; unkept = 0; state = initial c } → MirrorsAfter restart d
       restarted d h carried (inl (restarts, is)) room = subst (λ (z : Done × List Held). Mirrors z.0.state.moment z.1 z.0.state.cache.entries) (λ i. (sym h i, sym is i)) (nothing_there 0)
       restarted d h carried (inr (inl (goes, silent, is))) room = absurd (true≢false goes)
       restarted d h carried (inr (inr (goes, ps, os, carries_it, is, all))) room = absurd (true≢false goes)
 
 -- ---- rows, and runs
 
-pub row_fully_explained : (c : Config) (past : List Step) (w : List (List ℕ)) (s : State) (h : Handed) (o : Outcome)
+pub row_fully_explained : (c : Config) (past : List Step) (w : List (List ℕ)) (s : State) (h : StepInput) (o : Outcome)
     (s' : State) → FullyExplains c past w s → Row c s h o s'
-    → (os : List ℕ) × FullyExplains c (record { handed = h; outcome = o } ∷ past) (os ∷ w) s'
+    → (os : List ℕ) × FullyExplains c (record { input = h; outcome = o } ∷ past) (os ∷ w) s'
 row_fully_explained c past w s h o s' both r = (
   used.0,
   record {
@@ -343,7 +343,7 @@ row_fully_explained c past w s h o s' both r = (
 )
   where
     t : Step
-    t = record { handed = h; outcome = o }
+    t = record { input = h; outcome = o }
 
     d : Done
     d = record { actions = o.actions; unkept = o.unkept; state = s' }
@@ -359,7 +359,7 @@ row_fully_explained c past w s h o s' both r = (
 
     -- an accepted delivery carries pieces
     gives : (e : Event) → HandsOctets e
-        → GivesIfHeard c (effective h.now s) s (NothingAccepted c (record { handed = record h { event = e }; outcome = o })
+        → GivesIfHeard c (effective h.now s) s (NothingAccepted c (record { input = record h { event = e }; outcome = o })
         past → ⊥) e
     gives (from_client client octets) are = tt
     gives (delivery path from octets) are = λ a there m live whole read fine quiet. quiet
@@ -374,11 +374,11 @@ row_fully_explained c past w s h o s' both r = (
     on = event_row c (effective h.now s) h.words s both.served both.explained.asks_are.by_arrival
         (NothingAccepted c t past → ⊥) past both.explained.tried h.event d (gives h.event r.octets) r.happens
 
-pub row_stays_fully_explained : (c : Config) (s : State) (h : Handed) (o : Outcome) (s' : State) → Row c s h o s'
+pub row_stays_fully_explained : (c : Config) (s : State) (h : StepInput) (o : Outcome) (s' : State) → Row c s h o s'
     → StaysFullyExplained c s h o s'
 row_stays_fully_explained c s h o s' r = λ past w both. row_fully_explained c past w s h o s' both r
 
-pub start_fully_explained : (c : Config) → IsConfig c → FullyExplains c [] [] (start c)
+pub start_fully_explained : (c : Config) → IsConfig c → FullyExplains c [] [] (initial c)
 start_fully_explained c config = record {
   explained = start_explained c config;
   mirrored = record {
@@ -395,7 +395,7 @@ run_fully_explained : (c : Config) (s s' : State) (steps : List Step) (past : Li
     → (w' : List (List ℕ)) × FullyExplains c (reverse steps ++ past) w' s'
 run_fully_explained c s s' [] past w both run = (w, subst (FullyExplains c past w) (sym run) both)
 run_fully_explained c s s' (t ∷ steps) past w both run =
-    let more = row_fully_explained c past w s t.handed t.outcome run.0 both run.1 in
+    let more = row_fully_explained c past w s t.input t.outcome run.0 both run.1 in
     let rest = run_fully_explained c run.0 s' steps (t ∷ past) (more.0 ∷ w) more.1 run.2 in (
       rest.0,
       subst (λ (all : List Step). FullyExplains c all rest.0 s')
@@ -417,7 +417,7 @@ few_wait c past w s x =
 -- all claims have one list of owners
 pub run_serves_truly : (c : Config) (steps : List Step) (s : State) → ComesTo c steps s → ServesTruly c steps
 run_serves_truly c steps s came =
-    let all = run_fully_explained c (start c) s steps [] [] (start_fully_explained c came.config) came.run in
+    let all = run_fully_explained c (initial c) s steps [] [] (start_fully_explained c came.config) came.run in
     let one = subst (λ (past : List Step). FullyExplains c past all.0 s) (append-nil (reverse steps)) all.1 in
     record {
       sound = record {
@@ -443,7 +443,7 @@ pub comes_on : (c : Config) (s s' : State) (steps more : List Step) → ComesTo 
 comes_on c s s' steps more came run = record {
   config = came.config;
   run =
-      run_goes_on c (start c) s s' steps more came.run run;
+      run_goes_on c (initial c) s s' steps more came.run run;
 }
 
 -- a run of rows serves on truly
@@ -452,14 +452,14 @@ run_serves_on c s s' more run = λ steps came. run_serves_truly c (steps ++ more
     (comes_on c s s' steps more came run)
 
 -- so does one row
-pub row_serves_on : (c : Config) (s : State) (h : Handed) (o : Outcome) (s' : State) → Row c s h o s'
-    → ServesOnTruly c s (record { handed = h; outcome = o } ∷ [])
-row_serves_on c s h o s' r = run_serves_on c s s' (record { handed = h; outcome = o } ∷ []) (s', r, refl)
+pub row_serves_on : (c : Config) (s : State) (h : StepInput) (o : Outcome) (s' : State) → Row c s h o s'
+    → ServesOnTruly c s (record { input = h; outcome = o } ∷ [])
+row_serves_on c s h o s' r = run_serves_on c s s' (record { input = h; outcome = o } ∷ []) (s', r, refl)
 
 -- the same, where a step was stored
-pub came_more : (c c' : Config) (steps steps' : List Step) (s s' : State) (h : Handed) (o : Outcome) → c' ≡ c
-    → steps' ≡ steps ++ record { handed = h; outcome = o } ∷ []
+pub came_more : (c c' : Config) (steps steps' : List Step) (s s' : State) (h : StepInput) (o : Outcome) → c' ≡ c
+    → steps' ≡ steps ++ record { input = h; outcome = o } ∷ []
     → ComesTo c steps s → Row c s h o s' → ComesTo c' steps' s'
 came_more c c' steps steps' s s' h o same pushed came row =
     subst (λ (p : Config × List Step). ComesTo p.0 p.1 s') (λ i. (sym same i, sym pushed i))
-    (comes_on c s s' steps (record { handed = h; outcome = o } ∷ []) came (s', row, refl))
+    (comes_on c s s' steps (record { input = h; outcome = o } ∷ []) came (s', row, refl))

@@ -24,7 +24,7 @@ use Rattle.step_history.specs.History.{Sends}
 use Rattle.step_history.specs.Carried.{CarriedInEra}
 use Rattle.step_history.specs.Sound.{RightReply}
 use Rattle.step_table.specs.State.{State}
-use Rattle.step_table.specs.Steps.{start}
+use Rattle.step_table.specs.Steps.{initial}
 use Rattle.step_table.proofs.Played.{server, client, config}
 use Rattle.theorem_use.specs.Service.{ServesTruly, ComesTo}
 use Rattle.theorem_use.specs.Standing.{standing}
@@ -136,7 +136,7 @@ too_many_slots h = by h.slots h.few h.each
 -- the claim is about memory in the newest step's era alone
 abbrev after : Event → ℕ → Step
 after e unkept = record {
-  handed = record { now = 1000; words = []; event = e };
+  input = record { now = 1000; words = []; event = e };
   outcome = record { actions = []; unkept = unkept; more = false };
 }
 
@@ -170,7 +170,7 @@ too_far known = known
 -- at 2000 time passes, and this is done
 abbrev pub doing : List Action → Step
 doing actions = record {
-  handed = record { now = 2000; words = []; event = tick };
+  input = record { now = 2000; words = []; event = tick };
   outcome = record { actions = actions; unkept = 0; more = false };
 }
 
@@ -208,7 +208,7 @@ message id name kind = 0 ∷ id ∷ 1 ∷ 0 ∷ 0 ∷ 1 ∷ 0 ∷ 0 ∷ 0 ∷ 0 
 
 abbrev pub step_at : ℕ → Event → List Action → Step
 step_at now e actions = record {
-  handed = record { now = now; words = []; event = e };
+  input = record { now = now; words = []; event = e };
   outcome = record { actions = actions; unkept = 0; more = false };
 }
 
@@ -291,7 +291,7 @@ own_question octets right = (
     servers : Question
     servers = record { name = example; kind = 2; class = 1 }
 
-    servers_are : (asker : Client) (q : Question) (octets : List ℕ) → Sends asks_for_servers.handed.event asker octets
+    servers_are : (asker : Client) (q : Question) (octets : List ℕ) → Sends asks_for_servers.input.event asker octets
         → one_question octets ≡ Some q → servers ≡ q
     servers_are asker q octets sent reads =
         let first : Request = record { client = client; octets = message 7 [] 2 } in
@@ -362,8 +362,8 @@ one_list octets is h older =
     older_question octets is (subst (UsesWhatStands config (asks_again octets ∷ before)) older h.uses)
 
 -- without steps a new forwarder is where it began, and nowhere else
-where_it_began : IsConfig config → ComesTo config [] (start config)
+where_it_began : IsConfig config → ComesTo config [] (initial config)
 where_it_began accepted = record { config = accepted; run = refl }
 
-elsewhere : ComesTo config [] (record (start config) { moment = 1 }) → ⊥
+elsewhere : ComesTo config [] (record (initial config) { moment = 1 }) → ⊥
 elsewhere came = let moments : 1 ≡ 0 = ap (λ (s : State). s.moment) came.run in omega (arith, moments)

@@ -27,7 +27,7 @@ pub record Wants (c : Config) (now : List Step) (i : ℕ) (wanted : Question) : 
   pub number : i ≡ length before
   pub client : Client
   pub request : List ℕ
-  pub sent : Sends asked.handed.event client request
+  pub sent : Sends asked.input.event client request
   pub question : Question
   pub reads : Reads request question
   pub aliases : List Held

@@ -4,7 +4,7 @@ use Rattle.suffix_routes.specs.Values.{Config}
 use Rattle.record_cache.specs.Values.{Held}
 use Rattle.record_cache.specs.Ageing.{is_alive}
 use Rattle.record_cache.specs.Laws.{Among}
-use Rattle.step_values.specs.Values.{Handed, Outcome, Step}
+use Rattle.step_values.specs.Values.{StepInput, Outcome, Step}
 use Rattle.step_history.specs.Carried.{CarriedInEra}
 use Rattle.step_table.specs.State.{State}
 use Rattle.theorem_sound.specs.Explains.{Explains}
@@ -34,7 +34,7 @@ pub record FullyExplains (c : Config) (past : List Step) (w : List (List ℕ)) (
   pub asked : AsksForThoseWhoWait c past w
 
 -- a history that fully explains s, and this step, fully explain s' for some owners
-abbrev pub StaysFullyExplained : Config → State → Handed → Outcome → State → Type 0
+abbrev pub StaysFullyExplained : Config → State → StepInput → Outcome → State → Type 0
 StaysFullyExplained c s h o s' =
     (past : List Step) (w : List (List ℕ)) → FullyExplains c past w s
-    → (owners : List ℕ) × FullyExplains c (record { handed = h; outcome = o } ∷ past) (owners ∷ w) s'
+    → (owners : List ℕ) × FullyExplains c (record { input = h; outcome = o } ∷ past) (owners ∷ w) s'

@@ -4,7 +4,7 @@ use Rattle.suffix_routes.specs.Values.{Config, IsConfig}
 use Rattle.step_values.specs.Values.{Step}
 use Rattle.step_history.specs.Asked.{AsksWell}
 use Rattle.step_table.specs.State.{State}
-use Rattle.step_table.specs.Steps.{start}
+use Rattle.step_table.specs.Steps.{initial}
 use Rattle.theorem_sound.specs.Runs.{Run, IsSound}
 use Rattle.theorem_use.specs.Use.{UsesWhatStands}
 use Rattle.theorem_use.specs.Asking.{AsksForThoseWhoWait}
@@ -37,7 +37,7 @@ pub record ServesTruly (c : Config) (steps : List Step) : Type 0 where
 -- these steps, the oldest first, lead from a new forwarder with an accepted configuration to s
 pub record ComesTo (c : Config) (steps : List Step) (s : State) : Type 0 where
   pub config : IsConfig c
-  pub run : Run c (start c) steps s
+  pub run : Run c (initial c) steps s
 
 -- after any steps that led a new forwarder to s, these and those steps together serve truly
 abbrev pub ServesOnTruly : Config → State → List Step → Type 0

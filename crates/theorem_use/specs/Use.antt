@@ -49,7 +49,7 @@ pub record HasRoom (c : Config) (past : List Step) (carried : List Held) : Type 
 -- an accepted client's message: opcode 0, and one question whose type, class and name are served
 pub record AsksToLookUp (c : Config) (s : Step) (client : Client) (q : Question) : Type 0 where
   pub octets : List ℕ
-  pub sends : Sends s.handed.event client octets
+  pub sends : Sends s.input.event client octets
   pub taken : is_taken octets ≡ true
   pub opcode : (header_in octets).opcode ≡ 0
   pub reads : Reads octets q

@@ -76,23 +76,23 @@ module _ (p : ℕ → Bool) (turns keys : List ℕ) (start end : ℕ) (low : sta
   total = ap (λ (ks : List ℕ). length ks) are ∙ length-between keys start end high
 
   -- the number of keys before one at a place between
-  pub stands_at : (middle turn : ℕ) → start ≤ middle → middle < end → turn < length turns → slice_index turns turn ≡ slice_index keys middle → (start + earlier p turns turn ≡ middle) × (p (slice_index turns turn) ≡ true)
-  stands_at middle turn from less within is =
+  pub stands_at : (middle arrival_rank : ℕ) → start ≤ middle → middle < end → arrival_rank < length turns → slice_index turns arrival_rank ≡ slice_index keys middle → (start + earlier p turns arrival_rank ≡ middle) × (p (slice_index turns arrival_rank) ≡ true)
+  stands_at middle arrival_rank from less within is =
       let back : start + (middle - start) ≡ middle = omega (arith, from) in
       let here : slice_index (filter p turns) (middle - start) ≡ slice_index keys middle =
       ap (λ (ks : List ℕ). slice_index ks (middle - start)) are ∙ get_or-between keys start end (middle - start) 0 (omega (arith, from, less)) ∙ ap (slice_index keys) back in
-      let both = counted p turns turn (middle - start) apart within (omega (arith, total, from, less)) (is ∙ sym here) in
+      let both = counted p turns arrival_rank (middle - start) apart within (omega (arith, total, from, less)) (is ∙ sym here) in
       (omega (arith, both.0, back), both.1)
 
-  pub before_turn : (middle place turn : ℕ) → start ≤ middle → middle < end → place < length turns → slice_index turns place ≡ slice_index keys middle → place < turn → middle + 1 ≤ start + earlier p turns turn
-  before_turn middle place turn from less within is first =
+  pub before_rank : (middle place arrival_rank : ℕ) → start ≤ middle → middle < end → place < length turns → slice_index turns place ≡ slice_index keys middle → place < arrival_rank → middle + 1 ≤ start + earlier p turns arrival_rank
+  before_rank middle place arrival_rank from less within is first =
       let at = stands_at middle place from less within is in
-      omega (arith, at.0, grows_past p turns place turn first within at.1)
+      omega (arith, at.0, grows_past p turns place arrival_rank first within at.1)
 
-  pub behind_turn : (middle place turn : ℕ) → start ≤ middle → middle < end → place < length turns → slice_index turns place ≡ slice_index keys middle → turn ≤ place → start + earlier p turns turn ≤ middle
-  behind_turn middle place turn from less within is first =
+  pub after_rank : (middle place arrival_rank : ℕ) → start ≤ middle → middle < end → place < length turns → slice_index turns place ≡ slice_index keys middle → arrival_rank ≤ place → start + earlier p turns arrival_rank ≤ middle
+  after_rank middle place arrival_rank from less within is first =
       let at = stands_at middle place from less within is in
-      omega (arith, at.0, grows p turns turn place first)
+      omega (arith, at.0, grows p turns arrival_rank place first)
 
 -- the keys between are in turn
 pub listed_at : (turns keys : List ℕ) (start end middle key : ℕ) → end ≤ length keys → All (Contains turns) (between start end keys) → start ≤ middle → middle < end → key ≡ slice_index keys middle → Contains turns key

@@ -44,43 +44,43 @@ module _ (q : Question) (s : Slab Waiting) (p t : List ℕ) (indexed : AreIndexe
   pub its_key : (key : ℕ) → slice_index p (i + n) ≡ key → Contains t key
   its_key key read = subst (Contains t) read (key_in_turn s p t indexed (i + n) within)
 
-  module _ (turn : ℕ) (t_in : turn < length t) (one : slice_index p (i + n) ≡ slice_index t turn) where
-    stands : (i + earlier (waits_at s q) t turn ≡ i + n) × (waits_at s q (slice_index t turn) ≡ true)
-    stands = stands_at (waits_at s q) t p i j range.low range.high indexed.turns.apart (in_range s p t indexed q i j range) (i + n) turn (omega arith) before_end t_in (sym one)
+  module _ (arrival_rank : ℕ) (t_in : arrival_rank < length t) (one : slice_index p (i + n) ≡ slice_index t arrival_rank) where
+    stands : (i + earlier (waits_at s q) t arrival_rank ≡ i + n) × (waits_at s q (slice_index t arrival_rank) ≡ true)
+    stands = stands_at (waits_at s q) t p i j range.low range.high indexed.turns.apart (in_range s p t indexed q i j range) (i + n) arrival_rank (omega arith) before_end t_in (sym one)
 
-    its : (x : Waiting) × (get s (slice_index t turn) ≡ Some x)
-    its = value_of (get s (slice_index t turn)) (indexed.turns.present turn 0 t_in)
+    its : (x : Waiting) × (get s (slice_index t arrival_rank) ≡ Some x)
+    its = value_of (get s (slice_index t arrival_rank)) (indexed.turns.present arrival_rank 0 t_in)
 
-    is_there : slice_get (waiting_under s t) turn ≡ Some its.0
-    is_there = at_under s t turn indexed.turns.present t_in ∙ its.1
+    is_there : slice_get (waiting_under s t) arrival_rank ≡ Some its.0
+    is_there = at_under s t arrival_rank indexed.turns.present t_in ∙ its.1
 
     waits : waits_for q its.0 ≡ true
     waits = sym (ap (passes (waits_for q)) its.1) ∙ stands.1
 
-    as_many : length (filter (waits_for q) (take turn (waiting_under s t))) ≡ length left
+    as_many : length (filter (waits_for q) (take arrival_rank (waiting_under s t))) ≡ length left
     as_many =
-        let present = All-filter (waits_at s q) (λ key. IsSome (get s key)) (take turn t) (All-take (λ key. IsSome (get s key)) turn t indexed.turns.present) in
-        let count : length (filter (waits_for q) (take turn (waiting_under s t))) ≡ earlier (waits_at s q) t turn =
-        ap (λ (xs : List Waiting). length (filter (waits_for q) xs)) (taken_under s t turn indexed.turns.present)
-        ∙ ap (λ (xs : List Waiting). length xs) (filter_under (waits_for q) s (take turn t))
-        ∙ length_under s (filter (waits_at s q) (take turn t)) present in
+        let present = All-filter (waits_at s q) (λ key. IsSome (get s key)) (take arrival_rank t) (All-take (λ key. IsSome (get s key)) arrival_rank t indexed.turns.present) in
+        let count : length (filter (waits_for q) (take arrival_rank (waiting_under s t))) ≡ earlier (waits_at s q) t arrival_rank =
+        ap (λ (xs : List Waiting). length (filter (waits_for q) xs)) (taken_under s t arrival_rank indexed.turns.present)
+        ∙ ap (λ (xs : List Waiting). length xs) (filter_under (waits_for q) s (take arrival_rank t))
+        ∙ length_under s (filter (waits_at s q) (take arrival_rank t)) present in
         omega (arith, count, stands.0, long)
 
-    module _ (after : List Waiting) (changed : (x : Waiting) → slice_get (waiting_under s t) turn ≡ Some x → after ≡ with_at (waiting_under s t) turn (left_by fate x)) where
+    module _ (after : List Waiting) (changed : (x : Waiting) → slice_get (waiting_under s t) arrival_rank ≡ Some x → after ≡ with_at (waiting_under s t) arrival_rank (left_by fate x)) where
       pub next_settled : settled q left after ≡ settled q fates (waiting_under s t)
       next_settled =
           ap (settled q left) (changed its.0 is_there)
-          ∙ sym (last_fate q left fate (waiting_under s t) turn its.0 is_there waits as_many)
+          ∙ sym (last_fate q left fate (waiting_under s t) arrival_rank its.0 is_there waits as_many)
           ∙ ap (λ (fs : List (Option Onward)). settled q fs (waiting_under s t)) (sym are)
 
       pub next_enough : length left ≤ length (filter (waits_for q) after)
       next_enough =
           let xs = waiting_under s t in
-          let rest : List Waiting = cons_option (left_by fate its.0) (drop (suc turn) xs) in
+          let rest : List Waiting = cons_option (left_by fate its.0) (drop (suc arrival_rank) xs) in
           omega (
             arith,
             as_many,
             ap (λ (ys : List Waiting). length (filter (waits_for q) ys)) (changed its.0 is_there),
-            ap (λ (ys : List Waiting). length ys) (filter-append (waits_for q) (take turn xs) rest),
-            length-append (filter (waits_for q) (take turn xs)) (filter (waits_for q) rest),
+            ap (λ (ys : List Waiting). length ys) (filter-append (waits_for q) (take arrival_rank xs) rest),
+            length-append (filter (waits_for q) (take arrival_rank xs)) (filter (waits_for q) rest),
           )

@@ -157,24 +157,24 @@ module _ (s : Slab Waiting) (by_question by_arrival : List ℕ) (indexed : AreIn
       same = left_same;
     }
 
-    module _ (place turn : ℕ) (p_in : place < length by_question) (t_in : turn < length by_arrival) (p_is : slice_index by_question place ≡ key) (t_is : slice_index by_arrival turn ≡ key) where
-      pub take_indexed : AreIndexed s' (remove by_question place) (remove by_arrival turn)
-      take_indexed = subst₂ (AreIndexed s') (sym (removed by_question place key p_in p_is indexed.questions.apart)) (sym (removed by_arrival turn key t_in t_is indexed.turns.apart)) left_indexed
+    module _ (place arrival_rank : ℕ) (p_in : place < length by_question) (t_in : arrival_rank < length by_arrival) (p_is : slice_index by_question place ≡ key) (t_is : slice_index by_arrival arrival_rank ≡ key) where
+      pub take_indexed : AreIndexed s' (remove by_question place) (remove by_arrival arrival_rank)
+      take_indexed = subst₂ (AreIndexed s') (sym (removed by_question place key p_in p_is indexed.questions.apart)) (sym (removed by_arrival arrival_rank key t_in t_is indexed.turns.apart)) left_indexed
 
-      pub take_items : waiting_under s' (remove by_arrival turn) ≡ remove (waiting_under s by_arrival) turn
+      pub take_items : waiting_under s' (remove by_arrival arrival_rank) ≡ remove (waiting_under s by_arrival) arrival_rank
       take_items =
-          same_under s s' (remove by_arrival turn) (subst (λ ks. All (λ n. get s' n ≡ get s n) ks) (sym (removed by_arrival turn key t_in t_is indexed.turns.apart)) (stay_others IsByTaken s s' by_arrival indexed.turns key updates))
-          ∙ remove_under s by_arrival turn indexed.turns.present t_in
+          same_under s s' (remove by_arrival arrival_rank) (subst (λ ks. All (λ n. get s' n ≡ get s n) ks) (sym (removed by_arrival arrival_rank key t_in t_is indexed.turns.apart)) (stay_others IsByTaken s s' by_arrival indexed.turns key updates))
+          ∙ remove_under s by_arrival arrival_rank indexed.turns.present t_in
 
   -- one that waits for the question goes: the others are the same
-  pub others_stay : (q : Question) (i p turn : ℕ) → IsRange (to_question (question_key q)) s by_question i (suc p) → i ≤ p → turn < length by_arrival → slice_index by_question p ≡ slice_index by_arrival turn
-      → filter (λ x. not (waits_for q x)) (remove (waiting_under s by_arrival) turn) ≡ filter (λ x. not (waits_for q x)) (waiting_under s by_arrival)
-  others_stay q i p turn range le t_in one =
-      let a = value_of (get s (slice_index by_arrival turn)) (indexed.turns.present turn 0 t_in) in
+  pub others_stay : (q : Question) (i p arrival_rank : ℕ) → IsRange (to_question (question_key q)) s by_question i (suc p) → i ≤ p → arrival_rank < length by_arrival → slice_index by_question p ≡ slice_index by_arrival arrival_rank
+      → filter (λ x. not (waits_for q x)) (remove (waiting_under s by_arrival) arrival_rank) ≡ filter (λ x. not (waits_for q x)) (waiting_under s by_arrival)
+  others_stay q i p arrival_rank range le t_in one =
+      let a = value_of (get s (slice_index by_arrival arrival_rank)) (indexed.turns.present arrival_rank 0 t_in) in
       let waits : waits_for q a.0 ≡ true =
       sym (ap (passes (waits_for q)) a.1) ∙ ap (waits_at s q) (sym one) ∙ waits_among s by_question indexed.questions.present q i (suc p) range p le (omega arith) in
-      filter_remove (λ x. not (waits_for q x)) (waiting_under s by_arrival) turn a.0 (omega (arith, length_under s by_arrival indexed.turns.present))
-      (at_under s by_arrival turn indexed.turns.present t_in ∙ a.1) (ap not waits)
+      filter_remove (λ x. not (waits_for q x)) (waiting_under s by_arrival) arrival_rank a.0 (omega (arith, length_under s by_arrival indexed.turns.present))
+      (at_under s by_arrival arrival_rank indexed.turns.present t_in ∙ a.1) (ap not waits)
 
 one_more : (n : ℕ) → nat_lt 0 n ≡ nat_lt 1 (suc n)
 one_more zero = refl
@@ -252,8 +252,8 @@ module _ (q : Question) (left : List Waiting) (s : Slab Waiting) (by_question by
     pub newest_in_turn : Contains by_arrival key
     newest_in_turn = subst (Contains by_arrival) stands (key_in_turn s keys by_arrival ending.indexed (place - 1) within)
 
-    pub newest_ends : (s' : Slab Waiting) → Updates s s' key None → (turn : ℕ) → turn < length by_arrival → slice_index by_arrival turn ≡ key → (turns : List ℕ) → turns ≡ remove by_arrival turn → IsEnding q left s' by_question turns i (place - 1) end
-    newest_ends s' updates turn t_in t_is turns are =
+    pub newest_ends : (s' : Slab Waiting) → Updates s s' key None → (arrival_rank : ℕ) → arrival_rank < length by_arrival → slice_index by_arrival arrival_rank ≡ key → (turns : List ℕ) → turns ≡ remove by_arrival arrival_rank → IsEnding q left s' by_question turns i (place - 1) end
+    newest_ends s' updates arrival_rank t_in t_is turns are =
         let last : place ≡ suc (place - 1) = omega (arith, some) in
         let le : i ≤ place - 1 = omega (arith, some) in
         let range : IsRange (to_question (question_key q)) s keys i (suc (place - 1)) = subst (λ (n : ℕ). IsRange (to_question (question_key q)) s keys i n) last ending.range in
@@ -261,10 +261,10 @@ module _ (q : Question) (left : List Waiting) (s : Slab Waiting) (by_question by
         ap (λ (n : ℕ). remove (remove_range by_question n end) (place - 1)) last ∙ range_grows by_question (place - 1) end (omega (arith, some, ending.low, ending.high)) in
         let gone : Updates s s' (slice_index keys (place - 1)) None = subst (λ (k : ℕ). Updates s s' k None) (sym stands) updates in
         record {
-          indexed = subst₂ (AreIndexed s') shorter (sym are) (take_indexed s keys by_arrival ending.indexed s' key updates (place - 1) turn within t_in stands t_is);
+          indexed = subst₂ (AreIndexed s') shorter (sym are) (take_indexed s keys by_arrival ending.indexed s' key updates (place - 1) arrival_rank within t_in stands t_is);
           waiting = ap (λ (ks : List ℕ). filter (λ x. not (waits_for q x)) (waiting_under s' ks)) are
-              ∙ ap (filter (λ x. not (waits_for q x))) (take_items s keys by_arrival ending.indexed s' key updates (place - 1) turn within t_in stands t_is)
-              ∙ others_stay s keys by_arrival ending.indexed q i (place - 1) turn range le t_in (stands ∙ sym t_is) ∙ ending.waiting;
+              ∙ ap (filter (λ x. not (waits_for q x))) (take_items s keys by_arrival ending.indexed s' key updates (place - 1) arrival_rank within t_in stands t_is)
+              ∙ others_stay s keys by_arrival ending.indexed q i (place - 1) arrival_rank range le t_in (stands ∙ sym t_is) ∙ ending.waiting;
           range = subst (λ (ks : List ℕ). IsRange (to_question (question_key q)) s' ks i (place - 1)) shorter (range_left IsByQuestion s s' keys (to_question (question_key q)) i (place - 1) ending.indexed.questions le range gone);
           low = omega (arith, ending.low);
           high = ending.high;

@@ -34,18 +34,18 @@ same_waits q y waits (Some a) =
 
 -- ---- one more, in a turn of its own
 
-module _ (s s' : Slab Waiting) (p t : List ℕ) (indexed : AreIndexed s p t) (key : ℕ) (y : Waiting) (was : get s key ≡ None) (updates : Updates s s' key (Some y)) (i j : ℕ) (range : IsRange (to_question (question_key y.wanted)) s p i j) (turn at : ℕ) (turn_in : turn ≤ length t)
-    (at_is : at ≡ i + earlier (waits_at s y.wanted) t turn) where
+module _ (s s' : Slab Waiting) (p t : List ℕ) (indexed : AreIndexed s p t) (key : ℕ) (y : Waiting) (was : get s key ≡ None) (updates : Updates s s' key (Some y)) (i j : ℕ) (range : IsRange (to_question (question_key y.wanted)) s p i j) (arrival_rank at : ℕ) (arrival_rank_in : arrival_rank ≤ length t)
+    (at_is : at ≡ i + earlier (waits_at s y.wanted) t arrival_rank) where
   pub at_in : at ≤ j
   at_in =
       let count : length (filter (waits_at s y.wanted) t) ≡ j - i = ap (λ (ks : List ℕ). length ks) (in_range s p t indexed y.wanted i j range) ∙ length-between p i j range.high in
-      omega (arith, at_is, no_more (waits_at s y.wanted) t turn, count, range.low)
+      omega (arith, at_is, no_more (waits_at s y.wanted) t arrival_rank, count, range.low)
 
   at_within : at ≤ length p
   at_within = omega (arith, at_in, range.high)
 
   -- the number of its question's keys before it
-  before_it : earlier (waits_at s y.wanted) p at ≡ earlier (waits_at s y.wanted) t turn
+  before_it : earlier (waits_at s y.wanted) p at ≡ earlier (waits_at s y.wanted) t arrival_rank
   before_it =
       let long : length (take at p) ≡ at = omega (arith, length-take at p, at_within) in
       let low : i ≤ at = omega (arith, at_is) in
@@ -65,7 +65,7 @@ module _ (s s' : Slab Waiting) (p t : List ℕ) (indexed : AreIndexed s p t) (ke
       (All-from_get_or (λ n. (a : Waiting) → get s n ≡ Some a → IsByQuestion y a) (drop at p) 0 (λ k within a e.
       goes_before_those s p indexed.questions.present y i j range (at + k) a (omega (arith, at_is)) (omega (arith, within, length-drop at p)) (sym (ap (get s) (get_or-drop at p k 0)) ∙ e)))
 
-  placed_same : (q : Question) → filter (waits_at s' q) (insert p at key) ≡ filter (waits_at s' q) (insert t turn key)
+  placed_same : (q : Question) → filter (waits_at s' q) (insert p at key) ≡ filter (waits_at s' q) (insert t arrival_rank key)
   placed_same q =
       let p_stay = stay IsByQuestion s s' p indexed.questions key y was updates in
       let t_stay = stay IsByTaken s s' t indexed.turns key y was updates in
@@ -75,12 +75,12 @@ module _ (s s' : Slab Waiting) (p t : List ℕ) (indexed : AreIndexed s p t) (ke
       by (waits_for q y) refl p_stay t_stay all
     where
       by : (b : Bool) → waits_for q y ≡ b → All (λ n. get s' n ≡ get s n) p → All (λ n. get s' n ≡ get s n) t → filter (waits_at s' q) p ≡ filter (waits_at s' q) t
-          → filter (waits_at s' q) (insert p at key) ≡ filter (waits_at s' q) (insert t turn key)
+          → filter (waits_at s' q) (insert p at key) ≡ filter (waits_at s' q) (insert t arrival_rank key)
       by false e p_stay t_stay all =
           let fails : waits_at s' q key ≡ false = ap (passes (waits_for q)) updates.changed ∙ e in
           filter_insert (waits_at s' q) p at key at_within (λ passed. absurd (false≢true (sym fails ∙ passed)))
           ∙ ap (λ (ks : List ℕ). ks ++ filter (waits_at s' q) (key ∷ [])) all
-          ∙ sym (filter_insert (waits_at s' q) t turn key turn_in (λ passed. absurd (false≢true (sym fails ∙ passed))))
+          ∙ sym (filter_insert (waits_at s' q) t arrival_rank key arrival_rank_in (λ passed. absurd (false≢true (sym fails ∙ passed))))
       by true e p_stay t_stay all =
           let passed : waits_at s' q key ≡ true = ap (passes (waits_for q)) updates.changed ∙ e in
           let own : (keys : List ℕ) (n : ℕ) → All (λ m. get s' m ≡ get s m) keys → earlier (waits_at s' q) keys n ≡ earlier (waits_at s y.wanted) keys n =
@@ -88,13 +88,13 @@ module _ (s s' : Slab Waiting) (p t : List ℕ) (indexed : AreIndexed s p t) (ke
           ap (λ (ks : List ℕ). length ks)
           (filter_alike (waits_at s' q) (waits_at s y.wanted) (take n keys) (All-take (λ m. waits_at s' q m ≡ waits_at s y.wanted m) n keys (λ k d less. ap (passes (waits_for q)) (stays k d less) ∙ same_waits q y e (get s (slice_index_or keys k d))))) in
           filter_insert_at (waits_at s' q) p at key passed
-          ∙ (λ n. insert (all n) ((own p at p_stay ∙ before_it ∙ sym (own t turn t_stay)) n) key)
-          ∙ sym (filter_insert_at (waits_at s' q) t turn key passed)
+          ∙ (λ n. insert (all n) ((own p at p_stay ∙ before_it ∙ sym (own t arrival_rank t_stay)) n) key)
+          ∙ sym (filter_insert_at (waits_at s' q) t arrival_rank key passed)
 
-  pub placed_indexed : All (λ n. (a : Waiting) → get s n ≡ Some a → a.taken ≤ y.taken) (take turn t) → All (λ n. (a : Waiting) → get s n ≡ Some a → y.taken ≤ a.taken) (drop turn t) → AreIndexed s' (insert p at key) (insert t turn key)
+  pub placed_indexed : All (λ n. (a : Waiting) → get s n ≡ Some a → a.taken ≤ y.taken) (take arrival_rank t) → All (λ n. (a : Waiting) → get s n ≡ Some a → y.taken ≤ a.taken) (drop arrival_rank t) → AreIndexed s' (insert p at key) (insert t arrival_rank key)
   placed_indexed before behind = record {
     questions = placed_questions;
-    turns = keys_put IsByTaken s s' t indexed.turns key y was updates turn turn_in before behind;
+    turns = keys_put IsByTaken s s' t indexed.turns key y was updates arrival_rank arrival_rank_in before behind;
     same = placed_same;
   }
 
@@ -106,25 +106,25 @@ got (k ∷ keys) zero within = refl
 got (k ∷ keys) (suc i) within = got keys i (omega (arith, within))
 
 -- the question under a key is another now
-changed_under : (s s' : Slab Waiting) (key : ℕ) (y : Waiting) (keys : List ℕ) (turn : ℕ) → ArePresent s keys → AllPairs (λ j k. j ≢ k) keys → turn < length keys → slice_index keys turn ≡ key → get s' key ≡ Some y → ((n : ℕ) → n ≢ key → get s' n ≡ get s n)
-    → waiting_under s' keys ≡ with_at (waiting_under s keys) turn (Some y)
-changed_under s s' key y [] turn present apart within is now stays = absurd (omega (arith, within))
+changed_under : (s s' : Slab Waiting) (key : ℕ) (y : Waiting) (keys : List ℕ) (arrival_rank : ℕ) → ArePresent s keys → AllPairs (λ j k. j ≢ k) keys → arrival_rank < length keys → slice_index keys arrival_rank ≡ key → get s' key ≡ Some y → ((n : ℕ) → n ≢ key → get s' n ≡ get s n)
+    → waiting_under s' keys ≡ with_at (waiting_under s keys) arrival_rank (Some y)
+changed_under s s' key y [] arrival_rank present apart within is now stays = absurd (omega (arith, within))
 changed_under s s' key y (k ∷ keys) zero present apart within is now stays =
     let a = value_of (get s k) (All-head (λ j. IsSome (get s j)) k keys present) in
     ap (λ o. cons_option o (waiting_under s' keys)) (ap (get s') is ∙ now)
     ∙ ap (λ (xs : List Waiting). y ∷ xs) (same_under s s' keys (λ m d less. stays _ (λ same. pairs_head (λ j k. j ≢ k) k keys apart m d less (is ∙ sym same))))
     ∙ sym (ap (λ o. with_at (cons_option o (waiting_under s keys)) 0 (Some y)) a.1)
-changed_under s s' key y (k ∷ keys) (suc turn) present apart within is now stays =
+changed_under s s' key y (k ∷ keys) (suc arrival_rank) present apart within is now stays =
     let a = value_of (get s k) (All-head (λ j. IsSome (get s j)) k keys present) in
-    let other : k ≢ key = λ same. pairs_head (λ j k. j ≢ k) k keys apart turn 0 (omega (arith, within)) (same ∙ sym is) in
+    let other : k ≢ key = λ same. pairs_head (λ j k. j ≢ k) k keys apart arrival_rank 0 (omega (arith, within)) (same ∙ sym is) in
     ap (λ o. cons_option o (waiting_under s' keys)) (stays k other ∙ a.1)
-    ∙ ap (λ (xs : List Waiting). a.0 ∷ xs) (changed_under s s' key y keys turn (All-tail (λ j. IsSome (get s j)) k keys present) (pairs_tail (λ j k. j ≢ k) k keys apart) (omega (arith, within)) is now stays)
-    ∙ sym (ap (λ o. with_at (cons_option o (waiting_under s keys)) (suc turn) (Some y)) a.1)
+    ∙ ap (λ (xs : List Waiting). a.0 ∷ xs) (changed_under s s' key y keys arrival_rank (All-tail (λ j. IsSome (get s j)) k keys present) (pairs_tail (λ j k. j ≢ k) k keys apart) (omega (arith, within)) is now stays)
+    ∙ sym (ap (λ o. with_at (cons_option o (waiting_under s keys)) (suc arrival_rank) (Some y)) a.1)
 
-module _ (s s1 : Slab Waiting) (p t : List ℕ) (indexed : AreIndexed s p t) (key : ℕ) (x y : Waiting) (place turn : ℕ) (p_in : place < length p) (t_in : turn < length t) (p_is : slice_index p place ≡ key) (t_is : slice_index t turn ≡ key)
+module _ (s s1 : Slab Waiting) (p t : List ℕ) (indexed : AreIndexed s p t) (key : ℕ) (x y : Waiting) (place arrival_rank : ℕ) (p_in : place < length p) (t_in : arrival_rank < length t) (p_is : slice_index p place ≡ key) (t_is : slice_index t arrival_rank ≡ key)
     (here : get s key ≡ Some x) (gone : Updates s s1 key None) where
-  taken_out : AreIndexed s1 (remove p place) (remove t turn)
-  taken_out = take_indexed s p t indexed s1 key gone place turn p_in t_in p_is t_is
+  taken_out : AreIndexed s1 (remove p place) (remove t arrival_rank)
+  taken_out = take_indexed s p t indexed s1 key gone place arrival_rank p_in t_in p_is t_is
 
   pub out_questions : AreKeys IsByQuestion s1 (remove p place)
   out_questions = taken_out.questions
@@ -133,46 +133,46 @@ module _ (s s1 : Slab Waiting) (p t : List ℕ) (indexed : AreIndexed s p t) (ke
     -- those of its new question, in turn
     pub in_turns : filter (waits_at s1 y.wanted) t ≡ between i j (remove p place)
     in_turns =
-        sym (filter_remove (waits_at s1 y.wanted) t turn key t_in (got t turn t_in ∙ ap (λ (n : ℕ). Some n) t_is) (ap (passes (waits_for y.wanted)) gone.changed))
-        ∙ in_range s1 (remove p place) (remove t turn) taken_out y.wanted i j range
+        sym (filter_remove (waits_at s1 y.wanted) t arrival_rank key t_in (got t arrival_rank t_in ∙ ap (λ (n : ℕ). Some n) t_is) (ap (passes (waits_for y.wanted)) gone.changed))
+        ∙ in_range s1 (remove p place) (remove t arrival_rank) taken_out y.wanted i j range
 
     pub all_listed : All (Contains t) (between i j (remove p place))
     all_listed = subst (All (Contains t)) in_turns (All-filter (waits_at s1 y.wanted) (Contains t) t (All-contains_itself t))
 
-    module _ (s' : Slab Waiting) (put : Updates s1 s' key (Some y)) (taken : y.taken ≡ x.taken) (at : ℕ) (at_is : at ≡ i + earlier (waits_at s1 y.wanted) t turn) where
+    module _ (s' : Slab Waiting) (put : Updates s1 s' key (Some y)) (taken : y.taken ≡ x.taken) (at : ℕ) (at_is : at ≡ i + earlier (waits_at s1 y.wanted) t arrival_rank) where
       was_there : (n : ℕ) (a : Waiting) → get s1 n ≡ Some a → get s n ≡ Some a
       was_there n a e = sym (gone.others n (λ same. none-some a (sym gone.changed ∙ ap (get s1) (sym same) ∙ e))) ∙ e
 
-      its_own : get s (slice_index t turn) ≡ Some x
+      its_own : get s (slice_index t arrival_rank) ≡ Some x
       its_own = ap (get s) t_is ∙ here
 
-      before : All (λ n. (a : Waiting) → get s1 n ≡ Some a → a.taken ≤ y.taken) (take turn t)
-      before = All-from_get_or (λ n. (a : Waiting) → get s1 n ≡ Some a → a.taken ≤ y.taken) (take turn t) 0 (λ k within a e.
-          let less : k < turn = omega (arith, within, length-take turn t) in
-          let old : a.taken ≤ x.taken = indexed.turns.in_order k turn 0 less t_in a x (was_there (slice_index t k) a (sym (ap (get s1) (get_or-take turn t k 0 less)) ∙ e)) its_own in
+      before : All (λ n. (a : Waiting) → get s1 n ≡ Some a → a.taken ≤ y.taken) (take arrival_rank t)
+      before = All-from_get_or (λ n. (a : Waiting) → get s1 n ≡ Some a → a.taken ≤ y.taken) (take arrival_rank t) 0 (λ k within a e.
+          let less : k < arrival_rank = omega (arith, within, length-take arrival_rank t) in
+          let old : a.taken ≤ x.taken = indexed.turns.in_order k arrival_rank 0 less t_in a x (was_there (slice_index t k) a (sym (ap (get s1) (get_or-take arrival_rank t k 0 less)) ∙ e)) its_own in
           omega (arith, old, taken))
 
-      behind : All (λ n. (a : Waiting) → get s1 n ≡ Some a → y.taken ≤ a.taken) (drop (suc turn) t)
-      behind = All-from_get_or (λ n. (a : Waiting) → get s1 n ≡ Some a → y.taken ≤ a.taken) (drop (suc turn) t) 0 (λ k within a e.
-          let inside : suc turn + k < length t = omega (arith, within, length-drop (suc turn) t) in
-          let old : x.taken ≤ a.taken = indexed.turns.in_order turn (suc turn + k) 0 (omega arith) inside x a its_own (was_there (slice_index t (suc turn + k)) a (sym (ap (get s1) (get_or-drop (suc turn) t k 0)) ∙ e)) in
+      behind : All (λ n. (a : Waiting) → get s1 n ≡ Some a → y.taken ≤ a.taken) (drop (suc arrival_rank) t)
+      behind = All-from_get_or (λ n. (a : Waiting) → get s1 n ≡ Some a → y.taken ≤ a.taken) (drop (suc arrival_rank) t) 0 (λ k within a e.
+          let inside : suc arrival_rank + k < length t = omega (arith, within, length-drop (suc arrival_rank) t) in
+          let old : x.taken ≤ a.taken = indexed.turns.in_order arrival_rank (suc arrival_rank + k) 0 (omega arith) inside x a its_own (was_there (slice_index t (suc arrival_rank + k)) a (sym (ap (get s1) (get_or-drop (suc arrival_rank) t k 0)) ∙ e)) in
           omega (arith, old, taken))
 
-      its_place : at ≡ i + earlier (waits_at s1 y.wanted) (remove t turn) turn
-      its_place = at_is ∙ ap (λ (ks : List ℕ). i + length (filter (waits_at s1 y.wanted) ks)) (sym (front_stays t turn))
+      its_place : at ≡ i + earlier (waits_at s1 y.wanted) (remove t arrival_rank) arrival_rank
+      its_place = at_is ∙ ap (λ (ks : List ℕ). i + length (filter (waits_at s1 y.wanted) ks)) (sym (front_stays t arrival_rank))
 
-      turn_in : turn ≤ length (remove t turn)
-      turn_in = omega (arith, t_in, length-remove t turn t_in)
+      arrival_rank_in : arrival_rank ≤ length (remove t arrival_rank)
+      arrival_rank_in = omega (arith, t_in, length-remove t arrival_rank t_in)
 
       pub at_low : at ≤ length (remove p place)
-      at_low = omega (arith, at_in s1 s' (remove p place) (remove t turn) taken_out key y gone.changed put i j range turn at turn_in its_place, range.high)
+      at_low = omega (arith, at_in s1 s' (remove p place) (remove t arrival_rank) taken_out key y gone.changed put i j range arrival_rank at arrival_rank_in its_place, range.high)
 
       pub sent_indexed : AreIndexed s' (insert (remove p place) at key) t
       sent_indexed =
-          subst (λ (ts : List ℕ). AreIndexed s' (insert (remove p place) at key) ts) (put_back t turn key t_in t_is)
-          (placed_indexed s1 s' (remove p place) (remove t turn) taken_out key y gone.changed put i j range turn at turn_in its_place
-          (subst (All (λ n. (a : Waiting) → get s1 n ≡ Some a → a.taken ≤ y.taken)) (sym (front_stays t turn)) before)
-          (subst (All (λ n. (a : Waiting) → get s1 n ≡ Some a → y.taken ≤ a.taken)) (sym (back_stays t turn)) behind))
+          subst (λ (ts : List ℕ). AreIndexed s' (insert (remove p place) at key) ts) (put_back t arrival_rank key t_in t_is)
+          (placed_indexed s1 s' (remove p place) (remove t arrival_rank) taken_out key y gone.changed put i j range arrival_rank at arrival_rank_in its_place
+          (subst (All (λ n. (a : Waiting) → get s1 n ≡ Some a → a.taken ≤ y.taken)) (sym (front_stays t arrival_rank)) before)
+          (subst (All (λ n. (a : Waiting) → get s1 n ≡ Some a → y.taken ≤ a.taken)) (sym (back_stays t arrival_rank)) behind))
 
-      pub sent_items : waiting_under s' t ≡ with_at (waiting_under s t) turn (Some y)
-      sent_items = changed_under s s' key y t turn indexed.turns.present indexed.turns.apart t_in t_is put.changed (λ n other. put.others n other ∙ gone.others n other)
+      pub sent_items : waiting_under s' t ≡ with_at (waiting_under s t) arrival_rank (Some y)
+      sent_items = changed_under s s' key y t arrival_rank indexed.turns.present indexed.turns.apart t_in t_is put.changed (λ n other. put.others n other ∙ gone.others n other)

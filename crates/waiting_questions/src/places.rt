@@ -34,25 +34,25 @@ pub(crate) fn range_of<A: Allocator>(
 
 /// The place of the question with this turn in a range that is in the order of turns: after all
 /// questions with earlier turns. A binary search.
-pub(crate) fn place_by_turn<A: Allocator>(
+pub(crate) fn place_by_arrival<A: Allocator>(
     keys: &VecDeque<NumberedKey, A>,
     by_arrival: &ArrivalOrder<A>,
     start: usize,
     end: usize,
-    turn: usize,
+    arrival_rank: usize,
 ) -> usize
     requires low { start ≤ end }
     requires high { end ≤ length keys.now.items }
     requires listed { All (Contains by_arrival.now.keys) (between start end (keys_of keys.now.items)) }
     requires apart { AllPairs (λ j k. j ≢ k) by_arrival.now.keys }
     ensures { (p : ℕ → Bool) → filter p by_arrival.now.keys ≡ between start end (keys_of keys.now.items)
-        → result ≡ start + earlier p by_arrival.now.keys turn }
+        → result ≡ start + earlier p by_arrival.now.keys arrival_rank }
 {
     let mut low = start;
     let mut high = end;
     while low < high {
         let middle = low + (high - low) / 2;
-        if by_arrival.place_of(keys[middle].key()) < turn {
+        if by_arrival.place_of(keys[middle].key()) < arrival_rank {
             low = middle + 1;
         } else {
             high = middle;

@@ -10,7 +10,7 @@ ghost use Rattle.waiting_questions.specs.Indexes.{has_room, items_of, keys_of, t
 ghost use Rattle.waiting_questions.specs.Settling.{left_by, settled, with_at};
 
 use crate::keyed::KeyedWaiting;
-use crate::places::{place_by_turn, range_of};
+use crate::places::{place_by_arrival, range_of};
 use crate::waiting::SentOn;
 use arrival_order::ArrivalOrder;
 use outstanding::{KeyedAsk, NumberedKey, QuestionKey};
@@ -107,18 +107,18 @@ impl<A: Allocator> Table<A> {
     }
 
     /// Removes the question whose key is at this place in the order of questions, and at this turn.
-    pub(crate) fn take(&mut self, place: usize, turn: usize)
+    pub(crate) fn take(&mut self, place: usize, arrival_rank: usize)
         requires indexed { IsIndexed self.old }
         requires place { place < length self.old.by_question.items }
-        requires turn { turn < length self.old.by_arrival.keys }
-        requires one { slice_index (keys_of self.old.by_question.items) place ≡ slice_index self.old.by_arrival.keys turn }
+        requires arrival_rank { arrival_rank < length self.old.by_arrival.keys }
+        requires one { slice_index (keys_of self.old.by_question.items) place ≡ slice_index self.old.by_arrival.keys arrival_rank }
         ensures indexed { IsIndexed self.new }
-        ensures list { items_of self.new ≡ remove (items_of self.old) turn }
+        ensures list { items_of self.new ≡ remove (items_of self.old) arrival_rank }
     {
         let Some(item) = self.by_question.remove(place) else {
             unreachable!();
         };
-        self.by_arrival.take(turn);
+        self.by_arrival.take(arrival_rank);
         self.waiting.remove(item.key());
     }
 
@@ -134,8 +134,8 @@ impl<A: Allocator> Table<A> {
         while let Some(fate) = fates.pop() {
             let (start, _) = self.range(question);
             let place = start + fates.len();
-            let turn = self.by_arrival.place_of(self.by_question[place].key());
-            self.settle_one(place, turn, fate);
+            let arrival_rank = self.by_arrival.place_of(self.by_question[place].key());
+            self.settle_one(place, arrival_rank, fate);
         }
     }
 
@@ -149,8 +149,8 @@ impl<A: Allocator> Table<A> {
         let (start, end) = self.range(ask.key());
         for place in (start..end).rev() {
             let key = self.by_question[place].key();
-            let turn = self.by_arrival.place_of(key);
-            self.by_arrival.take(turn);
+            let arrival_rank = self.by_arrival.place_of(key);
+            self.by_arrival.take(arrival_rank);
             let_go(&mut self.waiting, key);
         }
         take_range(&mut self.by_question, start, end);
@@ -168,31 +168,31 @@ impl<A: Allocator> Table<A> {
 
     /// Redirects or removes the question whose key is at this place in the order of questions, and
     /// at this turn.
-    fn settle_one(&mut self, place: usize, turn: usize, fate: Option<SentOn<A>>)
+    fn settle_one(&mut self, place: usize, arrival_rank: usize, fate: Option<SentOn<A>>)
         requires indexed { IsIndexed self.old }
         requires place { place < length self.old.by_question.items }
-        requires turn { turn < length self.old.by_arrival.keys }
-        requires one { slice_index (keys_of self.old.by_question.items) place ≡ slice_index self.old.by_arrival.keys turn }
+        requires arrival_rank { arrival_rank < length self.old.by_arrival.keys }
+        requires one { slice_index (keys_of self.old.by_question.items) place ≡ slice_index self.old.by_arrival.keys arrival_rank }
         ensures indexed { IsIndexed self.new }
-        ensures list { (x : Asking) → slice_get (items_of self.old) turn ≡ Some x
-            → items_of self.new ≡ with_at (items_of self.old) turn (left_by fate x) }
+        ensures list { (x : Asking) → slice_get (items_of self.old) arrival_rank ≡ Some x
+            → items_of self.new ≡ with_at (items_of self.old) arrival_rank (left_by fate x) }
     {
         match fate {
-            None => self.take(place, turn),
-            Some(onward) => self.send_on(place, turn, onward),
+            None => self.take(place, arrival_rank),
+            Some(onward) => self.send_on(place, arrival_rank, onward),
         }
     }
 
     /// Redirects the question whose key is at this place in the order of questions, and at this
     /// turn, which stays.
-    fn send_on(&mut self, place: usize, turn: usize, onward: SentOn<A>)
+    fn send_on(&mut self, place: usize, arrival_rank: usize, onward: SentOn<A>)
         requires indexed { IsIndexed self.old }
         requires place { place < length self.old.by_question.items }
-        requires turn { turn < length self.old.by_arrival.keys }
-        requires one { slice_index (keys_of self.old.by_question.items) place ≡ slice_index self.old.by_arrival.keys turn }
+        requires arrival_rank { arrival_rank < length self.old.by_arrival.keys }
+        requires one { slice_index (keys_of self.old.by_question.items) place ≡ slice_index self.old.by_arrival.keys arrival_rank }
         ensures indexed { IsIndexed self.new }
-        ensures list { (x : Asking) → slice_get (items_of self.old) turn ≡ Some x
-            → items_of self.new ≡ with_at (items_of self.old) turn (Some (sent_on onward x)) }
+        ensures list { (x : Asking) → slice_get (items_of self.old) arrival_rank ≡ Some x
+            → items_of self.new ≡ with_at (items_of self.old) arrival_rank (Some (sent_on onward x)) }
     {
         let Some(old) = self.by_question.remove(place) else {
             unreachable!();
@@ -202,7 +202,13 @@ impl<A: Allocator> Table<A> {
         let question = keyed.key();
         let number = question.number();
         let (start, end) = range_of(&self.waiting, &self.by_question, question);
-        let at = place_by_turn(&self.by_question, &self.by_arrival, start, end, turn);
+        let at = place_by_arrival(
+            &self.by_question,
+            &self.by_arrival,
+            start,
+            end,
+            arrival_rank,
+        );
         self.waiting.insert_reserved(keyed);
         let item = NumberedKey::new(number, old.key());
         let Ok(()) = self.by_question.insert(at, item) else {

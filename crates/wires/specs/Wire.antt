@@ -43,7 +43,7 @@ pub record Put : Type 0 where
 
 -- the report of a wire: its arrivals, the actions put, and the moments in milliseconds and words,
 -- each in order
-pub record Told : Type 0 where
+pub record Report : Type 0 where
   pub arrivals : List (Option Arrival)
   pub puts : List Put
   pub moments : List ℕ
@@ -52,12 +52,12 @@ pub record Told : Type 0 where
 -- ---- reports grow
 
 -- a report of nothing
-abbrev pub silence : Told
+abbrev pub silence : Report
 silence = record { arrivals = []; puts = []; moments = []; words = [] }
 
 infixr 20 ◌then◌
 -- one report followed by another
-abbrev pub ◌then◌ : Told → Told → Told
+abbrev pub ◌then◌ : Report → Report → Report
 a then b = record {
   arrivals = a.arrivals ++ b.arrivals;
   puts = a.puts ++ b.puts;
@@ -66,38 +66,38 @@ a then b = record {
 }
 
 -- the report of an arrival
-abbrev pub arrived : Option Arrival → Told
+abbrev pub arrived : Option Arrival → Report
 arrived a = record silence { arrivals = a ∷ [] }
 
 -- the report of an action and whether it was sent
-abbrev pub was_put : Action → Bool → Told
+abbrev pub was_put : Action → Bool → Report
 was_put action sent = record silence { puts = record { action = action; sent = sent } ∷ [] }
 
 -- the report of a moment
-abbrev pub moment_was : ℕ → Told
+abbrev pub moment_was : ℕ → Report
 moment_was now = record silence { moments = now ∷ [] }
 
 -- the report of eight random words
-abbrev pub words_were : List ℕ → Told
+abbrev pub words_were : List ℕ → Report
 words_were words = record silence { words = words ∷ [] }
 
 -- a report, if any, with more at its end
-abbrev pub told_more : Option Told → Told → Option Told
-told_more told more = option_map (λ before. before then more) told
+abbrev pub report_then : Option Report → Report → Option Report
+report_then report more = option_map (λ before. before then more) report
 
 -- The report of a wire, and its count of faults.
-pub record Telling : Type 0 where
-  pub told : Option Told
+pub record Journal : Type 0 where
+  pub report : Option Report
   pub faults : ℕ
 
 -- the report of a wire, if any, and its count of faults
-abbrev pub telling : Option Told → ℕ → Telling
-telling told faults = record { told = told; faults = faults }
+abbrev pub journal : Option Report → ℕ → Journal
+journal report faults = record { report = report; faults = faults }
 
 -- Between the two, the wire reported exactly `more`: a report of now is the report before, followed
 -- by `more`; the count of faults never falls; and a report before stays, with `more` at its end,
 -- unless the wire counted a fault. A count at its last value cannot rise.
-pub record TellsMore (old : Telling) (more : Told) (new : Telling) : Type 0 where
-  pub tells : (now : Told) → new.told ≡ Some now → (before : Told) × (old.told ≡ Some before) × (now ≡ before then more)
+pub record ReportsMore (old : Journal) (more : Report) (new : Journal) : Type 0 where
+  pub reports : (now : Report) → new.report ≡ Some now → (before : Report) × (old.report ≡ Some before) × (now ≡ before then more)
   pub counts : old.faults ≤ new.faults
-  pub stays : new.faults ≡ old.faults → old.faults < 2 ^ 64 - 1 → new.told ≡ told_more old.told more
+  pub stays : new.faults ≡ old.faults → old.faults < 2 ^ 64 - 1 → new.report ≡ report_then old.report more

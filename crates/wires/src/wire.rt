@@ -2,7 +2,7 @@
 
 ghost use Rattle.std.specs.Prelude.{◌≡◌, ℕ, ◌<◌, Option, IfOk, OnErr, is_ok};
 ghost use Rattle.step_values.specs.Values.{action_of};
-ghost use Rattle.wires.specs.Wire.{Told, TellsMore, telling, arrival_of, given, arrived, was_put, moment_was};
+ghost use Rattle.wires.specs.Wire.{Report, ReportsMore, journal, arrival_of, given, arrived, was_put, moment_was};
 ghost use Rattle.wires.specs.Wire.{words_were};
 
 use plain_values::{Octets, PlainList};
@@ -88,37 +88,37 @@ pub struct WireFault;
 pub trait Wire<A: Allocator> {
     /// Its input and output so far; `None` claims nothing. A report stays while no fault is
     /// counted.
-    ghost told: { Self → Option Told };
+    ghost report: { Self → Option Report };
 
     /// Its count of faults.
     ghost fault_count: { Self → ℕ };
 
     /// The next arrival. `Err` only after a fault, which the wire counted; the arrival is lost.
     fn arrival(&mut self) -> Result<Arrival<A>, WireFault>
-        ensures tells { TellsMore (telling (told self.old) (fault_count self.old)) (arrived (given result))
-            (telling (told self.new) (fault_count self.new)) }
+        ensures reports { ReportsMore (journal (report self.old) (fault_count self.old)) (arrived (given result))
+            (journal (report self.new) (fault_count self.new)) }
         ensures faults { OnErr result (fault_count self.old < fault_count self.new) };
 
     /// Does an action. `Err` only after a fault, which the wire counted; the action is lost.
     fn put(&mut self, action: &Action<A>) -> Result<(), WireFault>
-        ensures tells { TellsMore (telling (told self.old) (fault_count self.old))
-            (was_put (action_of action.now) (is_ok result)) (telling (told self.new) (fault_count self.new)) }
+        ensures reports { ReportsMore (journal (report self.old) (fault_count self.old))
+            (was_put (action_of action.now) (is_ok result)) (journal (report self.new) (fault_count self.new)) }
         ensures faults { OnErr result (fault_count self.old < fault_count self.new) };
 
     /// May take back the memory of served octets: the next arrival may be in this memory.
     fn take_back(&mut self, octets: &mut Octets<A>)
-        ensures tells { told self.new ≡ told self.old }
+        ensures reports { report self.new ≡ report self.old }
         ensures faults { fault_count self.new ≡ fault_count self.old };
 
     /// The moment, in milliseconds.
     fn moment(&mut self) -> u64
-        ensures tells { TellsMore (telling (told self.old) (fault_count self.old)) (moment_was result)
-            (telling (told self.new) (fault_count self.new)) };
+        ensures reports { ReportsMore (journal (report self.old) (fault_count self.old)) (moment_was result)
+            (journal (report self.new) (fault_count self.new)) };
 
     /// Random words, sent to nobody yet.
     fn words(&mut self) -> [u32; 8]
-        ensures tells { TellsMore (telling (told self.old) (fault_count self.old)) (words_were result)
-            (telling (told self.new) (fault_count self.new)) };
+        ensures reports { ReportsMore (journal (report self.old) (fault_count self.old)) (words_were result)
+            (journal (report self.new) (fault_count self.new)) };
 
     /// The count of faults, which stays at its last value.
     fn faults(&self) -> u64

@@ -21,7 +21,7 @@ use Rattle.cache_laws.proofs.CallerLemmas.{serves_exactly}
 use Rattle.step_history.specs.History.{Look, Carries}
 use Rattle.step_history.specs.Carried.{CarriedInEra, Justified}
 use Rattle.step_history.specs.Answers.{FollowsAliases, Leads, Chain}
-use Rattle.step_history.specs.Stale.{FollowsPastEnds}
+use Rattle.step_history.specs.Stale.{FollowsStale}
 use Rattle.step_history.specs.Causes.{Cause, FollowsTooMany}
 use Rattle.step_history.proofs.CallerLemmas.{walk_accepted, alias_to, target_is}
 use Rattle.step_table.proofs.Played.{a, address, name_data, server, config}
@@ -183,7 +183,7 @@ no_alias_is_followed_for_aliases : (l : Look) (os : List Held) (last : Question)
 no_alias_is_followed_for_aliases l os last h = h.0 refl
 
 no_alias_is_followed_for_aliases_past_ends : (l : Look) (os : List Held) (last : Question)
-    → FollowsPastEnds l for_alias (loop ∷ os) last → ⊥
+    → FollowsStale l for_alias (loop ∷ os) last → ⊥
 no_alias_is_followed_for_aliases_past_ends l os last h = h.0 refl
 
 -- it stays at its own name

@@ -31,13 +31,13 @@ abbrev words : List ℕ
 words = 524296 ∷ 589833 ∷ 655370 ∷ 720907 ∷ 786444 ∷ 851981 ∷ 917518 ∷ 983055 ∷ []
 
 abbrev first : Step
-first = record { handed = record { now = 1000; words = words; event = from_client client question }; outcome = record { actions = ask_udp 1032 server query ∷ []; unkept = 0; more = false } }
+first = record { input = record { now = 1000; words = words; event = from_client client question }; outcome = record { actions = ask_udp 1032 server query ∷ []; unkept = 0; more = false } }
 
 abbrev second : Step
-second = record { handed = record { now = 1020; words = words; event = delivery (Udp 1032) server reply_text }; outcome = record { actions = close_udp 1032 ∷ send_reply client answer Answered ∷ []; unkept = 0; more = false } }
+second = record { input = record { now = 1020; words = words; event = delivery (Udp 1032) server reply_text }; outcome = record { actions = close_udp 1032 ∷ send_reply client answer Answered ∷ []; unkept = 0; more = false } }
 
 abbrev third : Step
-third = record { handed = record { now = 9000; words = words; event = restart }; outcome = record { actions = []; unkept = 0; more = false } }
+third = record { input = record { now = 9000; words = words; event = restart }; outcome = record { actions = []; unkept = 0; more = false } }
 
 moment : moment_at (second ∷ first ∷ []) ≡ 1020
 moment = refl

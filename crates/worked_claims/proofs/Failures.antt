@@ -23,7 +23,7 @@ use Rattle.step_history.specs.History.{Look, ShownAsk, moment_at}
 use Rattle.step_history.specs.Answers.{Chain}
 use Rattle.step_history.specs.Replies.{answer_text, full_text, stale_sections}
 use Rattle.answer_builder.specs.Values.{asked_in}
-use Rattle.step_history.specs.Stale.{ChainPastEnds}
+use Rattle.step_history.specs.Stale.{StaleChain}
 use Rattle.step_history.specs.Causes.{Cause, AllTriesFailed, ClosesAsk, LastFailed, MayFail, FailedSoFar, AnswerIsTooLarge}
 use Rattle.step_history.specs.Causes.{StaleAnswerIsTooLarge}
 use Rattle.step_table.proofs.Played.{a, b, address, server, config}
@@ -219,16 +219,16 @@ pub record FailedAndEnded (l : Look) (octets : List ℕ) : Type 0 where
   pub question : tries.question ≡ of_1000
   pub no_alias : tries.aliases ≡ []
   pub last : tries.last ≡ of_1000
-  pub chain : ChainPastEnds l [] of_1000 [] (large octets)
+  pub chain : StaleChain l [] of_1000 [] (large octets)
 
 too_large_past_its_end : (l : Look) (octets : List ℕ) → FailedAndEnded l octets → 1 ≤ l.config.limits.stale_s
     → length octets ≡ 65503 → Cause l stream_client text_of_1000 0 TooLarge
 too_large_past_its_end l octets known window many = inr (inl (record {
   tries = known.tries;
   window = window;
-  past = [];
+  found = [];
   end = large octets;
-  chain = subst (λ (z : List Held × Question). ChainPastEnds l z.0 z.1 [] (large octets))
+  chain = subst (λ (z : List Held × Question). StaleChain l z.0 z.1 [] (large octets))
       (λ k. (sym known.no_alias k, sym known.last k)) known.chain;
   large = subst (λ (z : Question × List Held). 65535 < length (full_text
       (asked_in (header_in text_of_1000) (Some z.0)) (stale_sections (moment_at l.now) z.1 [] (large octets))))
@@ -240,13 +240,13 @@ without_a_window : (l : Look) (octets : List ℕ) → l.config.limits.stale_s �
 without_a_window l octets none h = let some = h.window in omega (arith, none, some)
 
 as_large_as_may_be_past_its_end : (l : Look) (octets : List ℕ) (h : StaleAnswerIsTooLarge l text_of_1000)
-    → h.tries.aliases ≡ [] → h.past ≡ [] → h.end ≡ large octets → length octets ≡ 65502 → ⊥
+    → h.tries.aliases ≡ [] → h.found ≡ [] → h.end ≡ large octets → length octets ≡ 65502 → ⊥
 unfolding first_question question_at octets_end name_within walk_in name_step
 as_large_as_may_be_past_its_end l octets h none past end many =
     let reads : Some of_1000 ≡ Some h.tries.question = h.tries.reads in
     let own : of_1000 ≡ h.tries.question = cc in
     let text : length (full_text (asked_in (header_in text_of_1000) (Some h.tries.question))
-    (stale_sections (moment_at l.now) h.tries.aliases h.past h.end))
+    (stale_sections (moment_at l.now) h.tries.aliases h.found h.end))
     ≡ length (full_text (asked_in (header_in text_of_1000) (Some of_1000))
     (stale_sections (moment_at l.now) [] [] (large octets))) =
     λ k. length (full_text (asked_in (header_in text_of_1000) (Some (sym own k)))

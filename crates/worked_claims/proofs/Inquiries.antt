@@ -88,7 +88,7 @@ code_in None = 0
 code_in (Some h) = h.rcode
 
 -- such a reply is not accepted
-no_acceptance : (s : Step) (past : List Step) → s.handed.event ≡ delivery (Udp 1048) server failure_text
+no_acceptance : (s : Step) (past : List Step) → s.input.event ≡ delivery (Udp 1048) server failure_text
     → NothingAccepted c s past
 unfolding header_of
 no_acceptance s past comes ps carries =

@@ -14,9 +14,9 @@ mod Shapes
 mod Faults
 mod Matching
 mod FromCache
-mod PastEnds
+mod StaleLookUps
 mod Denied
-mod Told
+mod PieceWithTtl
 mod Whole
 mod Eras
 mod Carried

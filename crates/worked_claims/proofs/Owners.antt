@@ -112,8 +112,8 @@ no_owner_before_a_restart : (i : ℕ) (r : SentReply) → Owns config (overdue c
 no_owner_before_a_restart i r h = by h.in_era
   where
     sent : (s : Step) → h.asked ≡ s
-        → request_in s.handed.event ≡ Some (record { client = r.client; octets = h.request })
-    sent s same = ap (λ (x : Step). request_in x.handed.event) (sym same) ∙ h.sent
+        → request_in s.input.event ≡ Some (record { client = r.client; octets = h.request })
+    sent s same = ap (λ (x : Step). request_in x.input.event) (sym same) ∙ h.sent
 
     behind : InEra (h.asked ∷ h.before) (restarted ∷ asked ∷ []) → ⊥
     behind (inl same) = let step : h.asked ≡ restarted = cc in absurd (let none = sent restarted step in cc)
@@ -132,7 +132,7 @@ asked_before_a_tick to s owners i r h = by (in_two (overdue to) s h.asked h.befo
     by : ((h.asked ≡ overdue to) × (h.before ≡ s ∷ []))
         ⊎ ((is_restart (overdue to) ≡ false) × (h.asked ≡ s) × (h.before ≡ []))
         → h.asked ≡ s
-    by (inl same) = absurd (a_tick_owns_nothing (ap (λ (x : Step). request_in x.handed.event) (sym same.0) ∙ h.sent))
+    by (inl same) = absurd (a_tick_owns_nothing (ap (λ (x : Step). request_in x.input.event) (sym same.0) ∙ h.sent))
     by (inr later) = later.1
 
 -- the last octet of an asker's address
@@ -149,8 +149,8 @@ another_client_owns_no_reply : (i : ℕ)
     → Owns config (overdue other_client ∷ asked ∷ []) [] i (overdue_reply other_client) → ⊥
 another_client_owns_no_reply i h =
     let step : h.asked ≡ asked = asked_before_a_tick other_client asked [] i (overdue_reply other_client) h in
-    let sent : request_in asked.handed.event ≡ Some (record { client = other_client; octets = h.request }) =
-    ap (λ (x : Step). request_in x.handed.event) (sym step) ∙ h.sent in
+    let sent : request_in asked.input.event ≡ Some (record { client = other_client; octets = h.request }) =
+    ap (λ (x : Step). request_in x.input.event) (sym step) ∙ h.sent in
     let octets : 7 ≡ 8 = ap last_octet_in sent in
     omega (arith, octets)
 
@@ -209,16 +209,16 @@ is_reply = step_of 1000 [] (from_client client (with_flags 7 129 0 1)) []
 abbrev is_short : Step
 is_short = step_of 1000 [] (from_client client (0 ∷ 7 ∷ 1 ∷ 0 ∷ 0 ∷ 1 ∷ 0 ∷ 0 ∷ 0 ∷ 0 ∷ 0 ∷ [])) []
 
-what_is_dropped : (takes_question asked.handed.event ≡ true) × (takes_question is_reply.handed.event ≡ false)
-    × (takes_question is_short.handed.event ≡ false)
+what_is_dropped : (takes_question asked.input.event ≡ true) × (takes_question is_reply.input.event ≡ false)
+    × (takes_question is_short.input.event ≡ false)
 what_is_dropped = (refl, refl, refl)
 
 a_dropped_reply_owns_no_reply : (i : ℕ) → Owns config (overdue client ∷ is_reply ∷ []) [] i (overdue_reply client) → ⊥
 a_dropped_reply_owns_no_reply i h =
     let step : h.asked ≡ is_reply = asked_before_a_tick client is_reply [] i (overdue_reply client) h in
-    true≢false (sym h.taken ∙ ap (λ (x : Step). takes_question x.handed.event) step)
+    true≢false (sym h.taken ∙ ap (λ (x : Step). takes_question x.input.event) step)
 
 a_short_message_owns_no_reply : (i : ℕ) → Owns config (overdue client ∷ is_short ∷ []) [] i (overdue_reply client) → ⊥
 a_short_message_owns_no_reply i h =
     let step : h.asked ≡ is_short = asked_before_a_tick client is_short [] i (overdue_reply client) h in
-    true≢false (sym h.taken ∙ ap (λ (x : Step). takes_question x.handed.event) step)
+    true≢false (sym h.taken ∙ ap (λ (x : Step). takes_question x.input.event) step)

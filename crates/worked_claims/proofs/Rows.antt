@@ -35,7 +35,7 @@ use Rattle.step_values.specs.declared.action.Why.TheVariants.{NotServed, Questio
 use Rattle.step_values.specs.Values.{Event, from_client, delivery, path_failed, tick, restart, Action, ask_udp, ask_tcp, close_udp, close_tcp, send_reply, SentAsk}
 use Rattle.step_values.specs.Requests.{is_taken}
 use Rattle.suffix_routes.specs.Serving.{serving_route_of, is_local}
-use Rattle.step_table.specs.State.{State, turn}
+use Rattle.step_table.specs.State.{State, start}
 use Rattle.waiting_questions.specs.Values.{Waiting, waits_for}
 use Rattle.step_table.specs.Attempts.{first_ask_for, plan_of, next_ask}
 use Rattle.step_table.specs.Steps.{Done, Fate, gets, waits, reply_in, replies, closes, closing, asks, asks_by, ask_list, idle_step, closing_step, gives_up, sends, fails, with_promoted, with_preferred_server, still_waiting}
@@ -43,7 +43,7 @@ use Rattle.alias_chains.specs.LookingUp.{LookUpEnd, ends, too_long, missed, Look
 use Rattle.step_table.specs.Row.{Happens, effective}
 use Rattle.step_table.specs.Ticks.{question, attempt, nothing, deadline_of, Item, first_item, left_alone, row_of_item}
 use Rattle.step_table.specs.Replies.{fate_by, without_port, unless_no_port, row_of_next_name, row_of_sent_on, row_of_end, row_of_walk, row_of_message, row_of_verdict, timeout_of, row_of_delivery, looked_by, used_by, to_be_asked}
-use Rattle.step_table.specs.Failures.{row_of_attempt, told_past, found_past, runs_out, row_of_next, row_of_failure, row_of_failed_path}
+use Rattle.step_table.specs.Failures.{row_of_attempt, with_stale_ttl, found_stale, runs_out, row_of_next, row_of_failure, row_of_failed_path}
 use Rattle.step_table.specs.Clients.{without_server, fate_missed, fate_at, fate_of, row_of_opening, row_of_inquiry, row_of_waiting, row_of_fate, row_of_look_up, row_of_route, row_of_service, taken_now, row_of_question, row_of_request}
 use Rattle.worked_claims.specs.Laws.{asks_in, closed_in, IsListedOn, StepsAskOnceAtMost, StepsCloseOnceAtMost, StepsCloseWhatIsListed}
 
@@ -90,13 +90,13 @@ fate_replies c n x l = met_replies c n x l l.met
 failing_replies : (why : Why) (q : Question) (x : Waiting) → Replies (fails why q x)
 failing_replies why q x = both Replies (waits_for q x) tt tt
 
-past_replies : (n : ℕ) (x : Waiting) (chain : Option (List Held)) → IsReply (told_past n x chain)
+past_replies : (n : ℕ) (x : Waiting) (chain : Option (List Held)) → IsReply (with_stale_ttl n x chain)
 past_replies n x None = tt
 past_replies n x (Some chain) = sent _ x _
 
 last_replies : (c : Config) (n : ℕ) (entries : List Held) (q : Question) (x : Waiting)
     → Replies (runs_out c n entries q x)
-last_replies c n entries q x = both Replies (waits_for q x) (past_replies n x (found_past c n entries x)) tt
+last_replies c n entries q x = both Replies (waits_for q x) (past_replies n x (found_stale c n entries x)) tt
 
 carried_replies : (c : Config) (n : ℕ) (entries : List Held) (a : Ask) (w : Walk) (x : Waiting)
     → Replies (fate_by c n entries a w x)
@@ -250,39 +250,39 @@ module _ (c : Config) (n : ℕ) (words : List ℕ) (listed : List Ask) where
   opening_kept x s None = reply_kept listed (gives_up NoPort x) tt
   opening_kept x s (Some a) = ask_kept listed (Some a)
 
-  inquiry_kept : (x : Waiting) (s : State) (a : Option Ask) → Kept (row_of_inquiry (turn c n words s) x a)
+  inquiry_kept : (x : Waiting) (s : State) (a : Option Ask) → Kept (row_of_inquiry (start c n words s) x a)
   inquiry_kept x s None =
       both Kept (nat_le c.limits.inquiries (length s.asks)) (reply_kept listed (gives_up InquiriesFull x) tt)
-      (opening_kept x s (first_ask_for (turn c n words s) x.wanted))
+      (opening_kept x s (first_ask_for (start c n words s) x.wanted))
   inquiry_kept x s (Some a) = ask_kept listed None
 
-  waiting_kept : (x : Waiting) (s : State) → Kept (row_of_waiting (turn c n words s) x)
+  waiting_kept : (x : Waiting) (s : State) → Kept (row_of_waiting (start c n words s) x)
   waiting_kept x s =
       both Kept (nat_le c.limits.questions (length s.waiting)) (reply_kept listed (gives_up QuestionsFull x) tt)
       (inquiry_kept x s (of_question x.wanted s.asks))
 
-  fate_kept : (s : State) (v : Fate) → Replies v → Kept (row_of_fate (turn c n words s) v)
+  fate_kept : (s : State) (v : Fate) → Replies v → Kept (row_of_fate (start c n words s) v)
   fate_kept s (gets action) h = reply_kept listed action h
   fate_kept s (waits x) h = waiting_kept x s
 
-  looked_kept : (x : Waiting) (s : State) (l : LookUp) → Kept (row_of_look_up (turn c n words s) x l)
+  looked_kept : (x : Waiting) (s : State) (l : LookUp) → Kept (row_of_look_up (start c n words s) x l)
   looked_kept x s l = fate_kept (with_promoted l.used s) (fate_of c n x l) (fate_replies c n x l)
 
-  route_kept : (x : Waiting) (s : State) (route : Option ℕ) → Kept (row_of_route (turn c n words s) x route)
+  route_kept : (x : Waiting) (s : State) (route : Option ℕ) → Kept (row_of_route (start c n words s) x route)
   route_kept x s None = reply_kept listed _ (missing_replies c n x [] x.wanted.name)
   route_kept x s (Some route) = looked_kept x s (look_up c.routes n s.cache.entries most_aliases [] x.wanted)
 
-  service_kept : (x : Waiting) (s : State) → Kept (row_of_service (turn c n words s) x)
+  service_kept : (x : Waiting) (s : State) → Kept (row_of_service (start c n words s) x)
   service_kept x s =
       both Kept (is_unserved x.wanted) (reply_kept listed (gives_up NotServed x) tt)
       (route_kept x s (serving_route_of c x.wanted.name))
 
   question_kept : (client : Client) (h : Header) (s : State) (q : Option Question)
-      → Kept (row_of_question (turn c n words s) client h q)
+      → Kept (row_of_question (start c n words s) client h q)
   question_kept client h s None = reply_kept listed _ tt
   question_kept client h s (Some q) = service_kept (taken_now n client h q) s
 
-  request_kept : (client : Client) (octets : List ℕ) (s : State) → Kept (row_of_request (turn c n words s) client octets)
+  request_kept : (client : Client) (octets : List ℕ) (s : State) → Kept (row_of_request (start c n words s) client octets)
   request_kept client octets s =
       both Kept (is_taken octets)
       (both Kept ((header_in octets).opcode == 0) (question_kept client (header_in octets) s (one_question octets))
@@ -295,13 +295,13 @@ module _ (c : Config) (n : ℕ) (words : List ℕ) (listed : List Ask) where
   attempt_kept a is s None = closed_kept a is (fails NoPort a.question) (failing_replies NoPort a.question) None s
   attempt_kept a is s (Some next) = closed_kept a is (λ x. waits x) (λ x. tt) (Some next) s
 
-  next_kept : (a : Ask) → IsIn a listed → (s : State) (next : Next) → Kept (row_of_next (turn c n words s) a next)
-  next_kept a is s (AskUdp server) = attempt_kept a is s (next_ask (turn c n words s) a (AskUdp server))
-  next_kept a is s (AskTcp server) = attempt_kept a is s (next_ask (turn c n words s) a (AskTcp server))
+  next_kept : (a : Ask) → IsIn a listed → (s : State) (next : Next) → Kept (row_of_next (start c n words s) a next)
+  next_kept a is s (AskUdp server) = attempt_kept a is s (next_ask (start c n words s) a (AskUdp server))
+  next_kept a is s (AskTcp server) = attempt_kept a is s (next_ask (start c n words s) a (AskTcp server))
   next_kept a is s GiveUp =
       closed_kept a is (runs_out c n s.cache.entries a.question) (last_replies c n s.cache.entries a.question) None s
 
-  failure_kept : (a : Ask) → IsIn a listed → (f : Failure) (s : State) → Kept (row_of_failure (turn c n words s) a f)
+  failure_kept : (a : Ask) → IsIn a listed → (f : Failure) (s : State) → Kept (row_of_failure (start c n words s) a f)
   failure_kept a is f s = next_kept a is s (after_failure (plan_of c a) f)
 
   -- an accepted reply
@@ -313,13 +313,13 @@ module _ (c : Config) (n : ℕ) (words : List ℕ) (listed : List Ask) where
   name_kept a is fate each s (Some next) = closed_kept a is fate each (Some next) s
 
   sent_on_kept : (a : Ask) → IsIn a listed → (fate : Waiting → Fate) → ((x : Waiting) → Replies (fate x))
-      → (s : State) (q : Option Question) → Kept (row_of_sent_on (turn c n words s) a fate q)
+      → (s : State) (q : Option Question) → Kept (row_of_sent_on (start c n words s) a fate q)
   sent_on_kept a is fate each s None = closed_kept a is fate each None s
   sent_on_kept a is fate each s (Some q) =
-      name_kept a is fate each s (first_ask_for (turn c n words (record s { asks = without_path a.path s.asks })) q)
+      name_kept a is fate each s (first_ask_for (start c n words (record s { asks = without_path a.path s.asks })) q)
 
   end_kept : (a : Ask) → IsIn a listed → (w : Walk) (fate : Waiting → Fate) → ((x : Waiting) → Replies (fate x))
-      → (s : State) (end : End) → Kept (row_of_end (turn c n words s) a w fate end)
+      → (s : State) (end : End) → Kept (row_of_end (start c n words s) a w fate end)
   end_kept a is w fate each s (elsewhere name) =
       sent_on_kept a is fate each (with_promoted (used_by c n s.cache.entries a w s.waiting) s)
       (to_be_asked (without_path a.path s.asks) (still_waiting (map fate (filter (waits_for a.question) s.waiting))))
@@ -329,19 +329,19 @@ module _ (c : Config) (n : ℕ) (words : List ℕ) (listed : List Ask) where
   end_kept a is w fate each s lame = closed_kept a is fate each None s
 
   walk_kept : (rooms : List Bool) (a : Ask) → IsIn a listed → (s : State) (w : Walk)
-      → Kept (row_of_walk (turn c n words s) rooms a w)
+      → Kept (row_of_walk (start c n words s) rooms a w)
   walk_kept rooms a is s w =
       both Kept (is_lame w.end) (failure_kept a is failure.Lame s)
       (end_kept a is w (fate_by c n s.cache.entries a w) (carried_replies c n s.cache.entries a w)
       (with_preferred_server a s) w.end)
 
   message_kept : (rooms : List Bool) (a : Ask) → IsIn a listed → (s : State) (m : Result Message Fault)
-      → Kept (row_of_message (turn c n words s) rooms a m)
+      → Kept (row_of_message (start c n words s) rooms a m)
   message_kept rooms a is s (Ok m) = walk_kept rooms a is s (walk_of c m a.question a.route)
   message_kept rooms a is s (Err fault) = failure_kept a is failure.Malformed s
 
   verdict_kept : (rooms : List Bool) (a : Ask) → IsIn a listed → (octets : List ℕ) (s : State) (v : Verdict)
-      → Kept (row_of_verdict (turn c n words s) rooms a octets v)
+      → Kept (row_of_verdict (start c n words s) rooms a octets v)
   verdict_kept rooms a is octets s Stranger = idle_kept s
   verdict_kept rooms a is octets s Truncated = failure_kept a is failure.Truncated s
   verdict_kept rooms a is octets s (Failed rcode) = failure_kept a is failure.Rcode s
@@ -349,12 +349,12 @@ module _ (c : Config) (n : ℕ) (words : List ℕ) (listed : List Ask) where
   verdict_kept rooms a is octets s Whole = message_kept rooms a is s (message_of octets)
 
   delivery_kept : (rooms : List Bool) (from : Peer) (octets : List ℕ) (s : State) (a : Option Ask) → IsInIfAny listed a
-      → Kept (row_of_delivery (turn c n words s) rooms from octets a)
+      → Kept (row_of_delivery (start c n words s) rooms from octets a)
   delivery_kept rooms from octets s None is = idle_kept s
   delivery_kept rooms from octets s (Some a) is =
       both Kept (nat_lt n (timeout_of c a)) (verdict_kept rooms a is octets s (judge a from octets)) (idle_kept s)
 
-  path_kept : (s : State) (a : Option Ask) → IsInIfAny listed a → Kept (row_of_failed_path (turn c n words s) a)
+  path_kept : (s : State) (a : Option Ask) → IsInIfAny listed a → Kept (row_of_failed_path (start c n words s) a)
   path_kept s None is = idle_kept s
   path_kept s (Some a) is = failure_kept a is failure.Broken s
 
@@ -373,7 +373,7 @@ module _ (c : Config) (n : ℕ) (words : List ℕ) (listed : List Ask) where
   first_is_of (x ∷ xs) (a ∷ others) each = both IsOf (nat_le (deadline_of c x) (timeout_of c a)) tt (each a (inl refl))
 
   item_kept : (s : State) → ((a : Ask) → IsIn a s.asks → IsIn a listed) → (item : Item) → IsOf item
-      → Kept (row_of_item (turn c n words s) item)
+      → Kept (row_of_item (start c n words s) item)
   item_kept s each nothing is = idle_kept s
   item_kept s each (question x others) is =
       both Kept (nat_le (deadline_of c x) n)
@@ -388,7 +388,7 @@ module _ (c : Config) (n : ℕ) (words : List ℕ) (listed : List Ask) where
 
 -- ---- all of them
 
-happens_kept : (c : Config) (n : ℕ) (words : List ℕ) (s : State) (e : Event) (d : Done) → Happens (turn c n words s) e d
+happens_kept : (c : Config) (n : ℕ) (words : List ℕ) (s : State) (e : Event) (d : Done) → Happens (start c n words s) e d
     → Keeps s.asks d.actions
 happens_kept c n words s (from_client client octets) d h =
     subst (λ (x : Done). Keeps s.asks x.actions) (sym h) (request_kept c n words s.asks client octets s)

@@ -14,9 +14,9 @@ use Rattle.worked_claims.proofs.Texts.{no_delivery}
 -- in none of these steps a server was heard
 abbrev pub IsSilent : List Step → Type 0
 IsSilent [] = Unit {0}
-IsSilent (s ∷ past) = (delivery_in s.handed.event ≡ None) × IsSilent past
+IsSilent (s ∷ past) = (delivery_in s.input.event ≡ None) × IsSilent past
 
-pub nothing_heard : (c : Config) (s : Step) (past : List Step) → delivery_in s.handed.event ≡ None
+pub nothing_heard : (c : Config) (s : Step) (past : List Step) → delivery_in s.input.event ≡ None
     → NothingAccepted c s past
 nothing_heard c s past none ps carries = no_delivery (sym none ∙ carries.accepts.matches.delivered)
 

@@ -27,7 +27,7 @@ use Rattle.step_history.specs.Answers.{IsOf, FollowsAliases}
 use Rattle.step_history.proofs.CallerLemmas.{walk_accepted, alias_to, target_is}
 use Rattle.cache_laws.proofs.CallerLemmas.{serves_exactly, replaces_exactly, keeps_place, slot_test}
 use Rattle.step_history.specs.Causes.{AllTriesFailed, ClosesAsk}
-use Rattle.step_history.specs.Stale.{JustifiedPastItsEnd, FollowsPastEnds, ChainPastEnds, StaleAnswers}
+use Rattle.step_history.specs.Stale.{JustifiedStale, FollowsStale, StaleChain, StaleAnswers}
 use Rattle.step_history.specs.Sound.{RightReply}
 use Rattle.step_table.proofs.Played.{a, b, address, name_data, server}
 use Rattle.worked_claims.proofs.Texts.{question_text, client, step_of}
@@ -151,7 +151,7 @@ carried_until_asked = inr (inl (refl, nothing_heard c again past refl, both_carr
 carried_until_now : CarriedInEra c (gives_up ∷ again ∷ past) both
 carried_until_now = inr (inl (refl, nothing_heard c gives_up (again ∷ past) refl, carried_until_asked))
 
-alias_past_its_end : JustifiedPastItsEnd seen a alias
+alias_past_its_end : JustifiedStale seen a alias
 unfolding route_of
 alias_past_its_end = record {
   old = both;
@@ -166,7 +166,7 @@ alias_past_its_end = record {
   within = omega arith;
 }
 
-set_past_its_end : JustifiedPastItsEnd seen b set
+set_past_its_end : JustifiedStale seen b set
 unfolding route_of
 set_past_its_end = record {
   old = both;
@@ -181,7 +181,7 @@ set_past_its_end = record {
   within = omega arith;
 }
 
-along_an_alias : ChainPastEnds seen [] (address a) (alias ∷ []) set
+along_an_alias : StaleChain seen [] (address a) (alias ∷ []) set
 unfolding name_of_rdata name_within walk_in name_step
 along_an_alias = record {
   last = address b;
@@ -227,7 +227,7 @@ stale_answers : StaleAnswers seen client (header_in (question_text 7 1)) (addres
 unfolding written ◌▹◌ each name_text data_text with_length fields_of first_field name_within walk_in name_step
     shape_of
 stale_answers = record {
-  past = alias ∷ [];
+  found = alias ∷ [];
   end = set;
   chain = along_an_alias;
   text = refl;
@@ -242,10 +242,10 @@ an_answer_along_an_alias =
     record { opcode = refl; tries = tries; served = refl; window = omega arith; answers = stale_answers }
 
 -- an alias leads from its own name, and to its own target
-from_another_name : (l : Look) (last : Question) → FollowsPastEnds l (address b) (alias ∷ []) last → ⊥
+from_another_name : (l : Look) (last : Question) → FollowsStale l (address b) (alias ∷ []) last → ⊥
 from_another_name l last h = false≢true (slot_test alias.piece.slot (record { key = b; class = 1; kind = Some 5 }) h.2)
 
-to_its_target_alone : (l : Look) (last : Question) → FollowsPastEnds l (address a) (alias ∷ []) last
+to_its_target_alone : (l : Look) (last : Question) → FollowsStale l (address a) (alias ∷ []) last
     → last ≡ address b
 unfolding name_of_rdata name_within walk_in name_step
 to_its_target_alone l last h =
@@ -254,7 +254,7 @@ to_its_target_alone l last h =
     h.5 ∙ ap address (sym target)
 
 -- a set answers for its own type
-of_another_type : (l : Look) → ChainPastEnds l [] (record (address b) { kind = 28 }) [] set → ⊥
+of_another_type : (l : Look) → StaleChain l [] (record (address b) { kind = 28 }) [] set → ⊥
 of_another_type l h =
     false≢true (slot_test set.piece.slot (record { key = b; class = 1; kind = Some 28 })
     (subst (λ (q : Question). IsOf set.piece q.name q.class (Some q.kind)) h.follows h.slot))
@@ -299,7 +299,7 @@ follows_it : FollowsAliases seen_sooner (address a) (alias ∷ []) (address b)
 unfolding name_of_rdata name_within walk_in name_step
 follows_it = (aliases.no_alias_asked, alias_lives, record { name = refl; class = refl; kind = refl }, b, alias_to alias.piece b refl, refl)
 
-set_has_ended : JustifiedPastItsEnd seen_sooner b set
+set_has_ended : JustifiedStale seen_sooner b set
 unfolding route_of
 set_has_ended = record {
   old = both;
@@ -350,7 +350,7 @@ held_answers : StaleAnswers seen_sooner client (header_in (question_text 7 1)) (
 unfolding written ◌▹◌ each name_text data_text with_length fields_of first_field name_within walk_in name_step
     shape_of
 held_answers = record {
-  past = [];
+  found = [];
   end = set;
   chain = record { last = address b; follows = refl; few = omega arith; justified = set_has_ended; slot = record { name = refl; class = refl; kind = refl } };
   text = refl;
@@ -457,7 +457,7 @@ seen_looped = record { config = c; asked = asked; before = []; now = waits ∷ l
 looped_until_now : CarriedInEra c (waits ∷ looped) (newer 1040 ∷ aliases.loops 8)
 looped_until_now = inr (inl (refl, nothing_heard c waits looped refl, looped_carried))
 
-loop_past_its_end : JustifiedPastItsEnd seen_looped a aliases.loop
+loop_past_its_end : JustifiedStale seen_looped a aliases.loop
 unfolding route_of
 loop_past_its_end = record {
   old = newer 1040 ∷ aliases.loops 8;
@@ -472,7 +472,7 @@ loop_past_its_end = record {
   within = omega arith;
 }
 
-address_past_its_end : JustifiedPastItsEnd seen_looped a (newer 1040)
+address_past_its_end : JustifiedStale seen_looped a (newer 1040)
 unfolding route_of
 address_past_its_end = record {
   old = newer 1040 ∷ aliases.loops 8;
@@ -487,16 +487,16 @@ address_past_its_end = record {
   within = omega arith;
 }
 
-one_more : (os : List Held) → FollowsPastEnds seen_looped (address a) os (address a)
-    → FollowsPastEnds seen_looped (address a) (aliases.loop ∷ os) (address a)
+one_more : (os : List Held) → FollowsStale seen_looped (address a) os (address a)
+    → FollowsStale seen_looped (address a) (aliases.loop ∷ os) (address a)
 unfolding name_of_rdata name_within walk_in name_step
 one_more os rest = (aliases.no_alias_asked, loop_past_its_end, record { name = refl; class = refl; kind = refl }, a, alias_to aliases.alias a refl, rest)
 
-so_many : (n : ℕ) → FollowsPastEnds seen_looped (address a) (aliases.loops n) (address a)
+so_many : (n : ℕ) → FollowsStale seen_looped (address a) (aliases.loops n) (address a)
 so_many zero = refl
 so_many (suc n) = one_more (aliases.loops n) (so_many n)
 
-eight_past_their_ends : ChainPastEnds seen_looped [] (address a) (aliases.loops 8) (newer 1040)
+eight_past_their_ends : StaleChain seen_looped [] (address a) (aliases.loops 8) (newer 1040)
 eight_past_their_ends = record {
   last = address a;
   follows = so_many 8;
@@ -505,7 +505,7 @@ eight_past_their_ends = record {
   slot = record { name = refl; class = refl; kind = refl };
 }
 
-five_behind_three_that_are_held : ChainPastEnds seen_looped (aliases.loops 3) (address a) (aliases.loops 5) (newer 1040)
+five_behind_three_that_are_held : StaleChain seen_looped (aliases.loops 3) (address a) (aliases.loops 5) (newer 1040)
 five_behind_three_that_are_held = record {
   last = address a;
   follows = so_many 5;
@@ -514,11 +514,11 @@ five_behind_three_that_are_held = record {
   slot = record { name = refl; class = refl; kind = refl };
 }
 
-nine_past_their_ends : (l : Look) (q : Question) (o : Held) → ChainPastEnds l [] q (aliases.loops 9) o → ⊥
+nine_past_their_ends : (l : Look) (q : Question) (o : Held) → StaleChain l [] q (aliases.loops 9) o → ⊥
 nine_past_their_ends l q o h = let few : 9 ≤ 8 = h.few in omega (arith, few)
 
 five_behind_four_that_are_held : (l : Look) (q : Question) (o : Held)
-    → ChainPastEnds l (aliases.loops 4) q (aliases.loops 5) o → ⊥
+    → StaleChain l (aliases.loops 4) q (aliases.loops 5) o → ⊥
 five_behind_four_that_are_held l q o h = let few : 9 ≤ 8 = h.few in omega (arith, few)
 
 -- ---- a set that another one replaced
@@ -550,7 +550,7 @@ renewed_carried = inr (inr (
 renewed_until_now : CarriedInEra c (waits ∷ renewed) two_sets
 renewed_until_now = inr (inl (refl, nothing_heard c waits renewed refl, renewed_carried))
 
-the_newer_set : JustifiedPastItsEnd seen_renewed a (newer 62020)
+the_newer_set : JustifiedStale seen_renewed a (newer 62020)
 unfolding route_of
 the_newer_set = record {
   old = two_sets;
@@ -566,7 +566,7 @@ the_newer_set = record {
 }
 
 -- of the older one all holds, but that it was replaced
-not_the_older_set : JustifiedPastItsEnd seen_renewed a held → ⊥
+not_the_older_set : JustifiedStale seen_renewed a held → ⊥
 not_the_older_set j = by (subst (NotReplaced held)
     (one_era c (waits ∷ renewed) (j.new ++ j.old) two_sets (tt, tt) j.carried_now renewed_until_now) j.not_replaced)
   where
@@ -574,7 +574,7 @@ not_the_older_set j = by (subst (NotReplaced held)
     by (inl same) = let moments : 62020 ≡ 1020 = ap (λ (o : Held). o.accepted) same in omega (arith, moments)
     by (inr behind) = behind.0 (replaces_exactly.only five_seconds held.piece refl)
 
-but_for_its_place : NotReplaced held two_sets → JustifiedPastItsEnd seen_renewed a held
+but_for_its_place : NotReplaced held two_sets → JustifiedStale seen_renewed a held
 unfolding route_of
 but_for_its_place not_replaced = record {
   old = two_sets;

@@ -45,7 +45,7 @@ stream_client = FromTcp 3
 
 abbrev pub step_of : ℕ → List ℕ → Event → List Action → Step
 step_of now words event actions = record {
-  handed = record { now = now; words = words; event = event };
+  input = record { now = now; words = words; event = event };
   outcome = record { actions = actions; unkept = 0; more = false };
 }
 

@@ -44,7 +44,7 @@ use Rattle.worked_claims.proofs.Whole.{history, it_is_sound, it_asks_well, it_te
 
 abbrev first : Bool → List ℕ → List Action → Step
 first more words actions = record {
-  handed = record { now = 1000; words = words; event = from_client client (question_text 7 1) };
+  input = record { now = 1000; words = words; event = from_client client (question_text 7 1) };
   outcome = record { actions = actions; unkept = 0; more = more };
 }
 

@@ -4,14 +4,14 @@ use Rattle.suffix_routes.specs.Values.{Config, default_limits}
 use Rattle.suffix_routes.specs.Routes.{route_of}
 use Rattle.step_values.specs.declared.action.Why.TheVariants.{Deadline}
 use Rattle.step_values.specs.Values.{Action, close_udp}
-use Rattle.step_table.proofs.Played.{Told, ticking, played, a, b, address, server, other_server, config, asks_for}
+use Rattle.step_table.proofs.Played.{Happening, ticking, played, a, b, address, server, other_server, config, asks_for}
 use Rattle.step_table.proofs.Played.{sends_query, fails_with}
 
 -- a question waits this many milliseconds
 abbrev waits : ℕ → Config
 waits milliseconds = record config { limits = record default_limits { deadline_ms = milliseconds } }
 
-abbrev first : ℕ × Told
+abbrev first : ℕ × Happening
 first = (1000, asks_for 1 (address a))
 
 abbrev asks_a : List Action

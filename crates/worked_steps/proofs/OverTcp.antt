@@ -15,13 +15,13 @@ use Rattle.step_values.specs.declared.action.Why.TheVariants.{Answered}
 use Rattle.step_values.specs.Values.{Action, ask_tcp, close_udp, close_tcp}
 use Rattle.waiting_questions.specs.Values.{Waiting}
 use Rattle.step_table.specs.Steps.{sends}
-use Rattle.step_table.proofs.Played.{Told, asking, hearing, failing, breaking, played, a, b, address, server}
+use Rattle.step_table.proofs.Played.{Happening, asking, hearing, failing, breaking, played, a, b, address, server}
 use Rattle.step_table.proofs.Played.{other_server, config, asks_for, host, hears, one_host, asked, sends_query, answers}
 
-abbrev first : ℕ × Told
+abbrev first : ℕ × Happening
 first = (1000, asks_for 1 (address a))
 
-abbrev cut : ℕ × Told
+abbrev cut : ℕ × Happening
 cut = (1010, failing (Udp 1032) Truncated)
 
 abbrev asks_over_tcp : ℕ → Peer → ℕ → Question → Action

@@ -10,7 +10,7 @@ use Rattle.trust_rank.specs.Walks.{walk_from, servers_from}
 use Rattle.step_values.specs.declared.action.Why.TheVariants.{NoPort, Exhausted, Deadline, Stale, LocalDenied}
 use Rattle.step_values.specs.Values.{Action, close_udp}
 use Rattle.step_table.specs.State.{State}
-use Rattle.step_table.proofs.Played.{Told, ticking, next, words_of, played, after, name_data, a, b, d, address, server}
+use Rattle.step_table.proofs.Played.{Happening, ticking, next, words_of, played, after, name_data, a, b, d, address, server}
 use Rattle.step_table.proofs.Played.{other_server, config, asks_for, rr, host, reply, hears, one_host, sends_query}
 use Rattle.step_table.proofs.Played.{shows_as, answers, fails_with}
 
@@ -23,13 +23,13 @@ abbrev past_end : ℕ → Question → List Record → Action
 past_end id q records = shows_as Stale 0 id q records []
 
 -- a.e is asked for and carried for 300 seconds, up to 301020
-abbrev first : ℕ × Told
+abbrev first : ℕ × Happening
 first = (1000, asks_for 1 (address a))
 
-abbrev good : ℕ × Told
+abbrev good : ℕ × Happening
 good = (1020, hears 1032 (one_host a))
 
-abbrev again : ℕ × Told
+abbrev again : ℕ × Happening
 again = (301020, asks_for 2 (address a))
 
 -- ---- no window at the deadline

@@ -2,8 +2,8 @@
 
 ghost use Rattle.std.specs.Prelude.{◌≡◌, ◌^◌, ◌≤◌, ◌<◌, ◌+◌, ◌*◌, [], ◌∷◌, false, IfOk, OnErr, IsOk, map};
 ghost use Rattle.step_values.specs.Values.{event_of};
-ghost use Rattle.step_table.specs.State.{turn};
-ghost use Rattle.step_table.specs.Steps.{start};
+ghost use Rattle.step_table.specs.State.{start};
+ghost use Rattle.step_table.specs.Steps.{initial};
 ghost use Rattle.step_table.specs.Row.{TakesNoMemory, effective, Row};
 ghost use Rattle.step_table.specs.Progress.{left_to_do, ServesSomething, next_due, IsInOrder};
 ghost use Rattle.theorem_sound.specs.Runs.{StaysExplained};
@@ -22,7 +22,7 @@ use record_cache::{Cache, LookUpSlot};
 use std::alloc::{AllocError, Allocator, Global};
 use std::hash::BuildHasher;
 use std::marker::Model;
-use step_actions::{Decision, Kept, TurnRef};
+use step_actions::{Decision, Kept, StepStartRef};
 use step_values::{Actions, Event, Outcome};
 use suffix_routes::{Config, Route};
 use waiting_questions::WaitingQuestions;
@@ -63,7 +63,7 @@ impl<H: BuildHasher, A: Allocator> Model for Forwarder<H, A> {
 impl<H: BuildHasher + Drop, A: Allocator + Copy> Forwarder<H, A> {
     /// A forwarder with empty lists and an empty cache.
     pub fn new(alloc: A, config: Config<A>, hasher: H) -> Result<Forwarder<H, A>, AllocError>
-        ensures new { IfOk result (λ forwarder. forwarder ≡ record { config = config; state = start config }) }
+        ensures new { IfOk result (λ forwarder. forwarder ≡ record { config = config; state = initial config }) }
         ensures explained { IfOk result (λ forwarder. Explains forwarder.config [] [] forwarder.state) }
         ensures whole { IfOk result (λ forwarder. FullyExplains forwarder.config [] [] forwarder.state) }
         ensures new_run { IfOk result (λ forwarder. ComesTo forwarder.config [] forwarder.state) }
@@ -87,7 +87,7 @@ impl<H: BuildHasher + Drop, A: Allocator + Copy> Forwarder<H, A> {
 
     /// Forgets all but the configuration: the state becomes a new forwarder's.
     pub fn restart(&mut self)
-        ensures { self.new ≡ record { config = self.old.config; state = start self.old.config } }
+        ensures { self.new ≡ record { config = self.old.config; state = initial self.old.config } }
     {
         forget_all(
             &mut self.kept.cache,
@@ -122,7 +122,7 @@ impl<H: BuildHasher + Drop, A: Allocator + Copy> Forwarder<H, A> {
         // After any steps from a new forwarder to the state before, this step serves truly: with
         // one list of owners each claim holds of the whole run.
         ensures truly { IfOk result (λ outcome. ServesOnTruly self.old.config self.old.state (record {
-          handed = record { now = now; words = words; event = event_of event.now };
+          input = record { now = now; words = words; event = event_of event.now };
           outcome = outcome;
         } ∷ [])) }
         ensures config { self.new.config ≡ self.old.config }
@@ -196,7 +196,7 @@ impl<H: BuildHasher + Drop, A: Allocator + Copy> Forwarder<H, A> {
                 change,
                 carried,
             },
-        ) = decide(&self.turn(now, words), &mut slot, event)?
+        ) = decide(&self.start(now, words), &mut slot, event)?
         else {
             self.restart();
             return Ok(self.nothing_done());
@@ -206,10 +206,10 @@ impl<H: BuildHasher + Drop, A: Allocator + Copy> Forwarder<H, A> {
     }
 
     /// The forwarder at the start of a step, borrowed, with the moment and the words of the step.
-    fn turn(&self, now: u64, words: [u32; 8]) -> TurnRef<'_, H, A>
-        ensures { result ≡ turn self.now.config (effective now self.now.state) words self.now.state }
+    fn start(&self, now: u64, words: [u32; 8]) -> StepStartRef<'_, H, A>
+        ensures { result ≡ start self.now.config (effective now self.now.state) words self.now.state }
     {
-        TurnRef {
+        StepStartRef {
             alloc: self.alloc,
             config: &self.config,
             kept: &self.kept,

@@ -1,6 +1,6 @@
 //! Sockets that are tried in turn, whatever the events reported.
 
-ghost use Rattle.socket_wire.specs.Trying.{BeginsRound, TriesAsk, TriesClient, TriesOthers};
+ghost use Rattle.socket_wire.specs.Trying.{BeginsSweep, TriesAsk, TriesClient, TriesOthers};
 ghost use Rattle.socket_wire.specs.Trying.{TriesServer, TriesUpTo};
 
 use super::Sockets;
@@ -8,32 +8,32 @@ use ready_sockets::Origin;
 use std::alloc::Allocator;
 use std::net::Net;
 
-/// The most sockets of each kind that are tried in a round.
+/// The most sockets of each kind that are tried in a sweep.
 const AT_ONCE: u8 = 20;
 
-/// The listener for connections is tried once in this number of rounds. The system makes a socket
-/// before it looks for a client, which takes as long as the rest of a round.
-const ROUNDS: u8 = 8;
+/// The listener for connections is tried once in this number of sweeps. The system makes a socket
+/// before it looks for a client, which takes as long as the rest of a sweep.
+const SWEEPS: u8 = 8;
 
 impl<R: Net, A: Allocator + Copy> Sockets<'_, R, A> {
-    /// Has the socket for datagrams, the listener in every eighth round, and some of the other
+    /// Has the socket for datagrams, the listener in every eighth sweep, and some of the other
     /// sockets tried in turn, whatever the events reported.
     pub(super) fn try_others(&mut self)
         ensures { TriesOthers self.old self.new }
     {
-        self.begin_round();
+        self.begin_sweep();
         self.try_clients();
         self.try_asks();
         self.try_servers();
     }
 
-    /// Has the socket for datagrams tried, and the listener in every eighth round.
-    fn begin_round(&mut self)
-        ensures { BeginsRound self.old self.new }
+    /// Has the socket for datagrams tried, and the listener in every eighth sweep.
+    fn begin_sweep(&mut self)
+        ensures { BeginsSweep self.old self.new }
     {
         self.readiness.add(Origin::Datagrams);
-        self.rounds = self.rounds.wrapping_add(1);
-        if self.rounds % ROUNDS == 0 {
+        self.sweeps = self.sweeps.wrapping_add(1);
+        if self.sweeps % SWEEPS == 0 {
             self.readiness.add(Origin::Connections);
         }
     }

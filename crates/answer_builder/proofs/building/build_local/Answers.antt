@@ -8,7 +8,7 @@ use Rattle.answer_builder.proofs.building.build_local.Goals as goal
 
 pub returns : goal.returns
 returns g c =
-    let told = c.deref.ensures.value ∙ c.in_ok-told.ensures ∙ none_past c.args.moment c.args.aliases.now in
-    let sections = c.in_ok-denied.ensures ∙ ap local_sections told in
+    let pieces = c.deref.ensures.value ∙ c.in_ok-pieces.ensures ∙ none_past c.args.moment c.args.aliases.now in
+    let sections = c.in_ok-denied.ensures ∙ ap local_sections pieces in
     let text = ap (λ (s : Sections). text_of c.args.asked.now s c.args.transport) sections in
     gives_as _ c.built-2.result _ _ text c.built-2.ensures

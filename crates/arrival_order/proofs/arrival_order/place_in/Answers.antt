@@ -2,7 +2,7 @@ use Rattle.std.proofs.Common.{rules, ◌≡◌, ℕ, true, false, sym, subst}
 use Rattle.std.specs.Prelude.{nat_lt, slice_index}
 use Rattle.std.specs.List.Sorted.{IsPartitionPoint}
 use Rattle.std.proofs.lemmas.List.Sorted.{IsPartitionPoint-from_clause, IsPartitionedBy-ltb}
-use Rattle.arrival_order.proofs.Turns.{numbers_rise, among, not_before, turn_found}
+use Rattle.arrival_order.proofs.Numbering.{numbers_rise, among, not_before, rank_found}
 use Rattle.arrival_order.proofs.arrival_order.place_in.Goals as goal
 
 -- the key is nowhere: impossible
@@ -17,5 +17,5 @@ unreachable-requires g c =
 
 pub returns-clause-stands : goal.returns-clause-stands
 returns-clause-stands g c =
-    turn_found c.args.keys.now.items c.partition_point-start.result c.args.key c.in-Some.offset
+    rank_found c.args.keys.now.items c.partition_point-start.result c.args.key c.in-Some.offset
     (sym c.in-Some.ensures)

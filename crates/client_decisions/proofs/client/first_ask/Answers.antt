@@ -1,30 +1,30 @@
 use Rattle.std.proofs.Common.{◌≡◌, ◌∙◌, subst, sym, get_or, arith}
 use Rattle.std.specs.Prelude.{unwrap_or}
 use Rattle.std.proofs.lemmas.Result.{IfOk-weaker}
-use Rattle.step_table.specs.State.{Turn, turn}
+use Rattle.step_table.specs.State.{StepStart, start}
 use Rattle.step_table.specs.Attempts.{ask_by, first_ask, peer_at}
 use Rattle.client_decisions.proofs.Clients.{asked_first}
 use Rattle.client_decisions.proofs.client.first_ask.Goals as goal
 
 pub returns : goal.returns
 returns g c =
-    let server : c.unwrap_or-server.result ≡ get_or c.turn.inside.kept.now.preferred.items c.args.route 0 =
+    let server : c.unwrap_or-server.result ≡ get_or c.start.inside.kept.now.preferred.items c.args.route 0 =
     c.unwrap_or-server.ensures ∙ (λ i. unwrap_or (c.copied.ensures i) 0) ∙ c.get.ensures.lookup.4 (omega arith) 0
     ∙ (λ i. get_or (c.as_slice.ensures.value i) (c.route.view_is i) 0) in
     IfOk-weaker c.new_ask.result _ _ (λ ask is.
-    subst (λ (r : Turn). ask ≡ first_ask (turn r.config r.moment r.words r.state) c.args.question.now c.args.route)
-    c.turn.view_is
-    (asked_first c.turn.inside.config.now c.turn.inside.moment c.turn.inside.words c.args.question.now c.args.route
+    subst (λ (r : StepStart). ask ≡ first_ask (start r.config r.moment r.words r.state) c.args.question.now c.args.route)
+    c.start.view_is
+    (asked_first c.start.inside.config.now c.start.inside.moment c.start.inside.words c.args.question.now c.args.route
     (record {
-      cache = c.turn.inside.kept.now.cache;
-      asks = c.turn.inside.kept.now.inquiries.asks;
-      waiting = c.turn.inside.kept.now.waiting.items;
-      preferred = c.turn.inside.kept.now.preferred.items;
-      moment = c.turn.inside.kept.now.moment;
-      tcp_asks = c.turn.inside.kept.now.tcp_asks;
+      cache = c.start.inside.kept.now.cache;
+      asks = c.start.inside.kept.now.inquiries.asks;
+      waiting = c.start.inside.kept.now.waiting.items;
+      preferred = c.start.inside.kept.now.preferred.items;
+      moment = c.start.inside.kept.now.moment;
+      tcp_asks = c.start.inside.kept.now.tcp_asks;
     })
     c.unwrap_or-server.result c.draw.result c.by_udp-drawn.result ask server c.draw.ensures.drawn
     c.by_udp-drawn.ensures
-    (is ∙ (λ i. ask_by (sym c.turn.view_is i).moment c.args.question.now c.args.route c.unwrap_or-server.result 1
-    (peer_at (sym c.turn.view_is i).config c.args.route c.unwrap_or-server.result) c.by_udp-drawn.result))))
+    (is ∙ (λ i. ask_by (sym c.start.view_is i).moment c.args.question.now c.args.route c.unwrap_or-server.result 1
+    (peer_at (sym c.start.view_is i).config c.args.route c.unwrap_or-server.result) c.by_udp-drawn.result))))
     c.new_ask.ensures

@@ -14,20 +14,20 @@ pub returns : goal.returns
 returns g c = record {
   decides = record {
     row = λ rooms.
-        next_is {A = g.row.A.Denot} c.args.turn.now.moment rooms c.args.turn.now.state (record {
+        next_is {A = g.row.A.Denot} c.args.start.now.moment rooms c.args.start.now.state (record {
           actions = c.new-3.result;
           used = c.args.used;
           change = Join c.in_ok-joined.joined;
           carried = c.new-4.result;
         }) c.args.used (Join c.in_ok-joined.joined) refl refl
         (ap (map (λ (h : Held). h.piece)) c.new-4.ensures.items)
-        ∙ joined_is g.row.A.Denot c.args.turn.now.moment (with_promoted c.args.used c.args.turn.now.state)
+        ∙ joined_is g.row.A.Denot c.args.start.now.moment (with_promoted c.args.used c.args.start.now.state)
         c.args.waiting c.in_ok-joined.joined _ (c.in_ok-joined.ensures.ok ∙ c.new.ensures)
         (ap (λ xs. actions_of {A = g.row.A.Denot} xs) c.new-3.ensures);
     fits =
-        carries_nothing c.args.turn.now.config c.args.turn.now.moment c.args.turn.now.state _
+        carries_nothing c.args.start.now.config c.args.start.now.moment c.args.start.now.state _
         (ap (map (λ (h : Held). h.piece)) c.new-4.ensures.items)
-        (subst (λ (x : Waiting). CanWait c.args.turn.now.config c.args.turn.now.moment c.args.turn.now.state x)
+        (subst (λ (x : Waiting). CanWait c.args.start.now.config c.args.start.now.moment c.args.start.now.state x)
         (sym (c.in_ok-joined.ensures.ok ∙ c.new.ensures)) c.requires.waits);
   };
 }

@@ -10,15 +10,15 @@ returns-clause-decides g c =
 pub returns-then-header-ne0-clause-decides : goal.returns-then-header-ne0-clause-decides
 returns-then-header-ne0-clause-decides g c = decides_by c.refuse_message.result _ _ _ c.refuse_message.ensures.decides
     (λ rooms.
-    opcode_row c.args.turn.now.config c.args.turn.now.moment c.args.turn.now.words c.args.client c.args.bytes.now
-    c.args.turn.now.state c.in-Some.header _
+    opcode_row c.args.start.now.config c.args.start.now.moment c.args.start.now.words c.args.client c.args.bytes.now
+    c.args.start.now.state c.in-Some.header _
     c.in-Some.ensures.0 c.in-Some.ensures.1 c.if-header-ne0.true refl)
 
 pub returns-in_default-clause-decides : goal.returns-in_default-clause-decides
 returns-in_default-clause-decides g c =
     decides_as c.nothing.ensures.decides (λ rooms.
-    dropped_row c.args.turn.now.config c.args.turn.now.moment c.args.turn.now.words c.args.client c.args.bytes.now
-    c.args.turn.now.state _ c.in_default.ensures refl)
+    dropped_row c.args.start.now.config c.args.start.now.moment c.args.start.now.words c.args.client c.args.bytes.now
+    c.args.start.now.state _ c.in_default.ensures refl)
 
 pub returns-in_default-with_one_question-clause-decides : goal.returns-in_default-with_one_question-clause-decides
 returns-in_default-with_one_question-clause-decides g c = decides_by

@@ -14,30 +14,30 @@ pub returns : goal.returns
 returns g c = record {
   decides = record {
     row = λ rooms.
-        next_is {A = g.row.A.Denot} c.args.turn.now.moment rooms c.args.turn.now.state (record {
+        next_is {A = g.row.A.Denot} c.args.start.now.moment rooms c.args.start.now.state (record {
           actions = c.one.result;
           used = c.args.used;
           change = Open c.in_ok-opening.opening;
           carried = c.new-4.result;
         }) c.args.used (Open c.in_ok-opening.opening) refl refl
         (ap (map (λ (h : Held). h.piece)) c.new-4.ensures.items)
-        ∙ opened_is g.row.A.Denot c.args.turn.now.moment (with_promoted c.args.used c.args.turn.now.state)
+        ∙ opened_is g.row.A.Denot c.args.start.now.moment (with_promoted c.args.used c.args.start.now.state)
         c.args.waiting c.args.ask c.in_ok-opening.opening _
         (ap (λ (o : Opening g.row.A.Denot). o.waiting) c.in_ok-opening.ensures.ok ∙ c.new.ensures)
         (ap (λ (o : Opening g.row.A.Denot). o.ask) c.in_ok-opening.ensures.ok ∙ c.new-2.ensures)
         (ap (λ xs. actions_of {A = g.row.A.Denot} xs) c.one.ensures
         ∙ (λ i. c.in_ok-action.ensures i ∷ []));
     fits =
-        carries_nothing c.args.turn.now.config c.args.turn.now.moment c.args.turn.now.state _
+        carries_nothing c.args.start.now.config c.args.start.now.moment c.args.start.now.state _
         (ap (map (λ (h : Held). h.piece)) c.new-4.ensures.items)
-        (subst (λ (o : Opening g.row.A.Denot). CanWait c.args.turn.now.config c.args.turn.now.moment
-        c.args.turn.now.state o.waiting × CanFollow c.args.turn.now.config c.args.turn.now.moment c.args.turn.now.state
-        c.args.turn.now.state.asks o.ask)
+        (subst (λ (o : Opening g.row.A.Denot). CanWait c.args.start.now.config c.args.start.now.moment
+        c.args.start.now.state o.waiting × CanFollow c.args.start.now.config c.args.start.now.moment c.args.start.now.state
+        c.args.start.now.state.asks o.ask)
         (sym c.in_ok-opening.ensures.ok) (
-          subst (CanWait c.args.turn.now.config c.args.turn.now.moment c.args.turn.now.state) (sym c.new.ensures)
+          subst (CanWait c.args.start.now.config c.args.start.now.moment c.args.start.now.state) (sym c.new.ensures)
               c.requires.waits,
-          subst (CanFollow c.args.turn.now.config c.args.turn.now.moment c.args.turn.now.state
-              c.args.turn.now.state.asks) (sym c.new-2.ensures) c.requires.follows,
+          subst (CanFollow c.args.start.now.config c.args.start.now.moment c.args.start.now.state
+              c.args.start.now.state.asks) (sym c.new-2.ensures) c.requires.follows,
         ));
   };
 }

@@ -10,7 +10,7 @@ returns g c = record {
   decides = record {
     row = λ rooms. grind (arith, common_steps);
     fits =
-        carries_nothing c.args.turn.now.config c.args.turn.now.moment c.args.turn.now.state _
+        carries_nothing c.args.start.now.config c.args.start.now.moment c.args.start.now.state _
         (ap (map (λ (h : Held). h.piece)) c.new.ensures.items) tt;
   };
 }

@@ -1,8 +1,8 @@
 use Rattle.std.proofs.Common.{◌≡◌, ◌∙◌, ℕ, sym, subst}
 use Rattle.std.proofs.lemmas.Result.{IfOk-weaker}
 use Rattle.step_table.specs.State.{Running}
-use Rattle.step_table.specs.Steps.{start}
-use Rattle.forwarder_commands.specs.Service.{ServesAndTells, ServesFrom, telling_of}
+use Rattle.step_table.specs.Steps.{initial}
+use Rattle.forwarder_commands.specs.Service.{ServesAndReports, ServesFrom, journal_of}
 use Rattle.forwarder_commands.proofs.serving.serve_config.Goals as goal
 
 pub returns-clause-serves : goal.returns-clause-serves
@@ -18,9 +18,9 @@ returns-clause-serves g c =
       is_new = c.in_ok-wire.ensures.made;
       after = after;
       wire_after = wire_after;
-      serves = subst (λ (before : Running). ServesAndTells before (telling_of wire) c.args.turns.number after (telling_of wire_after) held held')
+      serves = subst (λ (before : Running). ServesAndReports before (journal_of wire) c.args.turns.number after (journal_of wire_after) held held')
           c.in_ok-forwarder.ensures.new
-          (subst (λ (turns : ℕ). ServesAndTells c.in_ok-forwarder.forwarder (telling_of wire) turns after (telling_of wire_after) held held')
+          (subst (λ (turns : ℕ). ServesAndReports c.in_ok-forwarder.forwarder (journal_of wire) turns after (journal_of wire_after) held held')
           c.number.ensures serves);
     })
     c.serve_as_one.ensures.serves

@@ -12,59 +12,59 @@ use Rattle.forwarder_core.proofs.deciding.decide.Goals as goal
 
 pub returns-in_ok-next-in-Client-clause-row : goal.returns-in_ok-next-in-Client-clause-row
 returns-in_ok-next-in-Client-clause-row g c = λ rooms.
-    subst (λ (e : OwnedEvent g.row.A.Denot). Happens c.args.turn.now (event_of e)
-    (next_of c.args.turn.now.moment rooms c.args.turn.now.state c.in_ok-next-in-Client.next)) (sym c.in-Client.is)
+    subst (λ (e : OwnedEvent g.row.A.Denot). Happens c.args.start.now (event_of e)
+    (next_of c.args.start.now.moment rooms c.args.start.now.state c.in_ok-next-in-Client.next)) (sym c.in-Client.is)
     (c.in_ok-next-in-Client.ensures.decides.row rooms ∙ ap
-    (λ (octets : List ℕ). row_of_request c.args.turn.now c.in-Client.client octets) c.as_slice-octets.ensures)
+    (λ (octets : List ℕ). row_of_request c.args.start.now c.in-Client.client octets) c.as_slice-octets.ensures)
 
 pub returns-in_ok-next-in-Delivery-clause-row : goal.returns-in_ok-next-in-Delivery-clause-row
 returns-in_ok-next-in-Delivery-clause-row g c = λ rooms.
-    subst (λ (e : OwnedEvent g.row.A.Denot). Happens c.args.turn.now (event_of e)
-    (next_of c.args.turn.now.moment rooms c.args.turn.now.state c.in_ok-next-in-Delivery.next)) (sym c.in-Delivery.is) (
+    subst (λ (e : OwnedEvent g.row.A.Denot). Happens c.args.start.now (event_of e)
+    (next_of c.args.start.now.moment rooms c.args.start.now.state c.in_ok-next-in-Delivery.next)) (sym c.in-Delivery.is) (
       rooms,
       c.in_ok-next-in-Delivery.ensures.decides.row rooms
-          ∙ ap (λ (octets : List ℕ). row_of_delivery c.args.turn.now rooms c.in-Delivery.from octets
-          (ask_on c.in-Delivery.path c.args.turn.now.state.asks)) c.as_slice-octets-in-Delivery.ensures,
+          ∙ ap (λ (octets : List ℕ). row_of_delivery c.args.start.now rooms c.in-Delivery.from octets
+          (ask_on c.in-Delivery.path c.args.start.now.state.asks)) c.as_slice-octets-in-Delivery.ensures,
     )
 
 pub returns-in_ok-next-in-PathFailed-clause-row : goal.returns-in_ok-next-in-PathFailed-clause-row
 returns-in_ok-next-in-PathFailed-clause-row g c = λ rooms.
-    subst (λ (e : OwnedEvent g.row.A.Denot). Happens c.args.turn.now (event_of e)
-    (next_of c.args.turn.now.moment rooms c.args.turn.now.state c.in_ok-next-in-PathFailed.next))
+    subst (λ (e : OwnedEvent g.row.A.Denot). Happens c.args.start.now (event_of e)
+    (next_of c.args.start.now.moment rooms c.args.start.now.state c.in_ok-next-in-PathFailed.next))
     (sym c.in-PathFailed.is)
     (c.in_ok-next-in-PathFailed.ensures.decides.row rooms)
 
 pub returns-in_ok-next-in-Tick-clause-row : goal.returns-in_ok-next-in-Tick-clause-row
 returns-in_ok-next-in-Tick-clause-row g c = λ rooms.
-    subst (λ (e : OwnedEvent g.row.A.Denot). Happens c.args.turn.now (event_of e)
-    (next_of c.args.turn.now.moment rooms c.args.turn.now.state c.in_ok-next-in-Tick.next)) (sym c.in-Tick.is)
+    subst (λ (e : OwnedEvent g.row.A.Denot). Happens c.args.start.now (event_of e)
+    (next_of c.args.start.now.moment rooms c.args.start.now.state c.in_ok-next-in-Tick.next)) (sym c.in-Tick.is)
     (c.in_ok-next-in-Tick.ensures.decides.row rooms)
 
 pub returns-in_ok-next-in-Tick-clause-no_memory : goal.returns-in_ok-next-in-Tick-clause-no_memory
 returns-in_ok-next-in-Tick-clause-no_memory g c = λ quiet.
-    c.in_ok-next-in-Tick.ensures.early (subst (λ (e : OwnedEvent g.row.A.Denot). TakesNoMemory c.args.turn.now.config
-    c.args.turn.now.moment c.args.turn.now.state (event_of e)) c.in-Tick.is quiet)
+    c.in_ok-next-in-Tick.ensures.early (subst (λ (e : OwnedEvent g.row.A.Denot). TakesNoMemory c.args.start.now.config
+    c.args.start.now.moment c.args.start.now.state (event_of e)) c.in-Tick.is quiet)
 
 pub returns-in_ok-next-in-PathFailed-clause-no_memory : goal.returns-in_ok-next-in-PathFailed-clause-no_memory
 returns-in_ok-next-in-PathFailed-clause-no_memory g c = λ quiet.
     c.in_ok-next-in-PathFailed.ensures.unlisted (subst
-    (λ (e : OwnedEvent g.row.A.Denot). TakesNoMemory c.args.turn.now.config c.args.turn.now.moment
-    c.args.turn.now.state (event_of e)) c.in-PathFailed.is quiet)
+    (λ (e : OwnedEvent g.row.A.Denot). TakesNoMemory c.args.start.now.config c.args.start.now.moment
+    c.args.start.now.state (event_of e)) c.in-PathFailed.is quiet)
 
 pub returns-in_ok-next-in-Client-clause-no_memory : goal.returns-in_ok-next-in-Client-clause-no_memory
 returns-in_ok-next-in-Client-clause-no_memory g c = λ quiet.
     c.in_ok-next-in-Client.ensures.dropped
     (subst (λ (octets : List ℕ). is_taken octets ≡ false) (sym c.as_slice-octets.ensures)
-    (subst (λ (e : OwnedEvent g.row.A.Denot). TakesNoMemory c.args.turn.now.config c.args.turn.now.moment
-    c.args.turn.now.state (event_of e)) c.in-Client.is quiet))
+    (subst (λ (e : OwnedEvent g.row.A.Denot). TakesNoMemory c.args.start.now.config c.args.start.now.moment
+    c.args.start.now.state (event_of e)) c.in-Client.is quiet))
 
 pub returns-in_ok-next-in-Delivery-clause-no_memory : goal.returns-in_ok-next-in-Delivery-clause-no_memory
 returns-in_ok-next-in-Delivery-clause-no_memory g c = λ quiet.
     c.in_ok-next-in-Delivery.ensures.unmatched
-    (subst (λ (octets : List ℕ). verdict_on c.args.turn.now.config c.args.turn.now.moment c.in-Delivery.from octets
-    (ask_on c.in-Delivery.path c.args.turn.now.state.asks) ≡ Stranger) (sym c.as_slice-octets-in-Delivery.ensures)
-    (subst (λ (e : OwnedEvent g.row.A.Denot). TakesNoMemory c.args.turn.now.config c.args.turn.now.moment
-    c.args.turn.now.state (event_of e)) c.in-Delivery.is quiet))
+    (subst (λ (octets : List ℕ). verdict_on c.args.start.now.config c.args.start.now.moment c.in-Delivery.from octets
+    (ask_on c.in-Delivery.path c.args.start.now.state.asks) ≡ Stranger) (sym c.as_slice-octets-in-Delivery.ensures)
+    (subst (λ (e : OwnedEvent g.row.A.Denot). TakesNoMemory c.args.start.now.config c.args.start.now.moment
+    c.args.start.now.state (event_of e)) c.in-Delivery.is quiet))
 
 pub returns-in_ok-next-in-Client-clause-fits : goal.returns-in_ok-next-in-Client-clause-fits
 returns-in_ok-next-in-Client-clause-fits g c = c.in_ok-next-in-Client.ensures.decides.fits

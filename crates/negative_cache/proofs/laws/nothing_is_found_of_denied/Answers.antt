@@ -1,4 +1,4 @@
-use Rattle.negative_cache.proofs.PastEnds.{nothing_is_found_of_denied}
+use Rattle.negative_cache.proofs.StaleLookUps.{nothing_is_found_of_denied}
 use Rattle.negative_cache.proofs.laws.nothing_is_found_of_denied.Goals as goal
 
 pub returns : goal.returns

@@ -1,4 +1,4 @@
-use Rattle.negative_cache.proofs.PastEnds.{stale_fits}
+use Rattle.negative_cache.proofs.StaleLookUps.{stale_fits}
 use Rattle.negative_cache.proofs.laws.stale_fits.Goals as goal
 
 pub returns : goal.returns

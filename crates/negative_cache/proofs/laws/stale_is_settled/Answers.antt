@@ -1,4 +1,4 @@
-use Rattle.negative_cache.proofs.PastEnds.{equal_questions_find_the_same_stale, no_window_finds_the_living, promotion_keeps_stale}
+use Rattle.negative_cache.proofs.StaleLookUps.{equal_questions_find_the_same_stale, no_window_finds_the_living, promotion_keeps_stale}
 use Rattle.negative_cache.proofs.laws.stale_is_settled.Goals as goal
 
 pub returns-clause-promoted : goal.returns-clause-promoted

@@ -6,6 +6,6 @@ use Rattle.network_model.proofs.run.run_list.Given as goal
 abbrev pub invariant-loop-entry : goal.invariant-loop-entry
 invariant-loop-entry g l = record {
   config : l.forwarder.config ≡ l.fn.config;
-  handed : map (λ s. s.handed) l.steps.items ≡ take l.entry-index l.handed;
+  input : map (λ s. s.input) l.steps.items ≡ take l.entry-index l.input;
   came : ComesTo l.fn.config l.steps.items l.forwarder.state;
 }

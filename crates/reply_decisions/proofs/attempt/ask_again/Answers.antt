@@ -13,12 +13,12 @@ pub returns : goal.returns
 returns g c = record {
   decides = record {
     row = λ rooms.
-        plain_next c.args.turn.now.moment rooms c.args.turn.now.state c.without_cache.result
+        plain_next c.args.start.now.moment rooms c.args.start.now.state c.without_cache.result
         (AskAgain c.asked.inside.path c.in_ok-next.next) _ c.without_cache.ensures.used c.without_cache.ensures.change
         c.without_cache.ensures.carried
-        (again_row g.row.A.Denot c.args.turn.now.moment c.asked.inside.path c.args.turn.now.state c.args.ask.now c.args.next
+        (again_row g.row.A.Denot c.args.start.now.moment c.asked.inside.path c.args.start.now.state c.args.ask.now c.args.next
         c.in_ok-next.next _
-        (ap (λ (a : Ask). ask_on a.path c.args.turn.now.state.asks) (c.asked.view_is ∙ c.ask-asked.ensures)
+        (ap (λ (a : Ask). ask_on a.path c.args.start.now.state.asks) (c.asked.view_is ∙ c.ask-asked.ensures)
         ∙ c.requires.on)
         c.in_ok-next.ensures.ok
         (c.without_cache.ensures.actions ∙ ap (λ xs. actions_of {A = g.row.A.Denot} xs)
@@ -26,15 +26,15 @@ returns g c = record {
         ∙ (λ i. (c.close_path.ensures ∙ ap (λ (a : Ask). closes a.path) (c.asked.view_is ∙ c.ask-asked.ensures)) i ∷ c.in_ok-action.ensures i
         ∷ [])));
     fits =
-        fits_plain c.args.turn.now.config c.args.turn.now.moment c.args.turn.now.state c.without_cache.result
+        fits_plain c.args.start.now.config c.args.start.now.moment c.args.start.now.state c.without_cache.result
         (AskAgain c.asked.inside.path c.in_ok-next.next) c.without_cache.ensures.change (
-          listed_some c.asked.inside.path c.args.turn.now.state.asks c.args.ask.now
-              (ap (λ (a : Ask). ask_on a.path c.args.turn.now.state.asks) (c.asked.view_is ∙ c.ask-asked.ensures)
+          listed_some c.asked.inside.path c.args.start.now.state.asks c.args.ask.now
+              (ap (λ (a : Ask). ask_on a.path c.args.start.now.state.asks) (c.asked.view_is ∙ c.ask-asked.ensures)
               ∙ c.requires.on),
-          subst (λ (a : Ask). CanFollow c.args.turn.now.config c.args.turn.now.moment c.args.turn.now.state
-              (without_path c.asked.inside.path c.args.turn.now.state.asks) a) (sym c.in_ok-next.ensures.ok)
-              (subst (λ (a : Ask). CanFollow c.args.turn.now.config c.args.turn.now.moment c.args.turn.now.state
-              (without_path a.path c.args.turn.now.state.asks) c.args.next)
+          subst (λ (a : Ask). CanFollow c.args.start.now.config c.args.start.now.moment c.args.start.now.state
+              (without_path c.asked.inside.path c.args.start.now.state.asks) a) (sym c.in_ok-next.ensures.ok)
+              (subst (λ (a : Ask). CanFollow c.args.start.now.config c.args.start.now.moment c.args.start.now.state
+              (without_path a.path c.args.start.now.state.asks) c.args.next)
               (sym (c.asked.view_is ∙ c.ask-asked.ensures)) c.requires.follows),
         ) c.without_cache.ensures.carried;
   };

@@ -6,7 +6,7 @@ use Rattle.retry_failover.specs.declared.Plan.{Plan}
 use Rattle.retry_failover.specs.Table.{after_failure}
 use Rattle.outstanding.specs.Lists.{on_path as ask_on, without_path}
 use Rattle.outstanding.specs.Values.{Ask}
-use Rattle.step_table.specs.State.{Turn}
+use Rattle.step_table.specs.State.{StepStart}
 use Rattle.step_table.specs.Attempts.{ask_by, group_of, peer_at, servers_in, over_udp, over_tcp, freed_by, plan_of}
 use Rattle.step_actions.specs.Decision.{CanFollow}
 use Rattle.step_actions.proofs.CallerLemmas.{server_within, more_left, udp_goes_on, tcp_goes_on, next_by_udp, next_by_tcp, decides_by}
@@ -14,109 +14,109 @@ use Rattle.reply_decisions.proofs.attempt.fail.Goals as goal
 
 pub plan-plan-requires-clause-server : goal.plan-plan-requires-clause-server
 plan-plan-requires-clause-server g c =
-    subst (λ (a : Ask). a.server < length (servers_in (group_of c.turn.inside.config.now a.route)))
+    subst (λ (a : Ask). a.server < length (servers_in (group_of c.start.inside.config.now a.route)))
     (sym c.ask-asked.ensures)
-    (server_within c.turn.inside.config.now c.turn.inside.kept.now.moment
-    c.turn.inside.kept.now.tcp_asks c.args.ask.now.path c.turn.inside.kept.now.inquiries.asks c.args.ask.now
-    (subst (λ (r : Turn). ask_on c.args.ask.now.path r.state.asks ≡ Some c.args.ask.now) (sym c.turn.view_is) c.requires.on)
-    c.turn.invariant.0.asks)
+    (server_within c.start.inside.config.now c.start.inside.kept.now.moment
+    c.start.inside.kept.now.tcp_asks c.args.ask.now.path c.start.inside.kept.now.inquiries.asks c.args.ask.now
+    (subst (λ (r : StepStart). ask_on c.args.ask.now.path r.state.asks ≡ Some c.args.ask.now) (sym c.start.view_is) c.requires.on)
+    c.start.invariant.0.asks)
 
 pub after-requires : goal.after-requires
-after-requires g c = subst (λ (p : Plan). p.server < p.servers) (sym (c.plan-plan.ensures ∙ ap (plan_of c.turn.inside.config.now) c.ask-asked.ensures))
-    (server_within c.turn.inside.config.now c.turn.inside.kept.now.moment c.turn.inside.kept.now.tcp_asks c.args.ask.now.path
-    c.turn.inside.kept.now.inquiries.asks c.args.ask.now (subst
-    (λ (r : Turn). ask_on c.args.ask.now.path r.state.asks ≡ Some c.args.ask.now) (sym c.turn.view_is) c.requires.on)
-    c.turn.invariant.0.asks)
+after-requires g c = subst (λ (p : Plan). p.server < p.servers) (sym (c.plan-plan.ensures ∙ ap (plan_of c.start.inside.config.now) c.ask-asked.ensures))
+    (server_within c.start.inside.config.now c.start.inside.kept.now.moment c.start.inside.kept.now.tcp_asks c.args.ask.now.path
+    c.start.inside.kept.now.inquiries.asks c.args.ask.now (subst
+    (λ (r : StepStart). ask_on c.args.ask.now.path r.state.asks ≡ Some c.args.ask.now) (sym c.start.view_is) c.requires.on)
+    c.start.invariant.0.asks)
 
 pub retry-requires-clause-tries : goal.retry-requires-clause-tries
 retry-requires-clause-tries g c =
-    let more = more_left c.turn.inside.config.now c.turn.inside.kept.now.cache c.turn.inside.kept.now.inquiries
-    c.turn.inside.kept.now.waiting.items c.turn.inside.kept.now.preferred.items c.turn.inside.kept.now.moment c.turn.inside.kept.now.tcp_asks
-    c.args.ask.now.path c.args.ask.now c.args.failure c.turn.invariant.0
-    (subst (λ (r : Turn). ask_on c.args.ask.now.path r.state.asks ≡ Some c.args.ask.now) (sym c.turn.view_is) c.requires.on)
-    (udp_goes_on _ c.in-AskUdp.server (ap (λ (p : Plan). after_failure p c.args.failure) (sym (c.plan-plan.ensures ∙ ap (plan_of c.turn.inside.config.now) c.ask-asked.ensures))
+    let more = more_left c.start.inside.config.now c.start.inside.kept.now.cache c.start.inside.kept.now.inquiries
+    c.start.inside.kept.now.waiting.items c.start.inside.kept.now.preferred.items c.start.inside.kept.now.moment c.start.inside.kept.now.tcp_asks
+    c.args.ask.now.path c.args.ask.now c.args.failure c.start.invariant.0
+    (subst (λ (r : StepStart). ask_on c.args.ask.now.path r.state.asks ≡ Some c.args.ask.now) (sym c.start.view_is) c.requires.on)
+    (udp_goes_on _ c.in-AskUdp.server (ap (λ (p : Plan). after_failure p c.args.failure) (sym (c.plan-plan.ensures ∙ ap (plan_of c.start.inside.config.now) c.ask-asked.ensures))
     ∙ sym c.in-AskUdp.ensures)) in
-    let most = c.turn.invariant.0.config.limits.tries.1 in omega (arith, more, most)
+    let most = c.start.invariant.0.config.limits.tries.1 in omega (arith, more, most)
 
 pub retry-requires-clause-follows : goal.retry-requires-clause-follows
 retry-requires-clause-follows g c =
-    λ next is. subst (λ (r : Turn). CanFollow r.config r.moment r.state (without_path c.args.ask.now.path r.state.asks) next)
-    c.turn.view_is
-    (next_by_udp c.turn.inside.config.now c.turn.inside.kept.now.cache c.turn.inside.kept.now.inquiries
-    c.turn.inside.kept.now.waiting.items c.turn.inside.kept.now.preferred.items c.turn.inside.kept.now.moment c.turn.inside.kept.now.tcp_asks
-    c.turn.inside.moment c.turn.inside.words c.args.ask.now.path c.args.ask.now c.args.failure c.turn.invariant.0
-    c.turn.invariant.1 c.turn.invariant.2
-    (subst (λ (r : Turn). ask_on c.args.ask.now.path r.state.asks ≡ Some c.args.ask.now) (sym c.turn.view_is) c.requires.on)
-    c.in-AskUdp.server (ap (λ (p : Plan). after_failure p c.args.failure) (sym (c.plan-plan.ensures ∙ ap (plan_of c.turn.inside.config.now) c.ask-asked.ensures))
+    λ next is. subst (λ (r : StepStart). CanFollow r.config r.moment r.state (without_path c.args.ask.now.path r.state.asks) next)
+    c.start.view_is
+    (next_by_udp c.start.inside.config.now c.start.inside.kept.now.cache c.start.inside.kept.now.inquiries
+    c.start.inside.kept.now.waiting.items c.start.inside.kept.now.preferred.items c.start.inside.kept.now.moment c.start.inside.kept.now.tcp_asks
+    c.start.inside.moment c.start.inside.words c.args.ask.now.path c.args.ask.now c.args.failure c.start.invariant.0
+    c.start.invariant.1 c.start.invariant.2
+    (subst (λ (r : StepStart). ask_on c.args.ask.now.path r.state.asks ≡ Some c.args.ask.now) (sym c.start.view_is) c.requires.on)
+    c.in-AskUdp.server (ap (λ (p : Plan). after_failure p c.args.failure) (sym (c.plan-plan.ensures ∙ ap (plan_of c.start.inside.config.now) c.ask-asked.ensures))
     ∙ sym c.in-AskUdp.ensures) next
-    ((λ i. ask_by (c.turn.view_is i).moment c.args.ask.now.question c.args.ask.now.route c.in-AskUdp.server
-    (c.args.ask.now.used + 1) (peer_at (c.turn.view_is i).config c.args.ask.now.route c.in-AskUdp.server)
+    ((λ i. ask_by (c.start.view_is i).moment c.args.ask.now.question c.args.ask.now.route c.in-AskUdp.server
+    (c.args.ask.now.used + 1) (peer_at (c.start.view_is i).config c.args.ask.now.route c.in-AskUdp.server)
     (sym (c.by_udp.ensures ∙ ap over_udp (c.draw-drawn.ensures.drawn
-    ∙ ap (udp_draw c.turn.inside.words c.turn.inside.kept.now.inquiries.asks)
+    ∙ ap (udp_draw c.start.inside.words c.start.inside.kept.now.inquiries.asks)
     (c.freed_port.ensures ∙ ap (λ (a : Ask). freed_by a.path) (c.asked.view_is ∙ c.ask-asked.ensures)))) i)) ∙ is))
 
 pub retry-requires-in-AskTcp-clause-tries : goal.retry-requires-in-AskTcp-clause-tries
 retry-requires-in-AskTcp-clause-tries g c =
-    let more = more_left c.turn.inside.config.now c.turn.inside.kept.now.cache c.turn.inside.kept.now.inquiries
-    c.turn.inside.kept.now.waiting.items c.turn.inside.kept.now.preferred.items c.turn.inside.kept.now.moment c.turn.inside.kept.now.tcp_asks
-    c.args.ask.now.path c.args.ask.now c.args.failure c.turn.invariant.0
-    (subst (λ (r : Turn). ask_on c.args.ask.now.path r.state.asks ≡ Some c.args.ask.now) (sym c.turn.view_is) c.requires.on)
-    (tcp_goes_on _ c.in-AskTcp.server (ap (λ (p : Plan). after_failure p c.args.failure) (sym (c.plan-plan.ensures ∙ ap (plan_of c.turn.inside.config.now) c.ask-asked.ensures))
+    let more = more_left c.start.inside.config.now c.start.inside.kept.now.cache c.start.inside.kept.now.inquiries
+    c.start.inside.kept.now.waiting.items c.start.inside.kept.now.preferred.items c.start.inside.kept.now.moment c.start.inside.kept.now.tcp_asks
+    c.args.ask.now.path c.args.ask.now c.args.failure c.start.invariant.0
+    (subst (λ (r : StepStart). ask_on c.args.ask.now.path r.state.asks ≡ Some c.args.ask.now) (sym c.start.view_is) c.requires.on)
+    (tcp_goes_on _ c.in-AskTcp.server (ap (λ (p : Plan). after_failure p c.args.failure) (sym (c.plan-plan.ensures ∙ ap (plan_of c.start.inside.config.now) c.ask-asked.ensures))
     ∙ sym c.in-AskTcp.ensures)) in
-    let most = c.turn.invariant.0.config.limits.tries.1 in omega (arith, more, most)
+    let most = c.start.invariant.0.config.limits.tries.1 in omega (arith, more, most)
 
 pub retry-requires-in-AskTcp-clause-follows : goal.retry-requires-in-AskTcp-clause-follows
 retry-requires-in-AskTcp-clause-follows g c =
-    λ next is. subst (λ (r : Turn). CanFollow r.config r.moment r.state (without_path c.args.ask.now.path r.state.asks) next)
-    c.turn.view_is
-    (next_by_tcp c.turn.inside.config.now c.turn.inside.kept.now.cache c.turn.inside.kept.now.inquiries
-    c.turn.inside.kept.now.waiting.items c.turn.inside.kept.now.preferred.items c.turn.inside.kept.now.moment c.turn.inside.kept.now.tcp_asks
-    c.turn.inside.moment c.turn.inside.words c.args.ask.now.path c.args.ask.now c.args.failure c.turn.invariant.0
-    c.turn.invariant.1 c.turn.invariant.2
-    (subst (λ (r : Turn). ask_on c.args.ask.now.path r.state.asks ≡ Some c.args.ask.now) (sym c.turn.view_is) c.requires.on)
-    c.in-AskTcp.server (ap (λ (p : Plan). after_failure p c.args.failure) (sym (c.plan-plan.ensures ∙ ap (plan_of c.turn.inside.config.now) c.ask-asked.ensures))
+    λ next is. subst (λ (r : StepStart). CanFollow r.config r.moment r.state (without_path c.args.ask.now.path r.state.asks) next)
+    c.start.view_is
+    (next_by_tcp c.start.inside.config.now c.start.inside.kept.now.cache c.start.inside.kept.now.inquiries
+    c.start.inside.kept.now.waiting.items c.start.inside.kept.now.preferred.items c.start.inside.kept.now.moment c.start.inside.kept.now.tcp_asks
+    c.start.inside.moment c.start.inside.words c.args.ask.now.path c.args.ask.now c.args.failure c.start.invariant.0
+    c.start.invariant.1 c.start.invariant.2
+    (subst (λ (r : StepStart). ask_on c.args.ask.now.path r.state.asks ≡ Some c.args.ask.now) (sym c.start.view_is) c.requires.on)
+    c.in-AskTcp.server (ap (λ (p : Plan). after_failure p c.args.failure) (sym (c.plan-plan.ensures ∙ ap (plan_of c.start.inside.config.now) c.ask-asked.ensures))
     ∙ sym c.in-AskTcp.ensures) next
-    ((λ i. ask_by (c.turn.view_is i).moment c.args.ask.now.question c.args.ask.now.route c.in-AskTcp.server
-    (c.args.ask.now.used + 1) (peer_at (c.turn.view_is i).config c.args.ask.now.route c.in-AskTcp.server)
+    ((λ i. ask_by (c.start.view_is i).moment c.args.ask.now.question c.args.ask.now.route c.in-AskTcp.server
+    (c.args.ask.now.used + 1) (peer_at (c.start.view_is i).config c.args.ask.now.route c.in-AskTcp.server)
     (sym (c.by_tcp.ensures ∙ ap over_tcp c.draw_connection-drawn.ensures) i)) ∙ is))
 
 pub returns-in-GiveUp : goal.returns-in-GiveUp
 returns-in-GiveUp g c = record {
   decides =
       decides_by c.run_out.result _ _ _ c.run_out.ensures.decides
-      (λ rooms. sym (ap (row_of_next c.args.turn.now c.args.ask.now)
-      (ap (λ (r : Turn). after_failure (plan_of r.config c.args.ask.now) c.args.failure) (sym c.turn.view_is)
-      ∙ ap (λ (p : Plan). after_failure p c.args.failure) (sym (c.plan-plan.ensures ∙ ap (plan_of c.turn.inside.config.now) c.ask-asked.ensures)) ∙ sym c.in-GiveUp.ensures)));
+      (λ rooms. sym (ap (row_of_next c.args.start.now c.args.ask.now)
+      (ap (λ (r : StepStart). after_failure (plan_of r.config c.args.ask.now) c.args.failure) (sym c.start.view_is)
+      ∙ ap (λ (p : Plan). after_failure p c.args.failure) (sym (c.plan-plan.ensures ∙ ap (plan_of c.start.inside.config.now) c.ask-asked.ensures)) ∙ sym c.in-GiveUp.ensures)));
 }
 
 pub returns-in-AskUdp : goal.returns-in-AskUdp
 returns-in-AskUdp g c = record {
   decides =
       decides_by c.retry.result _ _ _ c.retry.ensures.decides
-      (λ rooms. ap (λ (d : Option (ℕ × Path)). row_of_attempt c.args.turn.now.moment c.args.ask.now
-      c.args.turn.now.state (ask_by c.args.turn.now.moment c.args.ask.now.question c.args.ask.now.route
-      c.in-AskUdp.server (c.args.ask.now.used + 1) (peer_at c.args.turn.now.config c.args.ask.now.route
+      (λ rooms. ap (λ (d : Option (ℕ × Path)). row_of_attempt c.args.start.now.moment c.args.ask.now
+      c.args.start.now.state (ask_by c.args.start.now.moment c.args.ask.now.question c.args.ask.now.route
+      c.in-AskUdp.server (c.args.ask.now.used + 1) (peer_at c.args.start.now.config c.args.ask.now.route
       c.in-AskUdp.server) d))
       (c.by_udp.ensures ∙ ap over_udp (c.draw-drawn.ensures.drawn
-      ∙ ap (udp_draw c.turn.inside.words c.turn.inside.kept.now.inquiries.asks)
+      ∙ ap (udp_draw c.start.inside.words c.start.inside.kept.now.inquiries.asks)
       (c.freed_port.ensures ∙ ap (λ (a : Ask). freed_by a.path) (c.asked.view_is ∙ c.ask-asked.ensures)))
-      ∙ ap (λ (r : Turn). over_udp (udp_draw r.words r.state.asks (freed_by c.args.ask.now.path))) c.turn.view_is)
-      ∙ sym (ap (row_of_next c.args.turn.now c.args.ask.now)
-      (ap (λ (r : Turn). after_failure (plan_of r.config c.args.ask.now) c.args.failure) (sym c.turn.view_is)
-      ∙ ap (λ (p : Plan). after_failure p c.args.failure) (sym (c.plan-plan.ensures ∙ ap (plan_of c.turn.inside.config.now) c.ask-asked.ensures)) ∙ sym c.in-AskUdp.ensures)));
+      ∙ ap (λ (r : StepStart). over_udp (udp_draw r.words r.state.asks (freed_by c.args.ask.now.path))) c.start.view_is)
+      ∙ sym (ap (row_of_next c.args.start.now c.args.ask.now)
+      (ap (λ (r : StepStart). after_failure (plan_of r.config c.args.ask.now) c.args.failure) (sym c.start.view_is)
+      ∙ ap (λ (p : Plan). after_failure p c.args.failure) (sym (c.plan-plan.ensures ∙ ap (plan_of c.start.inside.config.now) c.ask-asked.ensures)) ∙ sym c.in-AskUdp.ensures)));
 }
 
 pub returns-in-AskTcp : goal.returns-in-AskTcp
 returns-in-AskTcp g c = record {
   decides =
       decides_by c.retry-in-AskTcp.result _ _ _ c.retry-in-AskTcp.ensures.decides
-      (λ rooms. ap (λ (d : Option (ℕ × Path)). row_of_attempt c.args.turn.now.moment c.args.ask.now
-      c.args.turn.now.state (ask_by c.args.turn.now.moment c.args.ask.now.question c.args.ask.now.route
-      c.in-AskTcp.server (c.args.ask.now.used + 1) (peer_at c.args.turn.now.config c.args.ask.now.route
+      (λ rooms. ap (λ (d : Option (ℕ × Path)). row_of_attempt c.args.start.now.moment c.args.ask.now
+      c.args.start.now.state (ask_by c.args.start.now.moment c.args.ask.now.question c.args.ask.now.route
+      c.in-AskTcp.server (c.args.ask.now.used + 1) (peer_at c.args.start.now.config c.args.ask.now.route
       c.in-AskTcp.server) d))
       (c.by_tcp.ensures ∙ ap over_tcp c.draw_connection-drawn.ensures
-      ∙ ap (λ (r : Turn). over_tcp (drawn_by_tcp r.words r.state.tcp_asks)) c.turn.view_is)
-      ∙ sym (ap (row_of_next c.args.turn.now c.args.ask.now)
-      (ap (λ (r : Turn). after_failure (plan_of r.config c.args.ask.now) c.args.failure) (sym c.turn.view_is)
-      ∙ ap (λ (p : Plan). after_failure p c.args.failure) (sym (c.plan-plan.ensures ∙ ap (plan_of c.turn.inside.config.now) c.ask-asked.ensures)) ∙ sym c.in-AskTcp.ensures)));
+      ∙ ap (λ (r : StepStart). over_tcp (drawn_by_tcp r.words r.state.tcp_asks)) c.start.view_is)
+      ∙ sym (ap (row_of_next c.args.start.now c.args.ask.now)
+      (ap (λ (r : StepStart). after_failure (plan_of r.config c.args.ask.now) c.args.failure) (sym c.start.view_is)
+      ∙ ap (λ (p : Plan). after_failure p c.args.failure) (sym (c.plan-plan.ensures ∙ ap (plan_of c.start.inside.config.now) c.ask-asked.ensures)) ∙ sym c.in-AskTcp.ensures)));
 }

@@ -7,8 +7,8 @@ use Rattle.reply_decisions.proofs.attempt.retry.Goals as goal
 pub ask_again-requires-clause-follows : goal.ask_again-requires-clause-follows
 ask_again-requires-clause-follows g c =
     c.requires.follows c.in-Some.next
-    (sym (λ i. ask_by c.args.turn.now.moment ((c.asked.view_is ∙ c.ask-asked.ensures) i).question ((c.asked.view_is ∙ c.ask-asked.ensures) i).route (c.from.ensures i)
-    (((c.asked.view_is ∙ c.ask-asked.ensures) i).used + 1) (peer_at c.args.turn.now.config ((c.asked.view_is ∙ c.ask-asked.ensures) i).route (c.from.ensures i))
+    (sym (λ i. ask_by c.args.start.now.moment ((c.asked.view_is ∙ c.ask-asked.ensures) i).question ((c.asked.view_is ∙ c.ask-asked.ensures) i).route (c.from.ensures i)
+    (((c.asked.view_is ∙ c.ask-asked.ensures) i).used + 1) (peer_at c.args.start.now.config ((c.asked.view_is ∙ c.ask-asked.ensures) i).route (c.from.ensures i))
     c.args.drawn)
     ∙ sym c.in_ok-next.ensures ∙ c.in-Some.is)
 
@@ -16,10 +16,10 @@ pub returns-in-Some : goal.returns-in-Some
 returns-in-Some g c = record {
   decides =
       decides_by c.ask_again.result _ _ _ c.ask_again.ensures.decides
-      (λ rooms. ap (row_of_attempt c.args.turn.now.moment c.args.ask.now c.args.turn.now.state)
+      (λ rooms. ap (row_of_attempt c.args.start.now.moment c.args.ask.now c.args.start.now.state)
       (sym c.in-Some.is ∙ c.in_ok-next.ensures
-      ∙ (λ i. ask_by c.args.turn.now.moment ((c.asked.view_is ∙ c.ask-asked.ensures) i).question ((c.asked.view_is ∙ c.ask-asked.ensures) i).route (c.from.ensures i)
-      (((c.asked.view_is ∙ c.ask-asked.ensures) i).used + 1) (peer_at c.args.turn.now.config ((c.asked.view_is ∙ c.ask-asked.ensures) i).route (c.from.ensures i))
+      ∙ (λ i. ask_by c.args.start.now.moment ((c.asked.view_is ∙ c.ask-asked.ensures) i).question ((c.asked.view_is ∙ c.ask-asked.ensures) i).route (c.from.ensures i)
+      (((c.asked.view_is ∙ c.ask-asked.ensures) i).used + 1) (peer_at c.args.start.now.config ((c.asked.view_is ∙ c.ask-asked.ensures) i).route (c.from.ensures i))
       c.args.drawn)));
 }
 
@@ -27,9 +27,9 @@ pub returns-in-None : goal.returns-in-None
 returns-in-None g c = record {
   decides =
       decides_by c.give_up.result _ _ _ c.give_up.ensures.decides
-      (λ rooms. ap (row_of_attempt c.args.turn.now.moment c.args.ask.now c.args.turn.now.state)
+      (λ rooms. ap (row_of_attempt c.args.start.now.moment c.args.ask.now c.args.start.now.state)
       (sym c.in-None.is ∙ c.in_ok-next.ensures
-      ∙ (λ i. ask_by c.args.turn.now.moment ((c.asked.view_is ∙ c.ask-asked.ensures) i).question ((c.asked.view_is ∙ c.ask-asked.ensures) i).route (c.from.ensures i)
-      (((c.asked.view_is ∙ c.ask-asked.ensures) i).used + 1) (peer_at c.args.turn.now.config ((c.asked.view_is ∙ c.ask-asked.ensures) i).route (c.from.ensures i))
+      ∙ (λ i. ask_by c.args.start.now.moment ((c.asked.view_is ∙ c.ask-asked.ensures) i).question ((c.asked.view_is ∙ c.ask-asked.ensures) i).route (c.from.ensures i)
+      (((c.asked.view_is ∙ c.ask-asked.ensures) i).used + 1) (peer_at c.args.start.now.config ((c.asked.view_is ∙ c.ask-asked.ensures) i).route (c.from.ensures i))
       c.args.drawn)));
 }

@@ -11,18 +11,18 @@ pub returns : goal.returns
 returns g c = record {
   decides = record {
     row = λ rooms.
-        plain_next c.args.turn.now.moment rooms c.args.turn.now.state c.without_cache.result
+        plain_next c.args.start.now.moment rooms c.args.start.now.state c.without_cache.result
         (Close c.asked.inside.path None) _ c.without_cache.ensures.used c.without_cache.ensures.change
         c.without_cache.ensures.carried
-        (closed_is g.row.A.Denot c.args.turn.now.moment c.asked.inside.path c.args.turn.now.state c.args.ask.now
-        (runs_out c.args.turn.now.config c.args.turn.now.moment c.args.turn.now.state.cache.entries
-        c.args.ask.now.question) None _ (ap (λ (a : Ask). ask_on a.path c.args.turn.now.state.asks) (c.asked.view_is ∙ c.ask-asked.ensures)
+        (closed_is g.row.A.Denot c.args.start.now.moment c.asked.inside.path c.args.start.now.state c.args.ask.now
+        (runs_out c.args.start.now.config c.args.start.now.moment c.args.start.now.state.cache.entries
+        c.args.ask.now.question) None _ (ap (λ (a : Ask). ask_on a.path c.args.start.now.state.asks) (c.asked.view_is ∙ c.ask-asked.ensures)
         ∙ c.requires.on)
         (c.without_cache.ensures.actions ∙ c.in_ok-actions.ensures)
-        (lasts_frees c.args.turn.now.config c.args.turn.now.moment c.args.turn.now.state.cache.entries
+        (lasts_frees c.args.start.now.config c.args.start.now.moment c.args.start.now.state.cache.entries
         c.args.ask.now.question));
     fits =
-        fits_plain c.args.turn.now.config c.args.turn.now.moment c.args.turn.now.state c.without_cache.result
+        fits_plain c.args.start.now.config c.args.start.now.moment c.args.start.now.state c.without_cache.result
         (Close c.asked.inside.path None) c.without_cache.ensures.change tt c.without_cache.ensures.carried;
   };
 }

@@ -8,7 +8,7 @@ use Rattle.trust_rank.specs.Values.{Piece, Walk}
 use Rattle.outstanding.specs.Values.{Ask}
 use Rattle.outstanding.specs.Lists.{on_path as ask_on}
 use Rattle.suffix_routes.specs.Serving.{serving_route_of}
-use Rattle.step_table.specs.State.{Turn}
+use Rattle.step_table.specs.State.{StepStart}
 use Rattle.step_table.specs.Attempts.{servers_in, group_of}
 use Rattle.step_table.specs.Steps.{closes}
 use Rattle.alias_chains.specs.Offering.{held_at}
@@ -23,36 +23,36 @@ pub slice_bounds-answers_to-end : goal.slice_bounds-answers_to-end
 slice_bounds-answers_to-end g c =
     ap (λ (ps : List Piece). length ps) c.as_slice-walked.ensures
     ∙ sym (ap (λ (es : List Held). length es) (ap (take (length c.as_slice-walked.result.now)) c.deref.ensures.value
-    ∙ walk_first c.turn.inside.moment c.in_ok-held.held.items c.args.pieces c.args.authority _
+    ∙ walk_first c.start.inside.moment c.in_ok-held.held.items c.args.pieces c.args.authority _
     c.in_ok-held.ensures.held (ap (λ (ps : List Piece). length ps) c.as_slice-walked.ensures))
-    ∙ length-map c.args.pieces (held_at c.turn.inside.moment))
+    ∙ length-map c.args.pieces (held_at c.start.inside.moment))
 
 pub answers_to-requires-clause-pieces : goal.answers_to-requires-clause-pieces
-answers_to-requires-clause-pieces g c = subst (AllByRecursion (IsEarlier c.turn.inside.moment))
+answers_to-requires-clause-pieces g c = subst (AllByRecursion (IsEarlier c.start.inside.moment))
     (sym (ap (take (length c.as_slice-walked.result.now)) c.deref.ensures.value
-    ∙ walk_first c.turn.inside.moment c.in_ok-held.held.items c.args.pieces c.args.authority _
+    ∙ walk_first c.start.inside.moment c.in_ok-held.held.items c.args.pieces c.args.authority _
     c.in_ok-held.ensures.held (ap (λ (ps : List Piece). length ps) c.as_slice-walked.ensures)))
-    (held_now c.turn.inside.moment c.args.pieces)
+    (held_now c.start.inside.moment c.args.pieces)
 
 pub returns : goal.returns
 returns g c = record {
   decides = λ e last carried.
       let w : Walk = walk_to c.args.pieces c.args.authority e in
-      let on : ask_on c.args.ask.now.path c.turn.inside.kept.now.inquiries.asks ≡ Some c.args.ask.now = subst
-      (λ (r : Turn). ask_on c.args.ask.now.path r.state.asks ≡ Some c.args.ask.now) (sym c.turn.view_is) c.requires.on in
-      let routed : serving_route_of c.args.turn.now.config c.args.ask.now.question.name ≡ Some c.args.ask.now.route = subst
-      (λ (r : Turn). serving_route_of r.config c.args.ask.now.question.name ≡ Some c.args.ask.now.route) c.turn.view_is
-      (kept_of c.turn.inside.config.now c.turn.inside.kept.now.moment c.turn.inside.kept.now.tcp_asks c.args.ask.now.path
-      c.turn.inside.kept.now.inquiries.asks c.args.ask.now on c.turn.invariant.0.asks).on_route in
+      let on : ask_on c.args.ask.now.path c.start.inside.kept.now.inquiries.asks ≡ Some c.args.ask.now = subst
+      (λ (r : StepStart). ask_on c.args.ask.now.path r.state.asks ≡ Some c.args.ask.now) (sym c.start.view_is) c.requires.on in
+      let routed : serving_route_of c.args.start.now.config c.args.ask.now.question.name ≡ Some c.args.ask.now.route = subst
+      (λ (r : StepStart). serving_route_of r.config c.args.ask.now.question.name ≡ Some c.args.ask.now.route) c.start.view_is
+      (kept_of c.start.inside.config.now c.start.inside.kept.now.moment c.start.inside.kept.now.tcp_asks c.args.ask.now.path
+      c.start.inside.kept.now.inquiries.asks c.args.ask.now on c.start.invariant.0.asks).on_route in
       let pieces : map (λ h. h.piece) c.in_ok-held.held.items ≡ c.args.pieces ++ c.args.authority =
-      carried_is c.args.turn.now.config c.turn.inside.moment c.args.ask.now w carried routed
+      carried_is c.args.start.now.config c.start.inside.moment c.args.ask.now w carried routed
       c.in_ok-held.held.items c.args.pieces c.args.authority c.in_ok-held.ensures.held
       refl refl in
       record {
         row = λ rooms.
-            accepted_is c.args.turn.now.config c.args.turn.now.moment c.args.ask.now w carried
-            routed last g.row.A.Denot c.args.turn.now.words rooms c.answered.inside.path c.args.turn.now.state _ _ _ _ _
-            (ap (λ (a : Ask). ask_on a.path c.args.turn.now.state.asks) (c.answered.view_is ∙ c.ask-answered.ensures)
+            accepted_is c.args.start.now.config c.args.start.now.moment c.args.ask.now w carried
+            routed last g.row.A.Denot c.args.start.now.words rooms c.answered.inside.path c.args.start.now.state _ _ _ _ _
+            (ap (λ (a : Ask). ask_on a.path c.args.start.now.state.asks) (c.answered.view_is ∙ c.ask-answered.ensures)
             ∙ c.requires.on)
             c.none.ensures
             (ap (λ (a : Ask). a.route) (c.answered.view_is ∙ c.ask-answered.ensures))
@@ -61,33 +61,33 @@ returns g c = record {
             ∙ (λ i. with_replies (gives_from (record {
               chain =
                   (ap (take (length c.as_slice-walked.result.now)) c.deref.ensures.value
-                  ∙ walk_first c.turn.inside.moment c.in_ok-held.held.items c.args.pieces
+                  ∙ walk_first c.start.inside.moment c.in_ok-held.held.items c.args.pieces
                   c.args.authority _
                   c.in_ok-held.ensures.held (ap (λ (ps : List Piece). length ps) c.as_slice-walked.ensures)
-                  ∙ (λ j. map (held_at (c.turn.view_is j).moment) c.args.pieces)) i;
-              moment = (c.turn.view_is i).moment;
+                  ∙ (λ j. map (held_at (c.start.view_is j).moment) c.args.pieces)) i;
+              moment = (c.start.view_is i).moment;
             }) c.args.ask.now.question) (closes c.args.ask.now.path ∷ [])
-            (ap (λ (r : Turn). r.state.waiting) c.turn.view_is i)))
-            (carried_is c.args.turn.now.config c.turn.inside.moment c.args.ask.now w carried routed
+            (ap (λ (r : StepStart). r.state.waiting) c.start.view_is i)))
+            (carried_is c.args.start.now.config c.start.inside.moment c.args.ask.now w carried routed
             c.in_ok-held.held.items c.args.pieces c.args.authority c.in_ok-held.ensures.held
             refl refl);
         fits = record {
-          fits = subst (λ (a : Ask). a.server < length (servers_in (group_of c.args.turn.now.config a.route)))
+          fits = subst (λ (a : Ask). a.server < length (servers_in (group_of c.args.start.now.config a.route)))
               (sym (c.answered.view_is ∙ c.ask-answered.ensures))
-              (subst (λ (r : Turn). c.args.ask.now.server < length
-              (servers_in (group_of r.config c.args.ask.now.route))) c.turn.view_is
-              (server_within c.turn.inside.config.now c.turn.inside.kept.now.moment c.turn.inside.kept.now.tcp_asks c.args.ask.now.path
-              c.turn.inside.kept.now.inquiries.asks c.args.ask.now on c.turn.invariant.0.asks));
+              (subst (λ (r : StepStart). c.args.ask.now.server < length
+              (servers_in (group_of r.config c.args.ask.now.route))) c.start.view_is
+              (server_within c.start.inside.config.now c.start.inside.kept.now.moment c.start.inside.kept.now.tcp_asks c.args.ask.now.path
+              c.start.inside.kept.now.inquiries.asks c.args.ask.now on c.start.invariant.0.asks));
           few = subst (λ (ps : List Piece). length ps < 2 ^ 32) (sym pieces)
-              (carried_few c.args.turn.now.config c.args.turn.now.moment c.args.ask.now w carried
+              (carried_few c.args.start.now.config c.args.start.now.moment c.args.ask.now w carried
               routed);
-          routed = subst (AllByRecursion (IsRouted c.args.turn.now.config)) (sym pieces)
-              (carried_routed c.args.turn.now.config c.args.turn.now.moment c.args.ask.now w
+          routed = subst (AllByRecursion (IsRouted c.args.start.now.config)) (sym pieces)
+              (carried_routed c.args.start.now.config c.args.start.now.moment c.args.ask.now w
               carried routed);
         };
       };
 }
 
 pub answers_to-requires-clause-aliases : goal.answers_to-requires-clause-aliases
-answers_to-requires-clause-aliases g c = later_held c.turn.inside.kept.now.moment c.turn.inside.moment
-    c.turn.inside.kept.now.waiting.items c.turn.invariant.1 c.turn.invariant.0.aliases
+answers_to-requires-clause-aliases g c = later_held c.start.inside.kept.now.moment c.start.inside.moment
+    c.start.inside.kept.now.waiting.items c.start.invariant.1 c.start.invariant.0.aliases

@@ -7,5 +7,5 @@ use Rattle.reply_decisions.proofs.delivery.on_verdict.Goals as goal
 pub returns-in-Stranger-clause-decides : goal.returns-in-Stranger-clause-decides
 returns-in-Stranger-clause-decides g c octets view =
     decides_as c.nothing.ensures.decides
-    (λ rooms. sym (ap (λ judged. row_of_verdict c.args.turn.now rooms c.args.ask.now octets (verdict_of judged))
+    (λ rooms. sym (ap (λ judged. row_of_verdict c.args.start.now rooms c.args.ask.now octets (verdict_of judged))
     c.in-Stranger.is))

@@ -20,7 +20,7 @@ fate_of-requires-clause-few g c = λ met.
 
 pub fate_of-requires-clause-earlier : goal.fate_of-requires-clause-earlier
 fate_of-requires-clause-earlier g c =
-    let early = IsEarlier c.args.turn.now.moment in
+    let early = IsEarlier c.args.start.now.moment in
     let own = c.args.waiting.now.held in
     let aliases = c.args.lead.now.aliases.now in
     subst (AllByRecursion early)
@@ -35,7 +35,7 @@ fate_of-requires-clause-own g c = λ met. λ none. λ nowhere. absurd (cc)
 
 pub returns-clause-fate : goal.returns-clause-fate
 returns-clause-fate g c = λ entries more count is.
-    let t = c.args.turn.now in
+    let t = c.args.start.now in
     let x = c.args.waiting.now in
     let aliases = c.args.lead.now.aliases.now in
     let name = c.args.lead.now.name.now in

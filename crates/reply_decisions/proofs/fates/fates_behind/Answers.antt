@@ -20,12 +20,12 @@ loop-place-init g c = record {
 }
 
 pub add-requires-clause-own : goal.add-requires-clause-own
-add-requires-clause-own g c = all_at (λ (x : Waiting). AllByRecursion (IsEarlier c.args.turn.now.moment) x.held) c.args.those.now c.loop-place.place c.get.result.now c.requires.own c.get.ensures
+add-requires-clause-own g c = all_at (λ (x : Waiting). AllByRecursion (IsEarlier c.args.start.now.moment) x.held) c.args.those.now c.loop-place.place c.get.result.now c.requires.own c.get.ensures
 
 pub loop-place-preserved : goal.loop-place-preserved
 loop-place-preserved g c = record {
-  fates = one_more (fate_behind c.args.turn.now.config c.args.turn.now.moment c.args.turn.now.state.cache.entries c.args.lead.now.aliases.now c.args.lead.now.name.now) c.args.those.now c.loop-place.place c.loop-place.fates.each c.add.new.self.each c.get.result.now
+  fates = one_more (fate_behind c.args.start.now.config c.args.start.now.moment c.args.start.now.state.cache.entries c.args.lead.now.aliases.now c.args.lead.now.name.now) c.args.those.now c.loop-place.place c.loop-place.fates.each c.add.new.self.each c.get.result.now
       c.loop-place.invariant.fates c.get.ensures c.in_ok-add.ensures.fate;
-  used = used_more (λ x. (looked_behind c.args.turn.now.config c.args.turn.now.moment c.args.turn.now.state.cache.entries c.args.lead.now.aliases.now c.args.lead.now.name.now x).used) c.args.those.now c.loop-place.place (map (λ (h : Held). h.piece.slot) c.loop-place.fates.used)
+  used = used_more (λ x. (looked_behind c.args.start.now.config c.args.start.now.moment c.args.start.now.state.cache.entries c.args.lead.now.aliases.now c.args.lead.now.name.now x).used) c.args.those.now c.loop-place.place (map (λ (h : Held). h.piece.slot) c.loop-place.fates.used)
       (map (λ (h : Held). h.piece.slot) c.add.new.self.used) c.get.result.now c.loop-place.invariant.used c.get.ensures c.in_ok-add.ensures.used;
 }

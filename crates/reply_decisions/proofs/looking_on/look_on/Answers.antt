@@ -20,7 +20,7 @@ returns g c =
       is =
           c.in_ok-looked.ensures.exact
           ∙ ap (λ (a : CacheAt). seen_of (look_up a.config.routes a.moment a.cache.entries c.in-Some.more [] c.question-question.result)) c.cache_at.ensures
-          ∙ ap (λ (q : Question). seen_of (look_up c.args.turn.now.config.routes c.args.turn.now.moment c.args.turn.now.state.cache.entries c.in-Some.more [] q))
+          ∙ ap (λ (q : Question). seen_of (look_up c.args.start.now.config.routes c.args.start.now.moment c.args.start.now.state.cache.entries c.in-Some.more [] q))
           c.question-question.ensures;
       few = c.in_ok-looked.ensures.few;
       from_cache = subst (λ (a : CacheAt). AllByRecursion (λ h. Among h a.cache.entries) c.in_ok-looked.looked.used) c.cache_at.ensures c.in_ok-looked.ensures.from_cache;

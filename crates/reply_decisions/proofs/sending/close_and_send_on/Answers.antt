@@ -8,7 +8,7 @@ use Rattle.outstanding.specs.Lists.{on_path as ask_on, without_path}
 use Rattle.outstanding.specs.Values.{Ask}
 use Rattle.step_values.specs.Values.{Action, actions_of}
 use Rattle.waiting_questions.specs.Onward.{Onward}
-use Rattle.step_table.specs.State.{Turn}
+use Rattle.step_table.specs.State.{StepStart}
 use Rattle.step_table.specs.Attempts.{servers_in, group_of}
 use Rattle.step_table.specs.Steps.{ask_list, asks, closes, closing_step, offering_step, with_preferred_server, with_promoted}
 use Rattle.step_actions.specs.declared.decision.Sending.{Sending}
@@ -24,15 +24,15 @@ pub returns : goal.returns
 returns g c = record {
   decides =
       λ fate become.
-      let on : ask_on c.ask.inside.path c.args.turn.now.state.asks ≡ Some c.args.answered.now = ap
-      (λ (a : Ask). ask_on a.path c.args.turn.now.state.asks) (c.ask.view_is ∙ c.ask-ask.ensures) ∙ c.requires.on in
-      let on_inside : ask_on c.args.answered.now.path c.turn.inside.kept.now.inquiries.asks
-      ≡ Some c.args.answered.now = subst (λ (r : Turn). ask_on c.args.answered.now.path r.state.asks
-      ≡ Some c.args.answered.now) (sym c.turn.view_is) c.requires.on in
+      let on : ask_on c.ask.inside.path c.args.start.now.state.asks ≡ Some c.args.answered.now = ap
+      (λ (a : Ask). ask_on a.path c.args.start.now.state.asks) (c.ask.view_is ∙ c.ask-ask.ensures) ∙ c.requires.on in
+      let on_inside : ask_on c.args.answered.now.path c.start.inside.kept.now.inquiries.asks
+      ≡ Some c.args.answered.now = subst (λ (r : StepStart). ask_on c.args.answered.now.path r.state.asks
+      ≡ Some c.args.answered.now) (sym c.start.view_is) c.requires.on in
       record {
         row = λ rooms.
-            ap (offering_step c.args.turn.now.moment rooms (pieces_of c.args.carried.items))
-            (sending_row g.row.A.Denot c.args.turn.now.moment c.args.turn.now.state c.args.answered.now fate
+            ap (offering_step c.args.start.now.moment rooms (pieces_of c.args.carried.items))
+            (sending_row g.row.A.Denot c.args.start.now.moment c.args.start.now.state c.args.answered.now fate
             c.args.fates.each c.args.next c.in_ok-onward.used c.in_ok-sending.sending _ c.requires.on
             c.in_ok-onward.ensures.sent become
             (ap (λ (v : Sending g.row.A.Denot). v.path) c.in_ok-sending.ensures.ok
@@ -50,29 +50,29 @@ returns g c = record {
             ∙ ap (λ (ys : List Action). ys ++ filter_map reply_of c.args.fates.each)
             (ap (λ xs. actions_of {A = g.row.A.Denot} xs) c.one-actions.ensures
             ∙ (λ i. (c.close_path.ensures ∙ ap (λ (a : Ask). closes a.path) (c.ask.view_is ∙ c.ask-ask.ensures)) i ∷ []))))
-            ∙ ap (λ (slots : List Slot). closing_step c.args.turn.now.moment c.args.answered.now fate c.args.next
-            (with_promoted slots (with_preferred_server c.args.answered.now c.args.turn.now.state)))
+            ∙ ap (λ (slots : List Slot). closing_step c.args.start.now.moment c.args.answered.now fate c.args.next
+            (with_promoted slots (with_preferred_server c.args.answered.now c.args.start.now.state)))
             c.in_ok-onward.ensures.used);
         fits = record {
-          fits = subst (λ (v : Sending g.row.A.Denot). CanSendOn c.args.turn.now.config c.args.turn.now.moment
-              c.args.turn.now.state v.path v.preferred v.onward.items v.ask) (sym c.in_ok-sending.ensures.ok) (record {
+          fits = subst (λ (v : Sending g.row.A.Denot). CanSendOn c.args.start.now.config c.args.start.now.moment
+              c.args.start.now.state v.path v.preferred v.onward.items v.ask) (sym c.in_ok-sending.ensures.ok) (record {
                 those = subst (λ (r : Option Ask). AreForThose r c.in_ok-onward.onward.items
-                    c.args.turn.now.state.waiting)
+                    c.args.start.now.state.waiting)
                     (sym on) (ap (λ (os : List (Option Onward)). length os) c.in_ok-onward.ensures.onward
                     ∙ length-map c.args.fates.each onward_in ∙ c.requires.count);
-                earlier = subst (AllByRecursion (IsSentEarlier c.args.turn.now.moment))
+                earlier = subst (AllByRecursion (IsSentEarlier c.args.start.now.moment))
                     (sym c.in_ok-onward.ensures.onward)
-                    (sent_all c.args.turn.now.moment c.args.fates.each c.requires.earlier);
-                served = subst (λ (a : Ask). a.server < length (servers_in (group_of c.args.turn.now.config a.route)))
+                    (sent_all c.args.start.now.moment c.args.fates.each c.requires.earlier);
+                served = subst (λ (a : Ask). a.server < length (servers_in (group_of c.args.start.now.config a.route)))
                     (sym (c.ask.view_is ∙ c.ask-ask.ensures))
-                    (subst (λ (r : Turn). c.args.answered.now.server < length
-                    (servers_in (group_of r.config c.args.answered.now.route))) c.turn.view_is
-                    (server_within c.turn.inside.config.now c.turn.inside.kept.now.moment c.turn.inside.kept.now.tcp_asks
-                    c.args.answered.now.path c.turn.inside.kept.now.inquiries.asks c.args.answered.now on_inside
-                    c.turn.invariant.0.asks));
-                follows = subst (λ (a : Ask). IfFollows c.args.turn.now.config c.args.turn.now.moment
-                    c.args.turn.now.state
-                    (without_path a.path c.args.turn.now.state.asks) c.args.next)
+                    (subst (λ (r : StepStart). c.args.answered.now.server < length
+                    (servers_in (group_of r.config c.args.answered.now.route))) c.start.view_is
+                    (server_within c.start.inside.config.now c.start.inside.kept.now.moment c.start.inside.kept.now.tcp_asks
+                    c.args.answered.now.path c.start.inside.kept.now.inquiries.asks c.args.answered.now on_inside
+                    c.start.invariant.0.asks));
+                follows = subst (λ (a : Ask). IfFollows c.args.start.now.config c.args.start.now.moment
+                    c.args.start.now.state
+                    (without_path a.path c.args.start.now.state.asks) c.args.next)
                     (sym (c.ask.view_is ∙ c.ask-ask.ensures)) c.requires.follows;
               });
           few = c.requires.few;

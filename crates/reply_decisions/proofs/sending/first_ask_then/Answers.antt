@@ -12,21 +12,21 @@ use Rattle.step_table.specs.State.{from_state}
 
 pub returns : goal.returns
 returns g c =
-    let drawn : c.by_udp-drawn.result ≡ over_udp (udp_draw c.args.turn.now.words
-    (without_path c.args.answered.now.path c.args.turn.now.state.asks) None) =
+    let drawn : c.by_udp-drawn.result ≡ over_udp (udp_draw c.args.start.now.words
+    (without_path c.args.answered.now.path c.args.start.now.state.asks) None) =
     c.by_udp-drawn.ensures
     ∙ ap over_udp
     (c.draw.ensures.drawn
-    ∙ (λ i. udp_draw (c.turn.view_is i).words (c.turn.view_is i).state.asks
+    ∙ (λ i. udp_draw (c.start.view_is i).words (c.start.view_is i).state.asks
     ((c.freed_port.ensures ∙ ap (λ (a : Ask). freed_by a.path) (c.ask.view_is ∙ c.ask-ask.ensures)) i))
-    ∙ sym (draws_left c.args.turn.now.words c.args.answered.now.path c.args.turn.now.state.asks)) in
-    let on : serving_route_of c.args.turn.now.config c.args.question.now.name ≡ Some c.in-Served.route =
+    ∙ sym (draws_left c.args.start.now.words c.args.answered.now.path c.args.start.now.state.asks)) in
+    let on : serving_route_of c.args.start.now.config c.args.question.now.name ≡ Some c.in-Served.route =
     sym (c.in-Served.ensures.served
-    ∙ (λ i. serving_route_of (c.turn.view_is i).config (c.question.view_is i).name)) in
+    ∙ (λ i. serving_route_of (c.start.view_is i).config (c.question.view_is i).name)) in
     IfOk-weaker c.new_ask.result _ _ (λ ask is.
     is
-    ∙ (λ i. ask_by c.args.turn.now.moment c.args.question.now c.in-Served.route (c.preferred_then.ensures i) 1
-    (peer_at c.args.turn.now.config c.in-Served.route (c.preferred_then.ensures i)) (drawn i))
-    ∙ sym (ap (first_ask_on (from_state (closing_state c.args.answered.now c.args.turn.now.state) c.args.turn.now)
+    ∙ (λ i. ask_by c.args.start.now.moment c.args.question.now c.in-Served.route (c.preferred_then.ensures i) 1
+    (peer_at c.args.start.now.config c.in-Served.route (c.preferred_then.ensures i)) (drawn i))
+    ∙ sym (ap (first_ask_on (from_state (closing_state c.args.answered.now c.args.start.now.state) c.args.start.now)
     c.args.question.now) on))
     c.new_ask.ensures

@@ -2,9 +2,9 @@ use Rattle.std.proofs.Common.{◌∙◌, ◌∷◌, [], ◌++◌, ap, sym, subst
 use Rattle.std.proofs.lemmas.List.{map_more}
 use Rattle.std.proofs.lemmas.Option.{get_or_from_slice_get}
 use Rattle.step_values.specs.Values.{Action, action_of, actions_of}
-use Rattle.wires.specs.Wire.{telling}
+use Rattle.wires.specs.Wire.{journal}
 use Rattle.serving_loop.specs.Handing.{Puts}
-use Rattle.serving_loop.proofs.Telling.{puts_none, puts_more, ends_before}
+use Rattle.serving_loop.proofs.Journal.{puts_none, puts_more, ends_before}
 use Rattle.serving_loop.proofs.handing.put_all.Goals as goal
 
 pub loop-place-init : goal.loop-place-init
@@ -28,6 +28,6 @@ loop-place-preserved g c =
     map_more (λ a. action_of a) actions c.loop-place.place action (omega (arith, test, count))
     ∙ ap (λ a. so_far ++ action_of a ∷ [])
     (get_or_from_slice_get actions c.loop-place.place action action c.in-Some.ensures) in
-    subst (λ (actions : List Action). Puts None actions c.put-failed.result (telling (g.W.Wire.told c.args.wire.now) (g.W.Wire.fault_count c.args.wire.now))
-    (telling (g.W.Wire.told c.put-failed.new.wire) (g.W.Wire.fault_count c.put-failed.new.wire)) c.args.counts.now c.put-failed.new.counts) (sym more)
+    subst (λ (actions : List Action). Puts None actions c.put-failed.result (journal (g.W.Wire.report c.args.wire.now) (g.W.Wire.fault_count c.args.wire.now))
+    (journal (g.W.Wire.report c.put-failed.new.wire) (g.W.Wire.fault_count c.put-failed.new.wire)) c.args.counts.now c.put-failed.new.counts) (sym more)
     (puts_more _ _ _ so_far _ _ _ _ _ _ _ c.loop-place.invariant c.put-failed.ensures)

@@ -1,6 +1,6 @@
-use Rattle.wires.specs.Wire.{telling}
-use Rattle.serving_loop.proofs.Rounds.{RoundsSoFar}
+use Rattle.wires.specs.Wire.{journal}
+use Rattle.serving_loop.proofs.Turns.{TurnsSoFar}
 use Rattle.serving_loop.proofs.serving.serve.Given as goal
 
-abbrev pub invariant-loop-round : goal.invariant-loop-round
-invariant-loop-round g l = RoundsSoFar l._round l.streams (record { running = l.fn.forwarder; told = telling (g.W.Wire.told l.fn.wire) (g.W.Wire.fault_count l.fn.wire); counts = l.initial.counts }) (record { running = l.forwarder; told = telling (g.W.Wire.told l.wire) (g.W.Wire.fault_count l.wire); counts = l.counts })
+abbrev pub invariant-loop-turn : goal.invariant-loop-turn
+invariant-loop-turn g l = TurnsSoFar l._turn l.streams (record { running = l.fn.forwarder; report = journal (g.W.Wire.report l.fn.wire) (g.W.Wire.fault_count l.fn.wire); counts = l.initial.counts }) (record { running = l.forwarder; report = journal (g.W.Wire.report l.wire) (g.W.Wire.fault_count l.wire); counts = l.counts })

@@ -9,7 +9,7 @@ use Rattle.alias_chains.specs.Seen.{last_target}
 use Rattle.alias_chains.specs.declared.looked.LookUpEnd.{LookUpEnd as SeenEnd}
 use Rattle.step_values.specs.Values.{Action}
 use Rattle.step_values.specs.declared.action.Why.TheVariants.{Answered}
-use Rattle.step_table.specs.State.{Turn}
+use Rattle.step_table.specs.State.{StepStart}
 use Rattle.step_table.specs.Steps.{gets, sends, transport_of}
 use Rattle.step_actions.specs.Fates.{becomes, or_own, IfLed}
 use Rattle.step_actions.proofs.Fates.{ended_fate, led_so, long_fate, missed_fate, own_so, wanted_is}
@@ -18,7 +18,7 @@ use Rattle.step_actions.proofs.fate.fate_of.Goals as goal
 pub answer-requires : goal.answer-requires
 answer-requires g c = record {
   earlier =
-      subst (λ (r : Turn). AllByRecursion (IsEarlier r.moment) (lent c.args.chain.now)) (sym c.turn.view_is)
+      subst (λ (r : StepStart). AllByRecursion (IsEarlier r.moment) (lent c.args.chain.now)) (sym c.start.view_is)
       c.requires.earlier;
 }
 
@@ -27,15 +27,15 @@ returns-in_ok-action-in-Ends-clause-fate g c = λ l seen.
     let x = c.args.request.now in
     let chain = lent c.args.chain.now in
     ap (λ (a : Action). gets a) (c.in_ok-action-in-Ends.ensures ∙ (λ i. sends Answered x
-    (answer_of x.asked chain (c.turn.view_is i).moment (transport_of x.client))))
-    ∙ ended_fate c.args.turn.now.config c.args.turn.now.moment x chain l l.met
+    (answer_of x.asked chain (c.start.view_is i).moment (transport_of x.client))))
+    ∙ ended_fate c.args.start.now.config c.args.start.now.moment x chain l l.met
     (seen.seen ∙ ap (λ (m : SeenEnd). record { used = chain; met = m }) (sym c.met.ensures ∙ c.in-Ends.is))
 
 pub returns-in_ok-action-in-TooLong-clause-fate : goal.returns-in_ok-action-in-TooLong-clause-fate
 returns-in_ok-action-in-TooLong-clause-fate g c = λ l seen.
     let chain = lent c.args.chain.now in
     ap (λ (a : Action). gets a) c.in_ok-action-in-TooLong.ensures
-    ∙ long_fate c.args.turn.now.config c.args.turn.now.moment c.args.request.now chain l l.met
+    ∙ long_fate c.args.start.now.config c.args.start.now.moment c.args.request.now chain l l.met
     (seen.seen ∙ ap (λ (m : SeenEnd). record { used = chain; met = m }) (sym c.met.ensures ∙ c.in-TooLong.is))
 
 pub missed-requires-clause-few : goal.missed-requires-clause-few
@@ -53,7 +53,7 @@ returns-in_ok-wanted-in-Missed-clause-fate g c = λ l seen.
     let chain = lent c.args.chain.now in
     let met = sym c.met.ensures ∙ c.in-Missed.is in
     IfOk-weaker c.missed.result _ _ (λ fate e.
-    e ∙ missed_fate c.args.turn.now.config c.args.turn.now.moment x chain l l.met
+    e ∙ missed_fate c.args.start.now.config c.args.start.now.moment x chain l l.met
     (or_own x.wanted c.in_ok-wanted-in-Missed.wanted)
     (seen.seen ∙ ap (λ (m : SeenEnd). record { used = chain; met = m }) met)
     (seen.wants met ∙ sym (wanted_is x.wanted c.args.lead (last_target c.args.looked.now.used))

@@ -2,7 +2,7 @@ use Rattle.std.proofs.Common.{◌∙◌, ◌+◌, ◌∷◌, [], ◌++◌, List,
 use Rattle.std.proofs.lemmas.List.{at_drop_all}
 use Rattle.step_texts.specs.Spelling.{Source}
 use Rattle.step_values.specs.Values.{Action, actions_of}
-use Rattle.step_actions.specs.Decision.{with_replies, gives_from, told_from}
+use Rattle.step_actions.specs.Decision.{with_replies, gives_from, reply_from}
 use Rattle.step_actions.specs.Kept.{HoldsEarlier}
 use Rattle.step_actions.proofs.Folds.{answers_filter, one_answered, one_of_those}
 use Rattle.step_actions.proofs.replies.put_answers.Goals as goal
@@ -13,7 +13,7 @@ loop-place-preserved g c = record {
   replies =
       ap (λ (actions : List Action). with_replies (gives_from c.args.answers.now c.args.ask.now.question) actions (drop (c.loop-place.place + 1) c.for_ask-those.result))
       (c.in_ok-put_answer.ensures.put
-      ∙ ap (λ (d : Source). actions_of c.loop-place.actions ++ told_from d c.get.result.now ∷ []) c.loop-place.invariant.same)
+      ∙ ap (λ (d : Source). actions_of c.loop-place.actions ++ reply_from d c.get.result.now ∷ []) c.loop-place.invariant.same)
       ∙ one_answered c.args.answers.now c.args.ask.now.question (actions_of c.loop-place.actions) c.args.waiting.now.items c.for_ask-those.result c.loop-place.place c.get.result.now c.for_ask-those.ensures c.get.ensures
       ∙ c.loop-place.invariant.replies;
 }

@@ -6,6 +6,6 @@ use Rattle.answer_builder.proofs.sections.Sections.of_one.Goals as goal
 
 pub returns : goal.returns
 returns g c =
-    let told = c.args.told.now in
-    let all = c.set_of.ensures ∙ sym (append-nil (answers_of told)) in
-    c.ending.ensures ∙ (λ i. ending (all i) (Some told))
+    let pieces = c.args.pieces.now in
+    let all = c.set_of.ensures ∙ sym (append-nil (answers_of pieces)) in
+    c.ending.ensures ∙ (λ i. ending (all i) (Some pieces))

@@ -1,8 +1,8 @@
 use Rattle.std.proofs.Common.{◌∙◌}
-use Rattle.answer_builder.proofs.Chains.{last_is, told_ending}
+use Rattle.answer_builder.proofs.Chains.{last_is, pieces_ending}
 use Rattle.answer_builder.proofs.sections.Sections.stale.Goals as goal
 
 pub returns : goal.returns
 returns g c =
     let last = c.last.ensures.value ∙ last_is c.args.chain.now in
-    c.ending.ensures ∙ told_ending c.args.chain.now _ _ c.in_ok-sets.ensures last
+    c.ending.ensures ∙ pieces_ending c.args.chain.now _ _ c.in_ok-sets.ensures last

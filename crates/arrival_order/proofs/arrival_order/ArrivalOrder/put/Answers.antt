@@ -1,6 +1,6 @@
 use Rattle.std.proofs.Common.{◌<◌, ◌≢◌, List, ℕ, length, set, sym, subst}
 use Rattle.std.specs.List.{All}
-use Rattle.arrival_order.specs.Turns.{ArrivalOrder, AreNumbered, IsBehindAll}
+use Rattle.arrival_order.specs.Numbering.{ArrivalOrder, AreNumbered, IsBehindAll}
 use Rattle.arrival_order.proofs.Numbers.{number_put}
 use Rattle.arrival_order.proofs.arrival_order.ArrivalOrder.put.Goals as goal
 

@@ -1,5 +1,5 @@
 use Rattle.std.proofs.Common.{◌≡◌, ◌<◌, ℕ, Option, OnSome, length, remove, sym, subst}
-use Rattle.arrival_order.specs.Turns.{ArrivalOrder, AreNumbered}
+use Rattle.arrival_order.specs.Numbering.{ArrivalOrder, AreNumbered}
 use Rattle.arrival_order.proofs.Numbers.{number_left}
 use Rattle.arrival_order.proofs.arrival_order.ArrivalOrder.take.Goals as goal
 

@@ -3,7 +3,7 @@ use Rattle.std.proofs.lemmas.Bool.{false≢true}
 use Rattle.std.proofs.lemmas.Result.{IfOk-weaker, err_from_is_err_and}
 use Rattle.step_values.specs.Values.{event_of}
 use Rattle.step_table.specs.Row.{TakesNoMemory}
-use Rattle.step_table.specs.State.{Turn, turn}
+use Rattle.step_table.specs.State.{StepStart, start}
 use Rattle.step_actions.specs.declared.decision.Decision.{Decision}
 use Rattle.step_actions.specs.Decision.{IsDecided}
 use Rattle.forwarder_core.proofs.CarryingOut.{quiet_at, row_is}
@@ -23,10 +23,10 @@ returns g c =
       change = c.in-Some.field-0.change;
       carried = c.in-Some.field-0.carried;
     } in
-    let decided : IsDecided (turn c.args.self.now.config c.effective-moment.result c.args.words c.args.self.now.state)
+    let decided : IsDecided (start c.args.self.now.config c.effective-moment.result c.args.words c.args.self.now.state)
     (event_of c.args.event.now) c.in_ok-actions.field-0 =
-    subst (λ (t : Turn). IsDecided t (event_of c.args.event.now) c.in_ok-actions.field-0)
-    (c.turn.ensures ∙ ap (λ (m : ℕ). turn c.args.self.now.config m c.args.words c.args.self.now.state)
+    subst (λ (t : StepStart). IsDecided t (event_of c.args.event.now) c.in_ok-actions.field-0)
+    (c.start.ensures ∙ ap (λ (m : ℕ). start c.args.self.now.config m c.args.words c.args.self.now.state)
     (sym c.effective-moment.ensures.value))
     c.in_ok-actions.ensures.row in
     record {
@@ -40,8 +40,8 @@ returns g c =
       no_memory = λ none.
           c.carry_out.ensures.quiet (quiet_at c.in_ok-actions.field-0 c.in-Some.field-0 c.in-Some.is
           (c.in_ok-actions.ensures.no_memory
-          (subst (λ (t : Turn). TakesNoMemory t.config t.moment t.state (event_of c.args.event.now))
-          (sym c.turn.ensures) none))).1;
+          (subst (λ (t : StepStart). TakesNoMemory t.config t.moment t.state (event_of c.args.event.now))
+          (sym c.start.ensures) none))).1;
       err = c.carry_out.ensures.err;
     }
 
@@ -54,7 +54,7 @@ returns-in_err-used g c =
       no_memory = λ none.
           absurd (false≢true (c.in_err-used.ensures.none (quiet_at c.in_ok-actions.field-0 c.in-Some.field-0 c.in-Some.is
           (c.in_ok-actions.ensures.no_memory
-          (subst (λ (t : Turn). TakesNoMemory t.config t.moment t.state (event_of c.args.event.now))
-          (sym c.turn.ensures) none))).0));
+          (subst (λ (t : StepStart). TakesNoMemory t.config t.moment t.state (event_of c.args.event.now))
+          (sym c.start.ensures) none))).0));
       err = refl;
     })

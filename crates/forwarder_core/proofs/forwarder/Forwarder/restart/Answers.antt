@@ -4,7 +4,7 @@ use Rattle.std.specs.Vec.{with_items}
 use Rattle.std.proofs.lemmas.List.{length-map}
 use Rattle.outstanding.specs.Values.{Inquiries}
 use Rattle.step_table.specs.State.{Running}
-use Rattle.step_table.specs.Steps.{start}
+use Rattle.step_table.specs.Steps.{initial}
 use Rattle.forwarder_core.proofs.KeptLaws.{kept_first, put_back, zeros_as, room_is, cache_is}
 use Rattle.forwarder_core.proofs.forwarder.Forwarder.restart.Goals as goal
 
@@ -29,4 +29,4 @@ returns g c =
         tcp_asks = 0;
       };
     })
-    ∙ ap (λ (r : Running). record { config = r.config; state = start r.config }) c.self.view_is
+    ∙ ap (λ (r : Running). record { config = r.config; state = initial r.config }) c.self.view_is

@@ -34,20 +34,20 @@ unreachable-requires g c =
     (subst (λ (k : QuestionKey). IsGap (to_question k) c.args.self.now.asks (keys_of c.args.self.now.by_question.items) c.in_default-place_of.field-0) c.key.ensures c.in_default-place_of.ensures.absent)
 
 -- its key is in turn
-pub place_of-turn-requires : goal.place_of-turn-requires
-place_of-turn-requires g c =
+pub place_of-arrival_rank-requires : goal.place_of-arrival_rank-requires
+place_of-arrival_rank-requires g c =
     let v = c.requires.keys.turns.complete c.key-key.result (is_some_of (get c.args.self.now.asks c.key-key.result) c.index-2.result.now c.index-2.ensures) in
     (v.0, v.1, get_or_default c.args.self.now.by_arrival.keys v.0 c.key-key.result 0 v.1 ∙ v.2)
 
 placed : (g : given.Over) (c : goal.After-remove g)
-    → Placed c.args.self.now.asks (keys_of c.args.self.now.by_path.items) (keys_of c.args.self.now.by_question.items) c.args.self.now.by_arrival.keys c.args.path c.key-key.result c.in-Ok.place c.in-Ok-place_of.question c.place_of-turn.result c.index-2.result.now
+    → Placed c.args.self.now.asks (keys_of c.args.self.now.by_path.items) (keys_of c.args.self.now.by_question.items) c.args.self.now.by_arrival.keys c.args.path c.key-key.result c.in-Ok.place c.in-Ok-place_of.question c.place_of-arrival_rank.result c.index-2.result.now
 placed g c = record {
   here = c.index-2.ensures;
   at_path = c.in-Ok.ensures.found;
   path_is = read_at c.args.self.now.by_path.items c.in-Ok.place c.key-key.result c.index.result.now c.in-Ok.ensures.found.in_range c.index.ensures c.key-key.ensures.key;
   at_question = subst (λ (k : QuestionKey). IsAt (to_question k) c.args.self.now.asks (keys_of c.args.self.now.by_question.items) c.in-Ok-place_of.question) c.key.ensures c.in-Ok-place_of.ensures.found;
-  turn_in = c.place_of-turn.ensures.within;
-  turn_is = c.place_of-turn.ensures.stands;
+  arrival_rank_in = c.place_of-arrival_rank.ensures.within;
+  arrival_rank_is = c.place_of-arrival_rank.ensures.stands;
 }
 
 pub returns-clause-indexed : goal.returns-clause-indexed
@@ -59,30 +59,30 @@ returns-clause-indexed g c =
           indexed_same c.remove.new.self _ _ _ (keys_of c.take_key.new.keys.items) (keys_of c.take_key-2.new.keys.items) c.take.new.self.keys
           (keys_left old.by_path.items c.take_key.new.keys.items c.in-Ok.place c.take_key.ensures.items) (keys_left old.by_question.items c.take_key-2.new.keys.items c.in-Ok-place_of.question c.take_key-2.ensures.items)
           c.take.ensures.keys
-          (take_indexed old.asks (keys_of old.by_path.items) (keys_of old.by_question.items) old.by_arrival.keys c.requires.keys c.args.path c.key-key.result c.in-Ok.place c.in-Ok-place_of.question c.place_of-turn.result c.index-2.result.now at c.remove.new.self c.remove.ensures.updates);
+          (take_indexed old.asks (keys_of old.by_path.items) (keys_of old.by_question.items) old.by_arrival.keys c.requires.keys c.args.path c.key-key.result c.in-Ok.place c.in-Ok-place_of.question c.place_of-arrival_rank.result c.index-2.result.now at c.remove.new.self c.remove.ensures.updates);
       path_numbers =
           numbered_left old.by_path.items c.take_key.new.keys.items c.in-Ok.place c.take_key.ensures.items (λ (a : Ask). path_number a.path) old.asks c.remove.new.self c.key-key.result c.requires.keys.paths
           at.at_path.in_range at.path_is c.remove.ensures.updates c.requires.path_numbers;
       question_numbers =
           numbered_left old.by_question.items c.take_key-2.new.keys.items c.in-Ok-place_of.question c.take_key-2.ensures.items (λ (a : Ask). (question_key a.question).number) old.asks c.remove.new.self c.key-key.result c.requires.keys.questions
-          at.at_question.in_range (question_place old.asks (keys_of old.by_path.items) (keys_of old.by_question.items) old.by_arrival.keys c.requires.keys c.args.path c.key-key.result c.in-Ok.place c.in-Ok-place_of.question c.place_of-turn.result c.index-2.result.now at)
+          at.at_question.in_range (question_place old.asks (keys_of old.by_path.items) (keys_of old.by_question.items) old.by_arrival.keys c.requires.keys c.args.path c.key-key.result c.in-Ok.place c.in-Ok-place_of.question c.place_of-arrival_rank.result c.index-2.result.now at)
           c.remove.ensures.updates c.requires.question_numbers;
     }
 
 pub returns-clause-ended : goal.returns-clause-ended
 returns-clause-ended g c =
     sym c.remove.ensures.value ∙ c.index-2.ensures
-    ∙ sym (take_ended c.args.self.now.asks (keys_of c.args.self.now.by_path.items) (keys_of c.args.self.now.by_question.items) c.args.self.now.by_arrival.keys c.requires.keys c.args.path c.key-key.result c.in-Ok.place c.in-Ok-place_of.question c.place_of-turn.result c.index-2.result.now (placed g c))
+    ∙ sym (take_ended c.args.self.now.asks (keys_of c.args.self.now.by_path.items) (keys_of c.args.self.now.by_question.items) c.args.self.now.by_arrival.keys c.requires.keys c.args.path c.key-key.result c.in-Ok.place c.in-Ok-place_of.question c.place_of-arrival_rank.result c.index-2.result.now (placed g c))
 
 pub returns-clause-list : goal.returns-clause-list
 returns-clause-list g c =
     ap (λ (ks : List ℕ). asks_under c.remove.new.self ks) c.take.ensures.keys
-    ∙ take_asks c.args.self.now.asks (keys_of c.args.self.now.by_path.items) (keys_of c.args.self.now.by_question.items) c.args.self.now.by_arrival.keys c.requires.keys c.args.path c.key-key.result c.in-Ok.place c.in-Ok-place_of.question c.place_of-turn.result c.index-2.result.now (placed g c) c.remove.new.self c.remove.ensures.updates
+    ∙ take_asks c.args.self.now.asks (keys_of c.args.self.now.by_path.items) (keys_of c.args.self.now.by_question.items) c.args.self.now.by_arrival.keys c.requires.keys c.args.path c.key-key.result c.in-Ok.place c.in-Ok-place_of.question c.place_of-arrival_rank.result c.index-2.result.now (placed g c) c.remove.new.self c.remove.ensures.updates
 
 pub returns-clause-len : goal.returns-clause-len
 returns-clause-len g c =
     ap (λ (ks : List ℕ). length (asks_under c.remove.new.self ks) + 1) c.take.ensures.keys
-    ∙ take_len c.args.self.now.asks (keys_of c.args.self.now.by_path.items) (keys_of c.args.self.now.by_question.items) c.args.self.now.by_arrival.keys c.requires.keys c.args.path c.key-key.result c.in-Ok.place c.in-Ok-place_of.question c.place_of-turn.result c.index-2.result.now (placed g c) c.remove.new.self c.remove.ensures.updates
+    ∙ take_len c.args.self.now.asks (keys_of c.args.self.now.by_path.items) (keys_of c.args.self.now.by_question.items) c.args.self.now.by_arrival.keys c.requires.keys c.args.path c.key-key.result c.in-Ok.place c.in-Ok-place_of.question c.place_of-arrival_rank.result c.index-2.result.now (placed g c) c.remove.new.self c.remove.ensures.updates
 
 pub returns-clause-room : goal.returns-clause-room
 returns-clause-room g c = record {
@@ -90,6 +90,6 @@ returns-clause-room g c = record {
   by_path = c.take_key.ensures.room;
   by_question = c.take_key-2.ensures.room;
   by_arrival = c.take.ensures.room;
-  known = omega (arith, c.remove.ensures.key_is_next, c.place_of-turn.ensures.stands, c.take.ensures.freed);
+  known = omega (arith, c.remove.ensures.key_is_next, c.place_of-arrival_rank.ensures.stands, c.take.ensures.freed);
   small = omega (arith, c.remove.ensures.key_is_next, c.key-key.ensures.small);
 }

@@ -1,5 +1,5 @@
 use Rattle.std.proofs.Common.{◌≡◌, subst, Some}
-use Rattle.ready_sockets.specs.Rounds.{Noted}
+use Rattle.ready_sockets.specs.Trying.{Noted}
 use Rattle.ready_sockets.specs.Tokens.{token_of}
 use Rattle.ready_sockets.proofs.Noting.{noted_more, noted_stay}
 use Rattle.ready_sockets.proofs.readiness.Ready.note.Goals as goal

@@ -1,4 +1,4 @@
-use Rattle.ready_sockets.specs.Rounds.{NotedStay}
+use Rattle.ready_sockets.specs.Trying.{NotedStay}
 use Rattle.ready_sockets.proofs.readiness.Ready.note_each.Given as goal
 
 -- sockets that were noted before the events are noted still

@@ -6,7 +6,7 @@ use Rattle.socket_wire.proofs.sockets.Sockets.take_turn.Goals as goal
 pub returns-in_err-arrival : goal.returns-in_err-arrival
 returns-in_err-arrival g c =
     let came : c.try_ready.result ≡ Err c.in_err-arrival.field-0.0 = search rules in
-    let told : c.from_residual.result ≡ Err c.in_err-arrival.field-0.0 = search rules in
+    let report : c.from_residual.result ≡ Err c.in_err-arrival.field-0.0 = search rules in
     record {
       came = Err c.in_err-arrival.field-0.0;
       looked = c.look.new.self;
@@ -14,7 +14,7 @@ returns-in_err-arrival g c =
       looks = c.look.ensures;
       tries = subst (λ came. TriesReady 64 c.args.now came c.look.new.self c.try_ready.new.self) came
           c.try_ready.ensures;
-      ends = (told, refl);
+      ends = (report, refl);
     }
 
 pub returns-in-Some : goal.returns-in-Some

@@ -25,7 +25,7 @@ returns-in_default g c =
 pub returns-in_err-arrival : goal.returns-in_err-arrival
 returns-in_err-arrival g c =
     let came : c.attempt.result ≡ Err c.in_err-arrival.field-0.0 = search rules in
-    let told : c.from_residual.result ≡ Err c.in_err-arrival.field-0.0 = search rules in
+    let report : c.from_residual.result ≡ Err c.in_err-arrival.field-0.0 = search rules in
     let ready = c.loop-tried.self in
     let between = record ready { readiness = c.next.new.self } in
     let behind = c.attempt.new.self in
@@ -37,7 +37,7 @@ returns-in_err-arrival g c =
     c.from_residual.result c.args.self.now ready between behind behind (omega arith)
     c.loop-tried.invariant given
     (subst (λ came. Attempts c.in-Some.origin c.args.now came between behind) came
-    c.attempt.ensures) (told, refl)
+    c.attempt.ensures) (report, refl)
 
 pub returns-in-Arrived : goal.returns-in-Arrived
 returns-in-Arrived g c =

@@ -6,8 +6,8 @@ use Rattle.waiting_questions.proofs.Numbered.{length_keys, key_read, keys_remove
 use Rattle.waiting_questions.proofs.Indexed.{newest_in_turn, newest_ends, ended_indexed, ended_items}
 use Rattle.waiting_questions.proofs.table.Table.end.Goals as goal
 
-pub place_of-turn-requires : goal.place_of-turn-requires
-place_of-turn-requires g c =
+pub place_of-arrival_rank-requires : goal.place_of-arrival_rank-requires
+place_of-arrival_rank-requires g c =
     let table = c.loop-place.self in
     let ending = c.loop-place.invariant.0 in
     let item : NumberedKey = c.index.result.now in
@@ -21,7 +21,7 @@ loop-place-preserved g c =
     let item : NumberedKey = c.index.result.now in (
       newest_ends c.args.ask.now.question _ table.waiting (keys_of table.by_question.items) table.by_arrival.keys c.range-start.result.0 c.loop-place.place c.range-start.result.1 ending
           c.key-key.result c.loop-place-test.true (subst (λ (k : ℕ). k ≡ slice_index_or (keys_of table.by_question.items) (c.loop-place.place - 1) k) (sym c.key-key.ensures.key) (key_read table.by_question.items (c.loop-place.place - 1) item (omega (arith, c.loop-place-test.true, ending.low, ending.high, length_keys table.by_question.items)) c.index.ensures))
-          c.let_go.new.waiting c.let_go.ensures c.place_of-turn.result c.place_of-turn.ensures.within c.place_of-turn.ensures.stands c.take.new.self.keys c.take.ensures.keys,
+          c.let_go.new.waiting c.let_go.ensures c.place_of-arrival_rank.result c.place_of-arrival_rank.ensures.within c.place_of-arrival_rank.ensures.stands c.take.new.self.keys c.take.ensures.keys,
       numbers_left table.waiting c.let_go.new.waiting table.by_question.items c.key-key.result c.let_go.ensures c.loop-place.invariant.1,
     )
 

@@ -34,8 +34,8 @@ range_of-start-requires-clause-keys g c =
     let item : NumberedKey = c.in-Some.old in
     let read : slice_index (keys_of items) c.args.place ≡ c.key.result = key_at items c.args.place item 0 c.requires.place ∙ ap (λ (n : NumberedKey). n.key) (sym c.in-Some.ensures.value) ∙ sym c.key.ensures.key in
     subst (AreKeys IsByQuestion c.remove-keyed.new.self) (sym (ap keys_of c.in-Some.ensures.items ∙ keys_remove items c.args.place))
-    (out_questions c.args.self.now.waiting c.remove-keyed.new.self (keys_of items) c.args.self.now.by_arrival.keys c.requires.indexed.lists c.key.result c.remove-keyed.result c.remove-keyed.result c.args.place c.args.turn
-    (omega (arith, c.requires.place, length_keys items)) c.requires.turn read (sym c.requires.one ∙ read) c.remove-keyed.ensures.value c.remove-keyed.ensures.updates)
+    (out_questions c.args.self.now.waiting c.remove-keyed.new.self (keys_of items) c.args.self.now.by_arrival.keys c.requires.indexed.lists c.key.result c.remove-keyed.result c.remove-keyed.result c.args.place c.args.arrival_rank
+    (omega (arith, c.requires.place, length_keys items)) c.requires.arrival_rank read (sym c.requires.one ∙ read) c.remove-keyed.ensures.value c.remove-keyed.ensures.updates)
 
 pub range_of-start-requires-clause-numbers : goal.range_of-start-requires-clause-numbers
 range_of-start-requires-clause-numbers g c =
@@ -43,8 +43,8 @@ range_of-start-requires-clause-numbers g c =
     subst (AreNumbered c.remove-keyed.new.self) (sym c.in-Some.ensures.items)
     (numbers_left c.args.self.now.waiting c.remove-keyed.new.self _ c.key.result c.remove-keyed.ensures.updates (numbers_without c.args.self.now.waiting items c.args.place (suc c.args.place) c.requires.indexed.numbers))
 
-pub place_by_turn-at-requires-clause-listed : goal.place_by_turn-at-requires-clause-listed
-place_by_turn-at-requires-clause-listed g c =
+pub place_by_arrival-at-requires-clause-listed : goal.place_by_arrival-at-requires-clause-listed
+place_by_arrival-at-requires-clause-listed g c =
     let items : List NumberedKey = c.args.self.now.by_question.items in
     let item : NumberedKey = c.in-Some.old in
     let y : Waiting = c.send_on.new.self in
@@ -55,8 +55,8 @@ place_by_turn-at-requires-clause-listed g c =
     let range : IsRange (to_question (question_key y.wanted)) c.remove-keyed.new.self (remove (keys_of items) c.args.place) i j =
     subst₂ (λ (k : QuestionKey) (ks : List ℕ). IsRange (to_question k) c.remove-keyed.new.self ks i j) c.key-question.ensures out c.range_of-start.ensures in
     subst (λ (ks : List ℕ). All (Contains c.args.self.now.by_arrival.keys) (between i j ks)) (sym out)
-    (all_listed c.args.self.now.waiting c.remove-keyed.new.self (keys_of items) c.args.self.now.by_arrival.keys c.requires.indexed.lists c.key.result c.remove-keyed.result y c.args.place c.args.turn
-    (omega (arith, c.requires.place, length_keys items)) c.requires.turn read (sym c.requires.one ∙ read) c.remove-keyed.ensures.value c.remove-keyed.ensures.updates i j range)
+    (all_listed c.args.self.now.waiting c.remove-keyed.new.self (keys_of items) c.args.self.now.by_arrival.keys c.requires.indexed.lists c.key.result c.remove-keyed.result y c.args.place c.args.arrival_rank
+    (omega (arith, c.requires.place, length_keys items)) c.requires.arrival_rank read (sym c.requires.one ∙ read) c.remove-keyed.ensures.value c.remove-keyed.ensures.updates i j range)
 
 pub insert-requires : goal.insert-requires
 insert-requires g c =
@@ -72,17 +72,17 @@ insert-requires g c =
     let i = c.range_of-start.result.0 in
     let j = c.range_of-start.result.1 in
     let read : slice_index (keys_of items) c.args.place ≡ key = key_at items c.args.place item 0 c.requires.place ∙ ap (λ (n : NumberedKey). n.key) (sym c.in-Some.ensures.value) ∙ sym c.key.ensures.key in
-    let t_is : slice_index t c.args.turn ≡ key = sym c.requires.one ∙ read in
+    let t_is : slice_index t c.args.arrival_rank ≡ key = sym c.requires.one ∙ read in
     let p_in : c.args.place < length (keys_of items) = omega (arith, c.requires.place, length_keys items) in
     let out : keys_of c.remove.new.self.items ≡ remove (keys_of items) c.args.place = ap keys_of c.in-Some.ensures.items ∙ keys_remove items c.args.place in
     let range : IsRange (to_question (question_key y.wanted)) s1 (remove (keys_of items) c.args.place) i j =
     subst₂ (λ (k : QuestionKey) (ks : List ℕ). IsRange (to_question k) s1 ks i j) c.key-question.ensures out c.range_of-start.ensures in
     let put : Updates s1 s' key (Some y) = subst (λ (k : ℕ). Updates s1 s' k (Some y)) (c.insert_reserved.ensures.key ∙ c.remove-keyed.ensures.key_is_next) c.insert_reserved.ensures.updates in
     let taken : y.taken ≡ x.taken = ap (λ (w : Waiting). w.taken) c.send_on.ensures in
-    let at_is : c.place_by_turn-at.result ≡ i + earlier (waits_at s1 y.wanted) t c.args.turn =
-    c.place_by_turn-at.ensures (waits_at s1 y.wanted)
-    (in_turns s s1 (keys_of items) t c.requires.indexed.lists key x y c.args.place c.args.turn p_in c.requires.turn read t_is c.remove-keyed.ensures.value c.remove-keyed.ensures.updates i j range ∙ ap (λ (ks : List ℕ). between i j ks) (sym out)) in
-    omega (arith, at_low s s1 (keys_of items) t c.requires.indexed.lists key x y c.args.place c.args.turn p_in c.requires.turn read t_is c.remove-keyed.ensures.value c.remove-keyed.ensures.updates i j range s' put taken c.place_by_turn-at.result at_is, ap (λ (ks : List ℕ). length ks) out, length_keys c.remove.new.self.items, c.remove.new.self.ok.0)
+    let at_is : c.place_by_arrival-at.result ≡ i + earlier (waits_at s1 y.wanted) t c.args.arrival_rank =
+    c.place_by_arrival-at.ensures (waits_at s1 y.wanted)
+    (in_turns s s1 (keys_of items) t c.requires.indexed.lists key x y c.args.place c.args.arrival_rank p_in c.requires.arrival_rank read t_is c.remove-keyed.ensures.value c.remove-keyed.ensures.updates i j range ∙ ap (λ (ks : List ℕ). between i j ks) (sym out)) in
+    omega (arith, at_low s s1 (keys_of items) t c.requires.indexed.lists key x y c.args.place c.args.arrival_rank p_in c.requires.arrival_rank read t_is c.remove-keyed.ensures.value c.remove-keyed.ensures.updates i j range s' put taken c.place_by_arrival-at.result at_is, ap (λ (ks : List ℕ). length ks) out, length_keys c.remove.new.self.items, c.remove.new.self.ok.0)
 
 pub returns-clause-indexed : goal.returns-clause-indexed
 returns-clause-indexed g c =
@@ -98,28 +98,28 @@ returns-clause-indexed g c =
     let i = c.range_of-start.result.0 in
     let j = c.range_of-start.result.1 in
     let read : slice_index (keys_of items) c.args.place ≡ key = key_at items c.args.place item 0 c.requires.place ∙ ap (λ (n : NumberedKey). n.key) (sym c.in-Some.ensures.value) ∙ sym c.key.ensures.key in
-    let t_is : slice_index t c.args.turn ≡ key = sym c.requires.one ∙ read in
+    let t_is : slice_index t c.args.arrival_rank ≡ key = sym c.requires.one ∙ read in
     let p_in : c.args.place < length (keys_of items) = omega (arith, c.requires.place, length_keys items) in
     let out : keys_of c.remove.new.self.items ≡ remove (keys_of items) c.args.place = ap keys_of c.in-Some.ensures.items ∙ keys_remove items c.args.place in
     let range : IsRange (to_question (question_key y.wanted)) s1 (remove (keys_of items) c.args.place) i j =
     subst₂ (λ (k : QuestionKey) (ks : List ℕ). IsRange (to_question k) s1 ks i j) c.key-question.ensures out c.range_of-start.ensures in
     let put : Updates s1 s' key (Some y) = subst (λ (k : ℕ). Updates s1 s' k (Some y)) (c.insert_reserved.ensures.key ∙ c.remove-keyed.ensures.key_is_next) c.insert_reserved.ensures.updates in
     let taken : y.taken ≡ x.taken = ap (λ (w : Waiting). w.taken) c.send_on.ensures in
-    let at_is : c.place_by_turn-at.result ≡ i + earlier (waits_at s1 y.wanted) t c.args.turn =
-    c.place_by_turn-at.ensures (waits_at s1 y.wanted)
-    (in_turns s s1 (keys_of items) t c.requires.indexed.lists key x y c.args.place c.args.turn p_in c.requires.turn read t_is c.remove-keyed.ensures.value c.remove-keyed.ensures.updates i j range ∙ ap (λ (ks : List ℕ). between i j ks) (sym out)) in
+    let at_is : c.place_by_arrival-at.result ≡ i + earlier (waits_at s1 y.wanted) t c.args.arrival_rank =
+    c.place_by_arrival-at.ensures (waits_at s1 y.wanted)
+    (in_turns s s1 (keys_of items) t c.requires.indexed.lists key x y c.args.place c.args.arrival_rank p_in c.requires.arrival_rank read t_is c.remove-keyed.ensures.value c.remove-keyed.ensures.updates i j range ∙ ap (λ (ks : List ℕ). between i j ks) (sym out)) in
     let it : NumberedKey = c.new-item.result in
     let it_key : it.key ≡ key = ap (λ (n : NumberedKey). n.key) c.new-item.ensures ∙ c.key-2.ensures.key ∙ sym c.key.ensures.key in
     let left : AreKeys IsByQuestion s1 (keys_of c.remove.new.self.items) =
-    subst (AreKeys IsByQuestion s1) (sym out) (out_questions s s1 (keys_of items) t c.requires.indexed.lists key x y c.args.place c.args.turn p_in c.requires.turn read t_is c.remove-keyed.ensures.value c.remove-keyed.ensures.updates) in
+    subst (AreKeys IsByQuestion s1) (sym out) (out_questions s s1 (keys_of items) t c.requires.indexed.lists key x y c.args.place c.args.arrival_rank p_in c.requires.arrival_rank read t_is c.remove-keyed.ensures.value c.remove-keyed.ensures.updates) in
     let numbers : AreNumbered s1 c.remove.new.self.items =
     subst (AreNumbered s1) (sym c.in-Some.ensures.items) (numbers_left s s1 _ key c.remove-keyed.ensures.updates (numbers_without s items c.args.place (suc c.args.place) c.requires.indexed.numbers)) in
     record {
-      lists = subst (λ (ks : List ℕ). AreIndexed s' ks t) (sym (ap keys_of c.in-Ok.ensures.items ∙ keys_insert c.remove.new.self.items c.place_by_turn-at.result it ∙ (λ n. insert (out n) c.place_by_turn-at.result (it_key n))))
-          (sent_indexed s s1 (keys_of items) t c.requires.indexed.lists key x y c.args.place c.args.turn p_in c.requires.turn read t_is c.remove-keyed.ensures.value c.remove-keyed.ensures.updates i j range s' put taken c.place_by_turn-at.result at_is);
+      lists = subst (λ (ks : List ℕ). AreIndexed s' ks t) (sym (ap keys_of c.in-Ok.ensures.items ∙ keys_insert c.remove.new.self.items c.place_by_arrival-at.result it ∙ (λ n. insert (out n) c.place_by_arrival-at.result (it_key n))))
+          (sent_indexed s s1 (keys_of items) t c.requires.indexed.lists key x y c.args.place c.args.arrival_rank p_in c.requires.arrival_rank read t_is c.remove-keyed.ensures.value c.remove-keyed.ensures.updates i j range s' put taken c.place_by_arrival-at.result at_is);
       numbers = subst (AreNumbered s') (sym c.in-Ok.ensures.items)
           (numbers_put s1 s' c.remove.new.self.items left.present numbers y it (ap (get s1) it_key ∙ c.remove-keyed.ensures.updates.changed) (subst (λ (k : ℕ). Updates s1 s' k (Some y)) (sym it_key) put)
-          (ap (λ (n : NumberedKey). n.number) c.new-item.ensures ∙ c.number-number.ensures ∙ ap (λ (k : QuestionKey). k.number) c.key-question.ensures) c.place_by_turn-at.result);
+          (ap (λ (n : NumberedKey). n.number) c.new-item.ensures ∙ c.number-number.ensures ∙ ap (λ (k : QuestionKey). k.number) c.key-question.ensures) c.place_by_arrival-at.result);
     }
 
 pub returns-clause-list : goal.returns-clause-list
@@ -136,16 +136,16 @@ returns-clause-list g c = λ z is.
     let i = c.range_of-start.result.0 in
     let j = c.range_of-start.result.1 in
     let read : slice_index (keys_of items) c.args.place ≡ key = key_at items c.args.place item 0 c.requires.place ∙ ap (λ (n : NumberedKey). n.key) (sym c.in-Some.ensures.value) ∙ sym c.key.ensures.key in
-    let t_is : slice_index t c.args.turn ≡ key = sym c.requires.one ∙ read in
+    let t_is : slice_index t c.args.arrival_rank ≡ key = sym c.requires.one ∙ read in
     let p_in : c.args.place < length (keys_of items) = omega (arith, c.requires.place, length_keys items) in
     let out : keys_of c.remove.new.self.items ≡ remove (keys_of items) c.args.place = ap keys_of c.in-Some.ensures.items ∙ keys_remove items c.args.place in
     let range : IsRange (to_question (question_key y.wanted)) s1 (remove (keys_of items) c.args.place) i j =
     subst₂ (λ (k : QuestionKey) (ks : List ℕ). IsRange (to_question k) s1 ks i j) c.key-question.ensures out c.range_of-start.ensures in
     let put : Updates s1 s' key (Some y) = subst (λ (k : ℕ). Updates s1 s' k (Some y)) (c.insert_reserved.ensures.key ∙ c.remove-keyed.ensures.key_is_next) c.insert_reserved.ensures.updates in
     let taken : y.taken ≡ x.taken = ap (λ (w : Waiting). w.taken) c.send_on.ensures in
-    let at_is : c.place_by_turn-at.result ≡ i + earlier (waits_at s1 y.wanted) t c.args.turn =
-    c.place_by_turn-at.ensures (waits_at s1 y.wanted)
-    (in_turns s s1 (keys_of items) t c.requires.indexed.lists key x y c.args.place c.args.turn p_in c.requires.turn read t_is c.remove-keyed.ensures.value c.remove-keyed.ensures.updates i j range ∙ ap (λ (ks : List ℕ). between i j ks) (sym out)) in
-    let same : x ≡ z = same_Some x z (sym (at_under s t c.args.turn c.requires.indexed.lists.turns.present c.requires.turn ∙ ap (get s) t_is ∙ c.remove-keyed.ensures.value) ∙ is) in
-    sent_items s s1 (keys_of items) t c.requires.indexed.lists key x y c.args.place c.args.turn p_in c.requires.turn read t_is c.remove-keyed.ensures.value c.remove-keyed.ensures.updates i j range s' put taken c.place_by_turn-at.result at_is
-    ∙ ap (λ (w : Waiting). with_at (waiting_under s t) c.args.turn (Some w)) (c.send_on.ensures ∙ ap (sent_on c.args.onward) same)
+    let at_is : c.place_by_arrival-at.result ≡ i + earlier (waits_at s1 y.wanted) t c.args.arrival_rank =
+    c.place_by_arrival-at.ensures (waits_at s1 y.wanted)
+    (in_turns s s1 (keys_of items) t c.requires.indexed.lists key x y c.args.place c.args.arrival_rank p_in c.requires.arrival_rank read t_is c.remove-keyed.ensures.value c.remove-keyed.ensures.updates i j range ∙ ap (λ (ks : List ℕ). between i j ks) (sym out)) in
+    let same : x ≡ z = same_Some x z (sym (at_under s t c.args.arrival_rank c.requires.indexed.lists.turns.present c.requires.arrival_rank ∙ ap (get s) t_is ∙ c.remove-keyed.ensures.value) ∙ is) in
+    sent_items s s1 (keys_of items) t c.requires.indexed.lists key x y c.args.place c.args.arrival_rank p_in c.requires.arrival_rank read t_is c.remove-keyed.ensures.value c.remove-keyed.ensures.updates i j range s' put taken c.place_by_arrival-at.result at_is
+    ∙ ap (λ (w : Waiting). with_at (waiting_under s t) c.args.arrival_rank (Some w)) (c.send_on.ensures ∙ ap (sent_on c.args.onward) same)

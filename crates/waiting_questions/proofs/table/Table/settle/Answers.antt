@@ -23,8 +23,8 @@ index-requires g c =
     let long : c.len.result ≡ length left = omega (arith, c.len.ensures, c.pop.new.self.ok.0) in
     omega (arith, within q table.waiting (keys_of items) table.by_arrival.keys inv.0.lists i j range c.loop-fate.fates.items left c.in-Some.fate c.len.result are long inv.2, length_keys items, table.by_question.ok.0)
 
-pub place_of-turn-requires : goal.place_of-turn-requires
-place_of-turn-requires g c =
+pub place_of-arrival_rank-requires : goal.place_of-arrival_rank-requires
+place_of-arrival_rank-requires g c =
     let table = c.loop-fate.self in
     let items : List NumberedKey = table.by_question.items in
     let inv = c.loop-fate.invariant in
@@ -72,7 +72,7 @@ settle_one-requires-clause-one g c =
     let item : NumberedKey = c.index.result.now in
     let inside : i + c.len.result < length items = omega (arith, within q table.waiting (keys_of items) table.by_arrival.keys inv.0.lists i j range c.loop-fate.fates.items left c.in-Some.fate c.len.result are long inv.2, length_keys items) in
     let read : slice_index (keys_of items) (i + c.len.result) ≡ c.key.result = key_at items (i + c.len.result) item 0 inside ∙ ap (λ (n : NumberedKey). n.key) (sym c.index.ensures) ∙ sym c.key.ensures.key in
-    read ∙ sym c.place_of-turn.ensures.stands
+    read ∙ sym c.place_of-arrival_rank.ensures.stands
 
 pub loop-fate-preserved : goal.loop-fate-preserved
 loop-fate-preserved g c =
@@ -91,8 +91,8 @@ loop-fate-preserved g c =
     let inside : i + c.len.result < length items = omega (arith, within q table.waiting (keys_of items) table.by_arrival.keys inv.0.lists i j range c.loop-fate.fates.items left c.in-Some.fate c.len.result are long inv.2, length_keys items) in
     let read : slice_index (keys_of items) (i + c.len.result) ≡ c.key.result = key_at items (i + c.len.result) item 0 inside ∙ ap (λ (n : NumberedKey). n.key) (sym c.index.ensures) ∙ sym c.key.ensures.key in (
       c.settle_one.ensures.indexed,
-      next_settled q table.waiting (keys_of items) table.by_arrival.keys inv.0.lists i j range c.loop-fate.fates.items left c.in-Some.fate c.len.result are long inv.2 c.place_of-turn.result c.place_of-turn.ensures.within (read ∙ sym c.place_of-turn.ensures.stands) (items_of c.settle_one.new.self) c.settle_one.ensures.list ∙ inv.1,
-      next_enough q table.waiting (keys_of items) table.by_arrival.keys inv.0.lists i j range c.loop-fate.fates.items left c.in-Some.fate c.len.result are long inv.2 c.place_of-turn.result c.place_of-turn.ensures.within (read ∙ sym c.place_of-turn.ensures.stands) (items_of c.settle_one.new.self) c.settle_one.ensures.list,
+      next_settled q table.waiting (keys_of items) table.by_arrival.keys inv.0.lists i j range c.loop-fate.fates.items left c.in-Some.fate c.len.result are long inv.2 c.place_of-arrival_rank.result c.place_of-arrival_rank.ensures.within (read ∙ sym c.place_of-arrival_rank.ensures.stands) (items_of c.settle_one.new.self) c.settle_one.ensures.list ∙ inv.1,
+      next_enough q table.waiting (keys_of items) table.by_arrival.keys inv.0.lists i j range c.loop-fate.fates.items left c.in-Some.fate c.len.result are long inv.2 c.place_of-arrival_rank.result c.place_of-arrival_rank.ensures.within (read ∙ sym c.place_of-arrival_rank.ensures.stands) (items_of c.settle_one.new.self) c.settle_one.ensures.list,
     )
 
 pub returns-clause-list : goal.returns-clause-list

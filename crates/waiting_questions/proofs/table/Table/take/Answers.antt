@@ -16,7 +16,7 @@ returns-clause-indexed g c =
     record {
       lists = subst₂ (AreIndexed s') (sym (ap keys_of c.in-Some.ensures.items ∙ keys_remove items c.args.place)) (sym c.take.ensures.keys)
           (take_indexed s (keys_of items) c.args.self.now.by_arrival.keys c.requires.indexed.lists s' c.key.result c.remove-2.ensures.updates
-          c.args.place c.args.turn (omega (arith, c.requires.place, length_keys items)) c.requires.turn read (sym c.requires.one ∙ read));
+          c.args.place c.args.arrival_rank (omega (arith, c.requires.place, length_keys items)) c.requires.arrival_rank read (sym c.requires.one ∙ read));
       numbers = subst (AreNumbered s') (sym c.in-Some.ensures.items)
           (numbers_left s s' _ c.key.result c.remove-2.ensures.updates (numbers_without s items c.args.place (suc c.args.place) c.requires.indexed.numbers));
     }
@@ -28,4 +28,4 @@ returns-clause-list g c =
     let read : slice_index (keys_of items) c.args.place ≡ c.key.result = key_at items c.args.place item 0 c.requires.place ∙ ap (λ (n : NumberedKey). n.key) (sym c.in-Some.ensures.value) ∙ sym c.key.ensures.key in
     ap (λ (ks : List ℕ). waiting_under c.remove-2.new.self ks) c.take.ensures.keys
     ∙ take_items c.args.self.now.waiting (keys_of items) c.args.self.now.by_arrival.keys c.requires.indexed.lists c.remove-2.new.self c.key.result c.remove-2.ensures.updates
-    c.args.place c.args.turn (omega (arith, c.requires.place, length_keys items)) c.requires.turn read (sym c.requires.one ∙ read)
+    c.args.place c.args.arrival_rank (omega (arith, c.requires.place, length_keys items)) c.requires.arrival_rank read (sym c.requires.one ∙ read)

@@ -1,5 +1,0 @@
-use Rattle.std.proofs.Common.{rules}
-use Rattle.answer_builder.proofs.told.ttl_of.Goals as goal
-
-pub returns : goal.returns
-returns g c = search rules

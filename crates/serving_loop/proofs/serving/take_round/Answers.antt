@@ -1,9 +1,0 @@
-use Rattle.std.proofs.lemmas.Result.{err_from_is_err_and}
-use Rattle.serving_loop.proofs.Rounds.{round_whole, round_cut}
-use Rattle.serving_loop.proofs.serving.take_round.Goals as goal
-
-pub returns : goal.returns
-returns g c = round_whole _ _ _ _ _ c.in_ok-take_arrival.ensures c.tick_on.ensures
-
-pub returns-in_err-take_arrival : goal.returns-in_err-take_arrival
-returns-in_err-take_arrival g c = let p = err_from_is_err_and c.from_residual.result c.from_residual.ensures.1 in rw p.1 (round_cut _ _ _ _ _ c.in_err-take_arrival.ensures)
