@@ -52,7 +52,8 @@ impl Hasher for Carried {
     ghost use Rattle.std.specs.Prelude.{nat_lt, length, take, if◌then◌else◌};
     ghost use Rattle.std.specs.Int.{w64, from_le_bytes};
 
-    ghost write = { λ s octets. if nat_lt (length octets) 8 then s else record { hash = from_le_bytes w64 (take 8 octets) } };
+    ghost write = { λ s octets. if nat_lt (length octets) 8 then s
+        else record { hash = from_le_bytes w64 (take 8 octets) } };
 
     ghost finish = { λ s. s.hash };
 

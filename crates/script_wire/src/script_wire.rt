@@ -200,7 +200,8 @@ impl<A: Allocator + Copy> Wire<A> for ScriptWire<A> {
             × Reports (calls_once self.old) self.old.report (was_put (action_of action.now) true) self.new) }
         ensures refuses { OnErr result (AllButReport (faults_once (calls_once self.old)) self.new
             × (refuses self.old ≡ false → self.new.report ≡ None)) }
-        ensures refusal { OnErr result ((self.new.report ≡ report_then self.old.report (was_put (action_of action.now) false))
+        ensures refusal { OnErr result ((self.new.report
+            ≡ report_then self.old.report (was_put (action_of action.now) false))
             ⊎ (self.new.report ≡ None)) }
     {
         if self.faults == u64::MAX {

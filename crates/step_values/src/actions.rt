@@ -1,6 +1,7 @@
 //! The actions of a step.
 
-ghost use Rattle.std.specs.Prelude.{◌≡◌, ◌==◌, ◌∷◌, ◌++◌, [], length, slice_get, MatchOption, None, IsOk, OnOk, OnErr, Some};
+ghost use Rattle.std.specs.Prelude.{◌≡◌, ◌==◌, ◌∷◌, ◌++◌, [], length, slice_get, MatchOption, None, IsOk, OnOk};
+ghost use Rattle.std.specs.Prelude.{OnErr, Some};
 ghost use Rattle.step_values.specs.Values.{listed_in, HasActions, IsOne};
 
 use crate::action::Action;

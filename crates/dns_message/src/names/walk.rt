@@ -3,7 +3,8 @@
 ghost use Rattle.std.specs.Prelude.{◌≡◌, ◌≤◌, ◌+◌, length, take, drop, IfOk, Err, None};
 ghost use Rattle.dns_message.specs.declared.names.fault.Fault.TheVariants.{Memory};
 ghost use Rattle.dns_message.specs.Shortcuts.{AreShortcuts};
-ghost use Rattle.dns_message.specs.Names.{whole, inside, skipped, behind_labels, step, Stays, Resumes, resume, name_within};
+ghost use Rattle.dns_message.specs.Names.{whole, inside, skipped, behind_labels, step, Stays, Resumes, resume};
+ghost use Rattle.dns_message.specs.Names.{name_within};
 
 use crate::names::fault::Fault;
 use crate::names::shortcuts::resolve;
