@@ -213,7 +213,7 @@ eight_aliases : local (asks 0x1237 1 (below 0x69)) eight 1020
 unfolding written ◌▹◌ each name_text data_text with_length fields_of first_field name_within walk_in name_step shape_of
 eight_aliases = refl
 
--- the same aliases as an answer that ends with the last of them are another text
+-- as an answer that ends with the last alias, these aliases are another text
 not_success : local ask_a (to_lan ∷ []) 2020 ≡ written (full_answer ask_a (sections_of 2020 (to_lan ∷ []))) → ⊥
 unfolding written ◌▹◌ each name_text data_text with_length fields_of first_field name_within walk_in name_step shape_of
 not_success e = let code : 0x83 ≡ 0x80 = ap (λ (text : List ℕ). slice_index text 3) e in absurd (omega (arith, code))

@@ -400,7 +400,7 @@ other_owners p (x ∷ pieces) all =
     or_from (same x.owner p.owner) (list_any (has_owner p.owner) pieces)
     (not_same p.owner x.owner (or_parts (same p.owner x.owner) false all.0).0) (other_owners p pieces all.1)
 
--- the same by the test
+-- pieces with different owners, by the test
 abbrev Differ : List Piece → Type 0
 Differ [] = Unit {0}
 Differ (p ∷ pieces) = (list_any (has_owner p.owner) pieces ≡ false) × Differ pieces

@@ -27,7 +27,7 @@ pub record AreApart {X : Type 0} (comes : X → X → Type 0) (x y : X) : Type 0
   pub differ : x ≡ y → ⊥
   pub never : comes x y → comes y x → ⊥
 
--- the same items, none twice, each list in the order
+-- two lists of equal items, none twice, each list in the order
 pub record AreOneList {X : Type 0} (comes : X → X → Type 0) (xs ys : List X) : Type 0 where
   pub decide : (x y : X) → IsOneOf x xs → IsOneOf y ys → (x ≡ y) ⊎ AreApart comes x y
   pub first_in_order : (x y : X) → IsBefore x y xs → comes x y
@@ -68,7 +68,7 @@ one_list comes (x ∷ xs) (y ∷ ys) h = elim (h.decide x y (inl refl) (inl refl
 
 -- ---- sets of questions that are alike
 
--- the same type, class and name, letter case aside
+-- questions of equal type, class and name, letter case aside
 pub record AreAlike (q p : Question) : Type 0 where
   pub kind : q.kind ≡ p.kind
   pub class : q.class ≡ p.class

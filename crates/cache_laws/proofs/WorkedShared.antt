@@ -114,7 +114,7 @@ shorter_serves_not h = by h.longest.route h.longest.there
     by r is long = let one : record { suffix = []; deny = false; servers = server ∷ [] } ≡ r = cc in
         omega (arith, long, ap (λ (x : Route). length x.suffix) one)
 
--- the same routes, of which the longer one denies
+-- two routes with these suffixes, of which the longer one denies
 abbrev denying : Config
 denying = record {
   listen = server;

@@ -10,7 +10,7 @@ use Rattle.outstanding.specs.Values.{Ask}
 use Rattle.outstanding.specs.Tables.{asks_under}
 use Rattle.outstanding.proofs.Searches.{value_of}
 
--- the same values, the same asks
+-- slabs with equal values under these keys have equal asks there
 pub same_under : (s s' : Slab Ask) (keys : List ℕ) → ((i : ℕ) → i < length keys → get s' (slice_index keys i) ≡ get s (slice_index keys i)) → asks_under s' keys ≡ asks_under s keys
 same_under s s' [] same = refl
 same_under s s' (k ∷ keys) same =

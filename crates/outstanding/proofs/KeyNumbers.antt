@@ -26,7 +26,7 @@ read_at keys i key k within read is = key_at keys i k (omega (arith, keys_count 
 pub present_at : (s : Slab Ask) (keys : List NumberedKey) (i key : ℕ) (k : NumberedKey) → Covers s (keys_of keys) → i < length (keys_of keys) → k ≡ slice_index_or keys i k → key ≡ k.key → IsSome (get s key)
 present_at s keys i key k covers within read is = subst (λ (j : ℕ). IsSome (get s j)) (read_at keys i key k within read is) (covers.present i within)
 
--- the same asks under these keys, the same numbers
+-- keys that are numbered over a slab are numbered over a slab with equal asks under them, too
 same_numbers : (number : Ask → ℕ) (s s' : Slab Ask) (keys : List NumberedKey) → ((i : ℕ) → i < length (keys_of keys) → get s' (slice_index (keys_of keys) i) ≡ get s (slice_index (keys_of keys) i))
     → AreNumbered number s keys → AreNumbered number s' keys
 same_numbers number s s' keys same numbered i d within a e =

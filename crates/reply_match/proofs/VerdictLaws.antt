@@ -31,7 +31,7 @@ told_question false q (Ok other) tells = by (same_question other q) refl
 counted_one : (octets : List ℕ) → slice_index (header_in octets).counts 0 ≡ 1 → one_question octets ≡ question_read (first_question octets)
 counted_one octets e = cond-true (slice_index (header_in octets).counts 0 == 1) _ _ (eq-eqb (slice_index (header_in octets).counts 0) 1 e)
 
--- the same, where one question is counted
+-- the test of the only question, if the header counts one
 pub told_only : (r : Bool) (q : Question) (octets message : List ℕ) (h : Header) → h ≡ header_in octets → message ≡ octets → slice_index h.counts 0 ≡ 1
     → (r ≡ true → QuestionIs (first_question message) q) × (QuestionIs (first_question message) q → r ≡ true) → r ≡ asks_this q (one_question octets)
 told_only r q octets message h header_is message_is one tells =

@@ -1,3 +1,3 @@
--- Lemmas on replies for the proofs of crates above: questions of one client that ask the same get
--- the same.
+-- Lemmas on replies for the proofs of crates above: equal questions of one client get equal
+-- replies.
 pub use Rattle.step_texts.proofs.Aliases.{lent_one_more, lent_then, sent_alike, stale_alike, local_alike}

@@ -35,7 +35,7 @@ fn refusals(
     Err(Fail::from("no answer"))
 }
 
-/// The same over UDP and over TCP.
+/// The numbers of refused allocations of an answer over UDP and over TCP.
 fn refusals_of(table_heap: Global, kind: Kind, reply: &str) -> Result<(u64, u64), Fail> {
     let udp = refusals(table_heap, kind, reply, Transport::Udp)?;
     let tcp = refusals(table_heap, kind, reply, Transport::Tcp)?;

@@ -204,8 +204,8 @@ fn growths_of<'h>(
     None
 }
 
-/// The same of the answer from a reply to its own question, written over UDP into a vector with
-/// room.
+/// The number of allocations that are refused until the answer from a reply to its own question is
+/// written. The answer is written over UDP, into a vector with room.
 pub(crate) fn growths_beside_room(table_heap: Global, reply: &[u8]) -> Result<Option<u64>, Fail> {
     let heap = Refusing::new(table_heap);
     let walk = walked(table_heap, &heap, reply)?;

@@ -182,7 +182,7 @@ const NOTHING: &str = "0008850000010000000000000161076578616d706c650000010001";
 /// The header with response code 3, and the question.
 const LAN: &str = "1234818300010000000000000168036c616e0000010001";
 
-/// The same after the alias, a second of which has passed.
+/// The header with response code 3, the question, and the alias, of whose TTL a second has passed.
 const LAN_ALIAS: &str =
     "1234818300010001000000000161076578616d706c650000010001c00c000500010000003b00070168036c616e00";
 

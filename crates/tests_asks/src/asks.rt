@@ -38,7 +38,7 @@ fn ask_for<'a>(
     })
 }
 
-/// Whether it is the ask that `ask_for` makes for a.example on port 1032 at 1000.
+/// Whether the ask is equal to the ask that `ask_for` makes for a.example on port 1032 at 1000.
 fn is_worked<'a>(ask: &Ask<&'a Refusing<Global>>) -> bool {
     let question = &ask.question;
     let is_asked = question.name.octets() == b"\x01a\x07example".as_slice()

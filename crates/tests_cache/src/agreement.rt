@@ -64,7 +64,7 @@ fn denial_by(word: u32) -> Option<Denial<'static>> {
     })
 }
 
-/// Offers the same to both; whether they answer the same.
+/// Offers the denial to the cache and to the list; whether their answers are equal.
 fn offer_both(
     alloc: Global,
     cache: &mut Cache<DefaultHasher>,
@@ -82,7 +82,7 @@ fn offer_both(
     Ok(denial.offer(alloc, cache, moment)? == answer)
 }
 
-/// One random call of both; whether their answers agree.
+/// Makes a random call of the cache and of the list; whether their answers agree.
 fn call_both(
     alloc: Global,
     cache: &mut Cache<DefaultHasher>,
@@ -107,7 +107,7 @@ fn call_both(
     }
 }
 
-/// Whether each look-up of a name in both finds the same.
+/// Whether each look-up of a name finds equal entries in the cache and in the list.
 fn finds_the_same(
     alloc: Global,
     cache: &Cache<DefaultHasher>,
@@ -123,7 +123,7 @@ fn finds_the_same(
     Ok(true)
 }
 
-/// Whether both are the same, as far as calls show.
+/// Whether the cache and the list are equal, as far as calls show.
 fn are_the_same(
     alloc: Global,
     cache: &Cache<DefaultHasher>,
@@ -141,8 +141,8 @@ fn are_the_same(
     )
 }
 
-/// The first of the random calls that they answer otherwise, and the first after which they are not
-/// the same, if any. Another capacity has other calls.
+/// The first of the random calls that the cache and the list answer differently, and the first
+/// after which they differ, if any. Another capacity has other calls.
 fn partings(
     alloc: Global,
     cache: &mut Cache<DefaultHasher>,
@@ -161,7 +161,7 @@ fn partings(
     Ok((None, None))
 }
 
-/// The number of entries that are left once it is cleared, and whether there is a name error.
+/// The number of entries that a clear of the cache leaves, and whether there is a name error then.
 fn left(cache: &mut Cache<DefaultHasher>) -> (usize, bool) {
     cache.clear();
     (cache.len(), cache.has_name_error(10))
@@ -171,7 +171,7 @@ fn left(cache: &mut Cache<DefaultHasher>) -> (usize, bool) {
 /// once the cache is cleared, and whether there is a name error.
 type Compared = ((Option<u64>, Option<u64>), (usize, bool));
 
-/// The same of a new cache with this capacity. It is forgotten, as the list is: dropping them would
+/// Compares a new cache with a new list of this capacity. Both are forgotten: dropping them would
 /// have to be proved here.
 fn compared_anew(alloc: Global, capacity: usize) -> Result<Compared, Fail>
     requires { 0 < capacity }

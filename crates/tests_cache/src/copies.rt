@@ -60,13 +60,13 @@ fn is_same(piece: &Piece, other: &Piece) -> bool {
         && piece.route == other.route
 }
 
-/// Whether the copy of a piece is the same.
+/// Whether the copy of a piece is equal to the piece.
 fn is_copied(alloc: Global, piece: &Piece) -> Result<bool, Fail> {
     let copy = piece.copy(alloc)?;
     Ok(is_same(&copy, piece))
 }
 
-/// The number of pieces, and the number of their copies that are the same.
+/// The number of pieces, and the number of their equal copies.
 fn equal_copies(alloc: Global, pieces: &[Piece]) -> Result<(usize, usize), Fail> {
     let mut equal = 0usize;
     for piece in pieces {
@@ -75,7 +75,7 @@ fn equal_copies(alloc: Global, pieces: &[Piece]) -> Result<(usize, usize), Fail>
     Ok((pieces.len(), equal))
 }
 
-/// The same of the pieces that a reply carries.
+/// The number of the pieces that a reply carries, and the number of their equal copies.
 fn equal_copies_of(alloc: Global, digits: &str) -> Result<(usize, usize), Fail> {
     let pieces = pieces_of(alloc, digits)?;
     equal_copies(alloc, pieces.as_slice())
@@ -110,7 +110,7 @@ fn is_worked(piece: &Piece) -> bool {
         && (piece.lifetime, piece.rank, piece.route.place) == (300, 3, 0)
 }
 
-/// The cache gets a copy of the only piece: the number of entries before, what came of the offer,
+/// The cache gets a copy of the only piece: the number of entries before, the result of the offer,
 /// the number after, and whether the cache has the worked piece in its slot, accepted at the moment
 /// of the offer.
 fn offered_copy(
@@ -130,7 +130,7 @@ fn offered_copy(
     Ok((before, answer, cache.len(), is_found))
 }
 
-/// The same of a new cache with room for two, which is forgotten.
+/// The result of [`offered_copy`] for a new cache with room for two entries, which is forgotten.
 fn offered_to_new(alloc: Global, pieces: &[Piece]) -> Result<(usize, Offered, usize, bool), Fail> {
     let mut cache = Cache::new(alloc, 2, DefaultHasher::default())?;
     let offered = offered_copy(alloc, &mut cache, pieces);
@@ -138,7 +138,7 @@ fn offered_to_new(alloc: Global, pieces: &[Piece]) -> Result<(usize, Offered, us
     offered
 }
 
-/// The same of the first worked reply.
+/// The result of [`offered_copy`] for a new cache and the piece of the first worked reply.
 fn offered_of_worked(alloc: Global) -> Result<(usize, Offered, usize, bool), Fail> {
     let pieces = pieces_of(alloc, ADDRESS)?;
     offered_to_new(alloc, pieces.as_slice())

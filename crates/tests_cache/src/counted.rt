@@ -36,11 +36,12 @@ const LONGEST: &str =
 a.a.a.a.a.a.a.a.a.a.a.a.a.a.a.a.a.a.a.a.a.a.a.a.a.a.a.a.a.a.a.a.a.a.a.a.a.a.a.a.a.a.\
 a.a.a.a.a.a.a.a.a.a.a.a.a.a.a.a.a.a.a.a.a.a.a.a.a.a.a.a.a.a.a.a.a.a.a.a.a.a.a.a.a.a.a";
 
-/// Denied names, none of them at or above the longest: one that ends otherwise, one that ends in
-/// the same eight octets, and one with fewer. They have ten octets, ten, and two.
+/// Denied names of ten octets, ten, and two, none of them at or above the longest name. The first
+/// ends otherwise. The second ends in the last eight octets of the longest name.
 const DENIED: [&str; 3] = ["x.example", "b.a.a.a.a", "b"];
 
-/// One for the set, one for an alias, and one for each size that a denied name has.
+/// The most hashes of a call: one for the set, one for an alias, and one for each size that a
+/// denied name has.
 const MOST: u64 = 4;
 
 /// The number of hashes of each call: a look-up, one that takes expired entries too, and `shown`.
@@ -69,7 +70,8 @@ fn begun_by(
     }
 }
 
-/// The same for the longest name, in this cache, which gets the denied names.
+/// The number of hashes of each call for the longest name, in this cache, which gets the denied
+/// names.
 fn begun_for_the_longest(
     alloc: Global,
     begun: &Cell<u64>,
@@ -104,7 +106,8 @@ fn begun_by_use(
     }
 }
 
-/// The same in a new cache, which is forgotten.
+/// The number of hashes of the look-up of a denied name, and of the promotion after it, in a new
+/// cache. The cache is forgotten.
 fn begun_by_use_in_new(alloc: Global) -> Result<Option<[u64; 2]>, Fail> {
     let begun = Cell::new(0);
     let hasher = Counting {
@@ -117,7 +120,7 @@ fn begun_by_use_in_new(alloc: Global) -> Result<Option<[u64; 2]>, Fail> {
     counts
 }
 
-/// What `begun_for_the_longest` gives in a new cache, which is forgotten.
+/// The result of [`begun_for_the_longest`] in a new cache, which is forgotten.
 fn begun_in_new(alloc: Global, config: &Config) -> Result<Option<[u64; 3]>, Fail> {
     let begun = Cell::new(0);
     let hasher = Counting {
@@ -130,7 +133,8 @@ fn begun_in_new(alloc: Global, config: &Config) -> Result<Option<[u64; 3]>, Fail
     counts
 }
 
-/// The same with a configuration that serves all names.
+/// The result of [`begun_for_the_longest`] in a new cache, with a configuration that serves all
+/// names.
 fn begun(alloc: Global) -> Result<Option<[u64; 3]>, Fail> {
     let config = Config::read(alloc, alloc, CONFIG)?;
     begun_in_new(alloc, &config)

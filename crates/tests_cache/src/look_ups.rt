@@ -78,7 +78,8 @@ fn right_look_ups(
     Ok((alive, past))
 }
 
-/// The same in a new cache, which is forgotten.
+/// The number of right look-ups, alive and expired, in a new cache with these pieces and denials.
+/// The cache is forgotten.
 fn right_in_new(alloc: Global, config: &Config, pieces: &[Piece]) -> Result<(usize, usize), Fail> {
     let mut cache = Cache::new(alloc, 8, DefaultHasher::default())?;
     let right = right_look_ups(alloc, &mut cache, config, pieces);
@@ -86,7 +87,8 @@ fn right_in_new(alloc: Global, config: &Config, pieces: &[Piece]) -> Result<(usi
     right
 }
 
-/// The same with the pieces of a reply, and a configuration that denies.
+/// The number of right look-ups, alive and expired, with the pieces of a reply and a configuration
+/// that denies.
 fn right(alloc: Global) -> Result<(usize, usize), Fail> {
     let config = Config::read(alloc, alloc, DENYING)?;
     let pieces = pieces_of(alloc, ALIAS)?;

@@ -117,11 +117,11 @@ fn held_of<'a>(
     Ok(held)
 }
 
-/// What a cache is like that got many names: the first that was not kept, the number of entries,
-/// and the first and the last name that it holds.
+/// The contents of a cache that got many names: the first name that was not kept, the number of
+/// entries, and the first and the last name that the cache holds.
 type Seen = (Option<u32>, usize, Option<(u32, u32)>);
 
-/// The same of this cache, which gets `count` names.
+/// The contents of this cache, which gets `count` names.
 fn seen_in<'a>(
     heap: Heap<'a>,
     cache: &mut Cache<DefaultHasher, Heap<'a>>,
@@ -132,7 +132,8 @@ fn seen_in<'a>(
     Ok((unkept, cache.len(), held_of(heap, cache, count)?))
 }
 
-/// The same of a new cache, which is forgotten: dropping it would have to be proved here.
+/// The contents of a new cache, which gets `count` names. The cache is forgotten: dropping it would
+/// have to be proved here.
 fn seen_in_new(heap: Heap<'_>, capacity: usize, names: Names, count: u32) -> Result<Seen, Fail>
     requires { 0 < capacity }
 {

@@ -58,14 +58,14 @@ fn offer_within<'a>(
     Ok(answer)
 }
 
-/// What is done with a new cache for two entries.
+/// The calls of a new cache for two entries.
 #[derive(Clone, Copy)]
 enum Calls {
     /// A name is offered, and a second one with this number of allocations granted.
     Second(u64),
     /// A set is offered, and no allocation is granted to offers at its slot.
     SameSlot,
-    /// It is cleared, with one allocation granted.
+    /// The cache is cleared, with one allocation granted.
     ClearUnused,
     /// All calls that do not allocate are made, with one allocation granted.
     Others,
@@ -76,7 +76,7 @@ enum Calls {
 /// The result of these calls.
 #[derive(Clone, Copy, PartialEq, Eq, Debug)]
 enum Came {
-    /// All that they have to do.
+    /// The calls do all that they have to do.
     Whole,
     /// The second name is not kept, and the cache is as it was.
     Unkept,
@@ -225,7 +225,7 @@ fn came_of<'a>(
     }
 }
 
-/// The same of a new cache, which is forgotten.
+/// The result of these calls of a new cache, which is forgotten.
 fn came_of_new<'a>(heap: Heap<'a>, config: &Config<Heap<'a>>, calls: Calls) -> Result<Came, Fail> {
     let mut cache = Cache::new(heap, 2, DefaultHasher::default())?;
     let came = came_of(heap, &mut cache, config, calls);
@@ -233,7 +233,7 @@ fn came_of_new<'a>(heap: Heap<'a>, config: &Config<Heap<'a>>, calls: Calls) -> R
     Ok(came?)
 }
 
-/// The same with a configuration that denies.
+/// The result of these calls of a new cache, with a configuration that denies.
 fn done(alloc: Global, calls: Calls) -> Result<Came, Fail> {
     let heap = Refusing::new(alloc);
     let config = Config::read(alloc, &heap, DENYING)?;

@@ -21,7 +21,7 @@ suffix = "."
 servers = ["192.0.2.1:53"]
 "#;
 
-/// One route for all names, and one that denies those under `lan`.
+/// One route for all names, and one that denies the names under `lan`.
 pub(crate) const DENYING: &str = r#"version = 2
 [[route]]
 suffix = "."
@@ -145,14 +145,15 @@ fn pieces_in(
     Ok(walk.pieces)
 }
 
-/// The same of a message in hexadecimal digits, with a configuration that serves all names.
+/// The pieces that a message in hexadecimal digits carries as the reply to its own question, with a
+/// configuration that serves all names.
 pub(crate) fn pieces_of(alloc: Global, digits: &str) -> Result<PlainList<Piece, Global>, Fail> {
     let octets = hex::decode(alloc, digits)?;
     let config = Config::read(alloc, alloc, CONFIG)?;
     pieces_in(alloc, &config, &octets)
 }
 
-/// What is found of the address of a name, expired entries too, with a window in seconds.
+/// Looks up the address of a name, expired entries too, with a window in seconds.
 pub(crate) fn found_stale<'a, H: BuildHasher + Drop, A: Allocator + Copy>(
     at: &CacheAt<'a, H, A>,
     name: &Name<A>,

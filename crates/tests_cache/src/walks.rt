@@ -13,7 +13,7 @@ use trust_rank::{Piece, pieces};
 /// Forty addresses of a.example are counted.
 const FORTY: &str = "0008850000010028000000000161076578616d706c650000010001";
 
-/// Forty addresses of a.example: twenty, and then the same again.
+/// Forty addresses of a.example: twenty, and then these twenty again.
 fn twenty_twice(heap: Global) -> Result<Vec<u8>, Fail> {
     let mut octets = hex::decode(heap, FORTY)?;
     for place in 0..40u8 {
@@ -27,16 +27,16 @@ fn twenty_twice(heap: Global) -> Result<Vec<u8>, Fail> {
 
 type Heap<'a> = &'a Refusing<Global>;
 
-/// What is made, with each allocation refused in turn.
+/// The values that are made, with each allocation refused in turn.
 #[derive(Clone, Copy)]
 enum Made {
     /// The pieces of a reply.
     Pieces,
-    /// A copy of each of them, of which there are at most three.
+    /// A copy of each piece, of at most three pieces.
     Copies,
 }
 
-/// For each that is made the number of allocations that are refused one after another.
+/// For each value that is made the number of allocations that are refused one after another.
 type Refused = [Option<u64>; 3];
 
 /// The number of allocations of a copy.
@@ -52,7 +52,7 @@ fn refused_copies<'h>(heap: Heap<'h>, piece: &Piece<Heap<'h>>) -> u64 {
     100
 }
 
-/// The same of a copy of each piece.
+/// The number of allocations of a copy of each piece.
 fn refused_of_copies<'h>(heap: Heap<'h>, pieces: &[Piece<Heap<'h>>]) -> Result<Refused, Fail> {
     let mut refused = [None; 3];
     if pieces.len() > refused.len() {
@@ -84,7 +84,8 @@ fn refused_of_pieces<'h>(
     200
 }
 
-/// The allocations of what is made of this message.
+/// The number of allocations of each value that is made of this message as the reply to this
+/// question.
 fn refused_in<'h>(
     heap: Heap<'h>,
     message: &Message<Heap<'h>>,
@@ -106,7 +107,8 @@ fn refused_in<'h>(
     }
 }
 
-/// The same of a message in octets, as the reply to its own question.
+/// The number of allocations of each value that is made of a message in octets, as the reply to its
+/// own question.
 fn refused_of<'h>(
     heap: Heap<'h>,
     config: &Config<Heap<'h>>,
@@ -119,20 +121,21 @@ fn refused_of<'h>(
     refused_in(heap, &message, &question, config, made)
 }
 
-/// The same with a configuration that serves all names.
+/// The number of allocations of each value that is made of a message in octets, with a
+/// configuration that serves all names.
 fn refused_of_octets(alloc: Global, octets: &[u8], made: Made) -> Result<Refused, Fail> {
     let heap = Refusing::new(alloc);
     let config = Config::read(alloc, &heap, CONFIG)?;
     refused_of(&heap, &config, octets, made)
 }
 
-/// The same of a message in hexadecimal digits.
+/// The number of allocations of each value that is made of a message in hexadecimal digits.
 fn refused_of_digits(alloc: Global, digits: &str, made: Made) -> Result<Refused, Fail> {
     let octets = hex::decode(alloc, digits)?;
     refused_of_octets(alloc, &octets, made)
 }
 
-/// The same of [`twenty_twice`].
+/// The number of allocations of the pieces of [`twenty_twice`].
 fn refused_of_twenty(alloc: Global) -> Result<Refused, Fail> {
     let octets = twenty_twice(alloc)?;
     refused_of_octets(alloc, &octets, Made::Pieces)

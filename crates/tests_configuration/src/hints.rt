@@ -276,7 +276,7 @@ const SERVERS: [(&str, &str); 15] = [
         "/corp/10.0.0.10",
         "a domain is the `suffix` of a route, its servers are in `servers`",
     ),
-    // What the server is comes first.
+    // The hint on the server itself comes first.
     (
         "2001:db8::1@853#dns.example",
         "only addresses of IPv4 can be given",

@@ -4,7 +4,7 @@ use std::alloc::{AllocError, Global};
 use std::test::Fail;
 use suffix_routes::Config;
 
-/// The beginning of a text whose second route has the fault.
+/// The beginning of a text of version 1 whose second route has the fault.
 const ROUTE: &str = r#"version = 1
 [[route]]
 suffix = "."
@@ -12,7 +12,7 @@ servers = ["192.0.2.1:53"]
 [[route]]
 "#;
 
-/// The same in version 2.
+/// The beginning of a text of version 2 whose second route has the fault.
 const ROUTE_2: &str = r#"version = 2
 [[route]]
 suffix = "."
@@ -239,7 +239,7 @@ const SAID: [(&str, &str, &str); 43] = [
     ),
 ];
 
-/// One text after another.
+/// The text that begins with `head` and goes on with `rest`.
 fn joined(heap: Global, head: &str, rest: &str) -> Result<String, AllocError> {
     let mut text = String::from_str(heap, head)?;
     text.push_str(rest)?;

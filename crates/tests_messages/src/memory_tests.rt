@@ -76,8 +76,8 @@ fn copy_question(heap: &Refusing<Global>, octets: &[u8], refused: Refused) -> Re
     Ok(is_equal_question(&question, &copy))
 }
 
-/// Copies a record, or its data, or takes the name out of that, which ends with a zero octet where
-/// it is one.
+/// Copies a record, or its data, or takes the name out of its data. Data that are a name end with a
+/// zero octet.
 fn copy_record<'a>(
     heap: &'a Refusing<Global>,
     call: Call,
@@ -93,7 +93,7 @@ fn copy_record<'a>(
     }
 }
 
-/// The same of the only answer.
+/// Copies the only answer of the message, or its data, or takes the name out of its data.
 fn copy_answer(
     heap: &Refusing<Global>,
     call: Call,

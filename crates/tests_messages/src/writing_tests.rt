@@ -26,7 +26,7 @@ fn written_again(alloc: Global, octets: &[u8], limit: u16) -> Result<Octets<Glob
     written(alloc, &message, limit)
 }
 
-/// The same in hexadecimal digits, within 512 octets.
+/// The message that these hexadecimal digits spell, written within 512 octets, again in digits.
 fn rewritten(alloc: Global, digits: &str) -> Result<String, Fail> {
     let octets = hex::decode(alloc, digits)?;
     let text = written_again(alloc, &octets, 512)?;

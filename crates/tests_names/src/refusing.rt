@@ -79,19 +79,19 @@ fn each_large_growth_is_refused(rt: HostRuntime) {
     assert!(rt; is_granted(&heap, 65_536), "any again");
 }
 
-/// What becomes of octets where allocations are refused.
+/// A list of octets after pushes with allocations refused.
 #[derive(Clone, Copy)]
 struct Held {
-    /// The room that they had, and their number once pushes were refused.
+    /// The room of the list, and the number of its octets once pushes were refused.
     room: usize,
     len: usize,
     refused: u8,
-    /// One more is pushed with one allocation granted.
+    /// One more octet is pushed with one allocation granted.
     is_pushed: bool,
     first: Option<u8>,
 }
 
-/// The same of these, which get one first.
+/// Pushes one octet to the list, then octets with allocations refused, then one with one granted.
 fn held_in<'a>(
     heap: &'a Refusing<Global>,
     octets: &mut Vec<u8, &'a Refusing<Global>>,
@@ -117,7 +117,7 @@ fn held_in<'a>(
     })
 }
 
-/// The same of new ones.
+/// The result of [`held_in`] for a new list.
 fn held_in_new(alloc: Global) -> Result<Held, AllocError> {
     let heap = Refusing::new(alloc);
     let mut octets = Vec::new(&heap);

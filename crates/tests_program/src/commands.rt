@@ -120,14 +120,14 @@ impl Net for Host<'_> {
     }
 }
 
-/// What has to be printed.
+/// The octets that have to be printed.
 #[derive(Clone, Copy)]
 enum Wanted<'a> {
     /// These octets.
     Just(&'a [u8]),
-    /// Some that begin with these.
+    /// Octets that begin with these.
     Beginning(&'a [u8]),
-    /// Some.
+    /// Any octets, at least one.
     Some,
 }
 

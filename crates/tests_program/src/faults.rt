@@ -18,7 +18,7 @@ suffix = \".\"
 servers = [\"192.0.2.1:53\"]
 ";
 
-/// One that is served on this machine.
+/// A configuration that is served on this machine.
 pub const SERVED: &[u8] = b"version = 1
 listen = \"127.0.0.1:15371\"
 [[route]]
@@ -96,11 +96,11 @@ impl<T: Write + Drop> Write for Interrupted<T> {
     }
 }
 
-/// What a replay printed of the line that is wanted.
+/// The part of the wanted line that a replay printed.
 #[derive(Clone, Copy, PartialEq, Eq, Debug)]
 enum Printed {
     Nothing,
-    /// A beginning of it.
+    /// A beginning of the line.
     Beginning,
     Whole,
     Other,
@@ -118,7 +118,8 @@ fn printed_of(octets: &[u8]) -> Printed {
     }
 }
 
-/// How a replay of this input ends, with this memory for its forwarder, and what it printed.
+/// How a replay of this input ends, with this memory for its forwarder, and what the replay
+/// printed.
 fn replayed<A: Allocator + Copy, R: Read>(
     alloc: Global,
     heap: A,
@@ -129,7 +130,8 @@ fn replayed<A: Allocator + Copy, R: Read>(
     (ended, printed_of(&printed))
 }
 
-/// The same of the first `end` octets of the script, after which the reader fails.
+/// How a replay of the first `end` octets of the script ends, and what the replay printed. After
+/// these octets the reader fails.
 fn replayed_up_to(alloc: Global, end: usize) -> (Result<(), ReplayFault>, Printed) {
     let mut input = SCRIPT.get(..end).unwrap_or(SCRIPT).chain(Broken);
     replayed(alloc, alloc, &mut input)
@@ -324,7 +326,7 @@ fn an_event_that_finds_no_memory(rt: HostRuntime) {
 enum Served {
     /// Memory ran out.
     Memory,
-    /// It ends well, and printed its counts.
+    /// The service ends well, and printed its counts.
     Whole,
     Other,
 }
@@ -337,7 +339,7 @@ fn served_of(ended: &Result<(), Fault>, is_counted: bool) -> Served {
     }
 }
 
-/// How it ends with `granted` allocations after its configuration was read.
+/// How the service ends with `granted` allocations after its configuration was read.
 fn served_with(rt: &HostRuntime, heap: &Refusing<Global>, granted: u64) -> Served {
     let mut input = SERVED;
     let Ok(config) = read_config(rt.alloc(), heap, &mut input) else {

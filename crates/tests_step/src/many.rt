@@ -120,8 +120,8 @@ fn hashes_of(
     }
 }
 
-/// The most hashes of one of so many steps, each of which sends a query for another name; `None` if
-/// one does anything else.
+/// The most hashes of one of `count` steps, each of which sends a query for another name; `None` if
+/// a step does anything else.
 fn most_of_queries(
     alloc: Global,
     begun: &Cell<u64>,
@@ -139,8 +139,10 @@ fn most_of_queries(
     Ok(Some(most))
 }
 
-/// The same, and with these queries under way the hashes of a question that joins the first of
-/// them, of the reply to it, which answers both, and of a tick; `None` if a step does anything else.
+/// The most hashes of one of `count` steps, each of which sends a query for another name. Then,
+/// with these queries under way, the hashes of a question that joins the first query, of the reply
+/// to the first query, which answers both questions, and of a tick. `None` if a step does anything
+/// else.
 fn hashes_with(
     alloc: Global,
     begun: &Cell<u64>,
@@ -159,7 +161,7 @@ fn hashes_with(
     }
 }
 
-/// The same of a new forwarder, which is forgotten.
+/// The result of [`hashes_with`] for a new forwarder, which is forgotten.
 fn hashes(alloc: Global, count: u16) -> Result<Option<[u64; 4]>, Fail> {
     let config = Config::read(alloc, alloc, CONFIG)?;
     let begun = Cell::new(0);

@@ -49,10 +49,11 @@ enum Row {
     Restart,
 }
 
-/// The same reply with another identifier, and with another type.
+/// The server's reply with another identifier.
 const OTHER_IDENTIFIER: &[u8] =
     b"\x00\x09\x85\x00\x00\x01\x00\x01\x00\x00\x00\x00\x01a\x07example\x00\x00\x01\x00\x01\xc0\x0c\x00\x01\x00\x01\x00\x00\x01\x2c\x00\x04\xc6\x33\x64\x05";
 
+/// The server's reply to a question of another type.
 const OTHER_TYPE: &[u8] =
     b"\x00\x08\x85\x00\x00\x01\x00\x01\x00\x00\x00\x00\x01a\x07example\x00\x00\x1c\x00\x01\xc0\x0c\x00\x01\x00\x01\x00\x00\x01\x2c\x00\x04\xc6\x33\x64\x05";
 
@@ -151,7 +152,7 @@ fn came_of_rows<'a>(
     Ok(Came::Quiet(None))
 }
 
-/// The result of these calls of a new forwarder.
+/// The result of these calls of this forwarder, which is new.
 fn came_of<'a>(
     heap: &'a Refusing<Global>,
     forwarder: &mut Forwarder<DefaultHasher, &'a Refusing<Global>>,
@@ -175,7 +176,8 @@ fn came_of<'a>(
     }
 }
 
-/// The same. The forwarder is forgotten: dropping it would have to be proved here.
+/// Makes a forwarder, and returns the result of these calls of it. The forwarder is forgotten:
+/// dropping it would have to be proved here.
 fn came_of_new(alloc: Global, calls: Calls) -> Result<Came, AllocError> {
     let heap = Refusing::new(alloc);
     let mut forwarder = new(&heap)?;

@@ -65,7 +65,7 @@ fn is_asked(
     Ok(send_alone(&outcome.actions, &QUERY) && is_done(&outcome, 0))
 }
 
-/// Whether its next step answers.
+/// Whether the next step of this forwarder answers.
 fn is_answered(
     alloc: Global,
     forwarder: &mut Forwarder<DefaultHasher, Global>,
@@ -75,8 +75,8 @@ fn is_answered(
     Ok(answer_whole(&outcome.actions) && is_done(&outcome, 0))
 }
 
-/// The same two steps by calls of a forwarder's own: whether it asks, and whether it answers. It is
-/// forgotten: dropping it would have to be proved here.
+/// The two steps by calls of a forwarder of its own: whether the first step asks, and whether the
+/// second answers. The forwarder is forgotten: dropping it would have to be proved here.
 fn worked_by_calls(alloc: Global) -> Result<(bool, bool), AllocError> {
     let mut forwarder = new(alloc)?;
     let asked = is_asked(alloc, &mut forwarder);
@@ -94,9 +94,9 @@ fn the_steps_by_calls(rt: HostRuntime) -> Result<(), Fail> {
 /// The allocations that are refused.
 #[derive(Clone, Copy)]
 pub(crate) enum Refused {
-    /// One alone.
+    /// One allocation alone.
     One,
-    /// One, and each one after it.
+    /// One allocation, and each one after it.
     Rest,
 }
 
@@ -191,7 +191,8 @@ fn fate_of_second<'a>(
     Ok(if is_made { Fate::Lost } else { Fate::Other })
 }
 
-/// The same of a new run, which is forgotten.
+/// The result of the second step of a new recorded run, with an allocation refused after `granted`.
+/// The run is forgotten.
 fn fate_of_recorded(
     heap: &Refusing<Global>,
     refused: Refused,
@@ -208,12 +209,12 @@ fn fate_of_recorded(
 enum Run {
     /// Over a list.
     List,
-    /// Recorded. It has ample memory up to its second step.
+    /// Recorded. The run has ample memory up to its second step.
     Recorded,
 }
 
 /// Each allocation of a run is refused in turn: the number with which a step is refused, and the
-/// number with which a piece is not kept. `None` if it does anything else.
+/// number with which a piece is not kept. `None` if the run does anything else.
 fn refusals_of(
     heap: &Refusing<Global>,
     run: Run,
@@ -235,7 +236,7 @@ fn refusals_of(
     Ok(None)
 }
 
-/// The same with one allocation alone refused, and with each one after it.
+/// The result of [`refusals_of`], with one allocation alone refused, and with each one after it.
 fn refusals(alloc: Global, run: Run) -> Result<[Option<(u64, u64)>; 2], AllocError> {
     let heap = Refusing::new(alloc);
     let one = refusals_of(&heap, run, Refused::One)?;
@@ -255,7 +256,7 @@ fn a_run_over_a_list(rt: HostRuntime) -> Result<(), Fail> {
     Ok(())
 }
 
-/// Those of the second step alone: its input is kept as it is.
+/// The allocations of the second step alone: the run keeps the input of the step without a copy.
 #[test]
 fn a_recorded_run(rt: HostRuntime) -> Result<(), Fail> {
     let [one, rest] = refusals(rt.alloc(), Run::Recorded)?;
@@ -264,8 +265,8 @@ fn a_recorded_run(rt: HostRuntime) -> Result<(), Fail> {
     Ok(())
 }
 
-/// A new forwarder, with an allocation refused after `granted`; whether it was made. Its
-/// configuration has ample memory.
+/// Whether a new forwarder is made with an allocation refused after `granted`. Its configuration
+/// has ample memory.
 fn is_forwarder_with(
     heap: &Refusing<Global>,
     refused: Refused,
@@ -280,7 +281,8 @@ fn is_forwarder_with(
     Ok(is_made)
 }
 
-/// The same of a run that has made no step.
+/// Whether a new recorded run is made with an allocation refused after `granted`. Its configuration
+/// has ample memory.
 fn is_recorded_with(
     heap: &Refusing<Global>,
     refused: Refused,
@@ -295,8 +297,8 @@ fn is_recorded_with(
     Ok(is_made)
 }
 
-/// The fewest allocations granted before one is refused with which both are made; `None` where one
-/// of them is made with fewer than the other.
+/// The fewest allocations granted before one is refused with which both a forwarder and a run are
+/// made; `None` if one of the two is made with fewer than the other.
 fn growths_of_new(heap: &Refusing<Global>, refused: Refused) -> Result<Option<u64>, AllocError> {
     for granted in 0..64 {
         let is_forwarder = is_forwarder_with(heap, refused, granted)?;
@@ -311,7 +313,7 @@ fn growths_of_new(heap: &Refusing<Global>, refused: Refused) -> Result<Option<u6
     Ok(None)
 }
 
-/// The same with one allocation alone refused, and with each one after it.
+/// The result of [`growths_of_new`], with one allocation alone refused, and with each one after it.
 fn growths(alloc: Global) -> Result<[Option<u64>; 2], AllocError> {
     let heap = Refusing::new(alloc);
     let one = growths_of_new(&heap, Refused::One)?;
@@ -319,7 +321,7 @@ fn growths(alloc: Global) -> Result<[Option<u64>; 2], AllocError> {
     Ok([one, rest])
 }
 
-/// All but one are for the cache, and the list of steps takes none.
+/// All allocations but one are for the cache. The list of steps does not allocate.
 #[test]
 fn each_growth_of_a_new_forwarder_is_refused(rt: HostRuntime) -> Result<(), Fail> {
     assert_eq!(rt; growths(rt.alloc())?, [Some(7), Some(7)]);
@@ -340,7 +342,8 @@ fn seen_after_first<'a>(
     Ok((count, is_left))
 }
 
-/// The same of a new run, which is forgotten.
+/// The number of steps of a new run once it has made the first step, and whether steps are seen
+/// without allocating. The run is forgotten.
 fn seen(alloc: Global) -> Result<(usize, bool), AllocError> {
     let heap = Refusing::new(alloc);
     let mut recorded = Recorded::new(&heap, config(&heap)?, DefaultHasher::default())?;

@@ -28,7 +28,7 @@ const EVENTS: [(u8, bool); 8] = [
     (7, false),
 ];
 
-/// The same of `action`.
+/// The places of the actions that `action` makes, and whether each has octets.
 const ACTIONS: [(u8, bool); 6] = [
     (0, true),
     (1, true),
@@ -185,7 +185,7 @@ fn is_event_copied<'a>(
     Ok(is_refused == has_octets && is_equal_event(event, &copy))
 }
 
-/// The same of an action.
+/// Whether the copy of this action is equal to it, and is refused out of memory if it has octets.
 fn is_action_copied<'a>(
     heap: Heap<'a>,
     action: &Action<Heap<'a>>,
@@ -199,14 +199,14 @@ fn is_action_copied<'a>(
     Ok(is_refused == has_octets && is_equal_action(action, &copy))
 }
 
-/// What is copied.
+/// The kind of the value that is copied.
 #[derive(Clone, Copy)]
 enum Kind {
     Event,
     Action,
 }
 
-/// Whether what is at a place is copied right, with one allocation refused alone or with all.
+/// Whether the value at a place is copied right, with one allocation refused alone or with all.
 fn is_copied(
     heap: Heap<'_>,
     kind: Kind,
@@ -269,7 +269,7 @@ fn copies_of_actions_are_equal(rt: HostRuntime) -> Result<(), Fail> {
     Ok(())
 }
 
-/// Whether this input of a step is copied whole, and a refused allocation of that is reported.
+/// Whether a refused allocation of a copy of this input is reported, and whether the copy is whole.
 fn is_input_copied<'a>(
     heap: Heap<'a>,
     input: &StepInput<Heap<'a>>,
@@ -285,7 +285,8 @@ fn is_input_copied<'a>(
     ))
 }
 
-/// The same of a delivery.
+/// Whether a refused allocation of a copy of an input with a delivery is reported, and whether the
+/// copy is whole.
 fn is_delivery_copied(alloc: Global) -> Result<(bool, bool), AllocError> {
     let heap = Refusing::new(alloc);
     let input = StepInput {

@@ -251,7 +251,7 @@ fn outlives_a_stall(system: &System<'_>, wire: &mut MioWire<'_, System<'_>>) -> 
     }
 }
 
-/// What a client sent before the end of a stall is read before it is judged silent.
+/// Octets that a client sent before the end of a stall are read before the client is judged silent.
 #[test]
 fn questions_that_came_in_a_stall_are_answered(rt: HostRuntime) -> Result<(), Fail> {
     let system = System::new(&rt);

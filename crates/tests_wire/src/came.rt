@@ -1,4 +1,4 @@
-//! What comes over a wire, in plain values, and who sends it.
+//! The arrivals over a wire, in plain values, and their senders.
 
 use crate::system::{System, TURNS, address, send};
 use mio::net::{TcpStream, UdpSocket};
@@ -13,7 +13,7 @@ use step_values::{Action, Client, Path, Why};
 /// The turns after which no socket is noted as ready.
 const SETTLED: u32 = 4;
 
-/// What came, in plain values.
+/// An arrival, in plain values.
 #[derive(Clone, Copy, PartialEq, Eq, Debug)]
 pub(crate) enum Came {
     /// Nothing, or the end of a client.
@@ -43,7 +43,7 @@ fn came_in(arrival: &Arrival) -> Came {
     }
 }
 
-/// What comes in a turn.
+/// The arrival of a turn.
 pub(crate) fn came_now(wire: &mut MioWire<'_, System<'_>>) -> Came {
     let came = match wire.arrival() {
         Ok(arrival) => came_in(&arrival),
@@ -53,7 +53,7 @@ pub(crate) fn came_now(wire: &mut MioWire<'_, System<'_>>) -> Came {
     came
 }
 
-/// What comes next; nothing where nothing has come in many turns.
+/// The next arrival; `Nothing` if nothing has come in many turns.
 pub(crate) fn came_next(wire: &mut MioWire<'_, System<'_>>) -> Came {
     for _ in 0..TURNS {
         let came = came_now(wire);

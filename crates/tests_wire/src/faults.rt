@@ -84,7 +84,8 @@ fn served_by<'a>(
     }
 }
 
-/// The same over a wire with these turns, all of which are served. The wire is forgotten.
+/// Serves all turns of this script with this memory, over a wire with these turns. Returns what
+/// [`served_by`] returns. The wire is forgotten.
 fn served_over<'a>(
     memory: Memory<'a>,
     script: &[Turn],
@@ -96,7 +97,7 @@ fn served_over<'a>(
     Ok(served)
 }
 
-/// The same with a new forwarder, which is forgotten, too.
+/// Serves all turns of this script with this memory and a new forwarder, which is forgotten, too.
 fn served_with(memory: Memory<'_>, script: &[Turn]) -> Result<Option<(Served, Puts)>, AllocError> {
     let mut forwarder = forwarder(memory.forwarder)?;
     let served = served_over(memory, script, &mut forwarder);
@@ -132,7 +133,7 @@ fn a_reader_without_memory_ends_the_call(rt: HostRuntime) -> Result<(), Fail> {
     Ok(())
 }
 
-/// What is counted if a forwarder has no memory, and if a wire has none.
+/// The counts and puts if a forwarder has no memory, and if a wire has none.
 fn served_without(alloc: Global) -> Result<[Option<(Served, Puts)>; 2], AllocError> {
     let ample = Refusing::new(alloc);
     let heap = Refusing::new(alloc);

@@ -1,4 +1,4 @@
-//! What is put on a wire.
+//! The puts on a wire.
 
 use crate::worked::{ANSWER, CLIENT, QUERY, SECOND, SERVER};
 use std::alloc::Allocator;
@@ -68,7 +68,7 @@ fn replies<A: Allocator>(put: &(Action<A>, bool), text: &[u8], reason: Why, take
     }
 }
 
-/// What was put on a wire, as far as tests want it.
+/// The kinds of puts on a wire that tests tell apart.
 #[derive(Clone, Copy, PartialEq, Eq, Debug)]
 pub(crate) enum Puts {
     Nothing,
@@ -79,7 +79,7 @@ pub(crate) enum Puts {
     /// The query, which was refused, the end of its path, the query to the second server, the end
     /// of its path, and the answer.
     AnsweredBySecond,
-    /// All of it was refused: of each try the query and the end of its path, in turn to both
+    /// All puts were refused: of each try the query and the end of its path, in turn to both
     /// servers, and the reply.
     Refused,
     Other,
@@ -119,7 +119,7 @@ fn are_by_second<A: Allocator>(puts: &[(Action<A>, bool)]) -> bool {
     }
 }
 
-/// What was put.
+/// The kind of these puts.
 pub(crate) fn puts_of<A: Allocator>(puts: &[(Action<A>, bool)]) -> Puts {
     match puts {
         [] => Puts::Nothing,

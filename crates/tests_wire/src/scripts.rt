@@ -136,7 +136,7 @@ pub(crate) fn wire_of<A: Allocator + Copy>(
 pub(crate) struct Run<'a> {
     /// The turns of the wire.
     pub script: &'a [Turn],
-    /// The numbers of the calls that it refuses.
+    /// The numbers of the calls that the wire refuses.
     pub refuse: &'a [u64],
     /// Whether the group has a second server.
     pub has_second: bool,
@@ -144,7 +144,7 @@ pub(crate) struct Run<'a> {
     pub turns: u64,
 }
 
-/// What a run comes to.
+/// The result of a run.
 #[derive(Clone, Copy, PartialEq, Eq, Debug)]
 pub(crate) struct Ran {
     pub served: Served,
@@ -169,8 +169,8 @@ fn forwarder_of<A: Allocator + Copy>(
     }
 }
 
-/// Serves `turns` turns over this wire with a new forwarder. It is forgotten: dropping it would
-/// have to be proved here.
+/// Serves `turns` turns over this wire with a new forwarder. The forwarder is forgotten: dropping
+/// it would have to be proved here.
 pub(crate) fn serve_anew<A: Allocator + Copy>(
     alloc: A,
     wire: &mut ScriptWire<A>,
@@ -183,7 +183,7 @@ pub(crate) fn serve_anew<A: Allocator + Copy>(
     served
 }
 
-/// What a run over this wire comes to.
+/// The result of a run over this wire.
 fn ran_over<A: Allocator + Copy>(
     alloc: A,
     wire: &mut ScriptWire<A>,
@@ -199,7 +199,7 @@ fn ran_over<A: Allocator + Copy>(
     })
 }
 
-/// What a run comes to. Its wire is forgotten, too.
+/// The result of a run over a new wire, which is forgotten, too.
 pub(crate) fn ran_anew<A: Allocator + Copy>(alloc: A, run: &Run<'_>) -> Result<Ran, AllocError> {
     let mut wire = wire_of(alloc, run.script, run.refuse)?;
     let ran = ran_over(alloc, &mut wire, run);

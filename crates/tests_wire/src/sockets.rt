@@ -21,7 +21,7 @@ use suffix_routes::{Config, Limits, Peer};
 /// The most calls of `serve` until a packet has come.
 const CALLS: u32 = 400;
 
-/// The configuration where the question comes by UDP. On a slow machine too nothing times out: an
+/// The configuration for a question that comes by UDP. On a slow machine too nothing times out: an
 /// ask and a question wait as long as a configuration can say.
 const BY_UDP: &str = "version = 1
 listen = \"127.0.0.1:15353\"
@@ -33,7 +33,7 @@ suffix = \".\"
 servers = [\"127.0.0.1:15354\"]
 ";
 
-/// The same where it comes over TCP.
+/// The configuration for a question that comes over TCP.
 const OVER_TCP: &str = "version = 1
 listen = \"127.0.0.1:15355\"
 [limits]
@@ -240,7 +240,7 @@ fn ask_anew(
     }
 }
 
-/// The same over a new wire, which is forgotten.
+/// The question of a new client over a new wire, which is forgotten.
 fn ask_over_wire(
     rt: &HostRuntime,
     by: By,
@@ -253,7 +253,8 @@ fn ask_over_wire(
     asked
 }
 
-/// The same with a new server, and with a new forwarder, which is forgotten, too.
+/// The question of a new client to a new forwarder with a new server. The forwarder is forgotten,
+/// too.
 fn ask(rt: &HostRuntime, by: By) -> Result<(), Fail> {
     let server = UdpSocket::bind(rt, address(by.server()))?;
     let mut forwarder = forwarder_of(rt.alloc(), by.config())?;

@@ -235,8 +235,8 @@ fn client_that_came(wire: &mut MioWire<'_, System<'_>>) -> Option<u64> {
     None
 }
 
-/// Puts a query the bind of whose socket answers this error. Returns whether the query was sent all
-/// the same, and whether a client was closed for it.
+/// Puts a query. The bind of its socket fails with this error. Returns whether the query was sent
+/// nevertheless, and whether a client was closed for it.
 fn put_where_refused(
     system: &System<'_>,
     wire: &mut MioWire<'_, System<'_>>,
@@ -261,8 +261,8 @@ pub(crate) fn send(client: &mut TcpStream, octets: &[u8]) -> Result<(), Fail> {
     )
 }
 
-/// The results of queries where a port is taken, a network can't be reached and no descriptor is
-/// left, once a client has come whose connection has then been idle for a second.
+/// The results of three queries: a port is taken, a network can't be reached, and no descriptor is
+/// left. Before the queries a client has come, and its connection has been idle for a second.
 fn puts_beside_a_client(
     system: &System<'_>,
     wire: &mut MioWire<'_, System<'_>>,
@@ -278,7 +278,7 @@ fn puts_beside_a_client(
     ])
 }
 
-/// The same with a client that sends an octet.
+/// The results of these three queries, with a client that has sent an octet.
 fn puts_beside_a_resting_client(
     system: &System<'_>,
     wire: &mut MioWire<'_, System<'_>>,
@@ -316,7 +316,7 @@ fn ends_without_memory<'a>(
     false
 }
 
-/// The same with a client that sends the beginning of a frame.
+/// Whether calls of a turn run out of memory for a client that sends the beginning of a frame.
 fn ends_with_a_client<'a>(
     rt: &HostRuntime,
     heap: &'a Refusing<Global>,
@@ -328,7 +328,8 @@ fn ends_with_a_client<'a>(
     Ok(ends_without_memory(heap, wire, forwarder))
 }
 
-/// The same over a new wire with ample memory, which is forgotten.
+/// Whether calls of a turn over a new wire with ample memory run out of memory for a client. The
+/// wire is forgotten.
 fn ends_over_wire<'a>(
     rt: &HostRuntime,
     ample: &'a Refusing<Global>,
@@ -341,7 +342,8 @@ fn ends_over_wire<'a>(
     ended
 }
 
-/// The same with a new forwarder with ample memory, which is forgotten, too.
+/// Whether calls of a turn of a new forwarder with ample memory run out of memory for a client. The
+/// forwarder is forgotten, too.
 fn ends(rt: &HostRuntime) -> Result<bool, Fail> {
     let ample = Refusing::new(rt.alloc());
     let heap = Refusing::new(rt.alloc());

@@ -35,7 +35,7 @@ pub(crate) const TWO_PIECES: [Turn; 2] = [
 const REST: &[u8] =
     b"\x34\x01\x00\x00\x01\x00\x00\x00\x00\x00\x00\x01a\x07example\x00\x00\x01\x00\x01";
 
-/// What `turns` turns of it come to.
+/// The result of `turns` turns in which the question comes in two pieces.
 fn ran_in_pieces(alloc: Global, turns: u64) -> Result<Ran, AllocError> {
     let run = Run {
         script: &TWO_PIECES,
@@ -46,7 +46,7 @@ fn ran_in_pieces(alloc: Global, turns: u64) -> Result<Ran, AllocError> {
     ran_anew(alloc, &run)
 }
 
-/// The second turn asks the question. A call of one turn over a wire like it puts nothing.
+/// The second turn asks the question. A call of one turn over an equal wire puts nothing.
 #[test]
 fn a_frame_in_two_pieces_is_one_question(rt: HostRuntime) -> Result<(), Fail> {
     let second = ran_in_pieces(rt.alloc(), 2)?;
@@ -58,14 +58,14 @@ fn a_frame_in_two_pieces_is_one_question(rt: HostRuntime) -> Result<(), Fail> {
 
 type Heap<'a> = &'a Refusing<Global>;
 
-/// What was put on the wire, and whether one allocation that was allowed is left then.
+/// The puts on the wire, and whether one allocation that was allowed is left then.
 fn seen<'a>(heap: Heap<'a>, wire: &ScriptWire<Heap<'a>>) -> (Puts, bool) {
     let puts = puts_of(wire.puts());
     (puts, Box::new(heap, 0u8).is_ok())
 }
 
-/// The same of a wire that is made of turns that exist already, with one allocation allowed. It is
-/// forgotten.
+/// The puts on a wire that is made of turns that exist already, and whether the one allocation that
+/// was allowed is left then. The wire is forgotten.
 fn seen_of_new(alloc: Global) -> Result<(Puts, bool), AllocError> {
     let heap = Refusing::new(alloc);
     let refuse = Vec::from_slice(&heap, &[1u64])?;
@@ -77,7 +77,8 @@ fn seen_of_new(alloc: Global) -> Result<(Puts, bool), AllocError> {
     Ok(seen)
 }
 
-/// The same of this wire, once it has served, with one allocation allowed from then on.
+/// The puts on this wire once it has served, and whether one allocation that was allowed from then
+/// on is left.
 fn seen_served<'a>(
     heap: Heap<'a>,
     wire: &mut ScriptWire<Heap<'a>>,
@@ -87,7 +88,8 @@ fn seen_served<'a>(
     Ok(seen(heap, wire))
 }
 
-/// The same of a wire on which the question comes in two pieces.
+/// The puts on a wire on which the question comes in two pieces, once the wire has served, and
+/// whether one allocation that was allowed from then on is left.
 fn seen_of_served(alloc: Global) -> Result<(Puts, bool), AllocError> {
     let heap = Refusing::new(alloc);
     let mut wire = wire_of(&heap, &TWO_PIECES, &[])?;

@@ -46,7 +46,7 @@ const WITHOUT_PAUSE: u32 = 100;
 
 const SOON: u32 = 10;
 
-/// What comes over a wire.
+/// A case of arrivals over a wire.
 #[derive(Clone, Copy)]
 enum Case {
     /// A client's datagram.
@@ -430,7 +430,7 @@ fn ages_passed(
     Ok(AGES.len())
 }
 
-/// The same over a new wire, which is forgotten.
+/// The number of ages at which the case passes over a new wire, which is forgotten.
 fn ages_passed_anew(rt: &HostRuntime, case: Case) -> Result<usize, Fail> {
     let system = System::new(rt);
     system.time.set(Duration::ZERO);

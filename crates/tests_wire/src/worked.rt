@@ -29,7 +29,7 @@ pub(crate) const SECOND: Peer = Peer {
 pub(crate) const QUESTION: [u8; 27] =
     *b"\x12\x34\x01\x00\x00\x01\x00\x00\x00\x00\x00\x00\x01a\x07example\x00\x00\x01\x00\x01";
 
-/// The same as a query.
+/// The query that asks a server the question.
 pub(crate) const QUERY: [u8; 27] =
     *b"\x00\x08\x01\x00\x00\x01\x00\x00\x00\x00\x00\x00\x01a\x07example\x00\x00\x01\x00\x01";
 

@@ -43,7 +43,7 @@ explained_is_sound c steps s x = record { owners = x.0; sound = x.1.sound; tells
 pub row_stays : (c : Config) (s : State) (h : StepInput) (o : Outcome) (s' : State) → Row c s h o s' → StaysExplained c s h o s'
 row_stays c s h o s' r = λ past w x. row_explained c past w s h o s' x r
 
--- the same, where a step was stored
+-- stored steps stay explained once one more is stored
 pub explained_more : (c c' : Config) (steps steps' : List Step) (s s' : State) (h : StepInput) (o : Outcome) → c' ≡ c → steps' ≡ steps ++ record { input = h; outcome = o } ∷ [] → IsExplained c steps s → StaysExplained c s h o s' → IsExplained c' steps' s'
 explained_more c c' steps steps' s s' h o same pushed x stays =
     subst (λ (p : Config × List Step). IsExplained p.0 p.1 s') (λ i. (sym same i, sym pushed i)) (IsExplained-push c steps s s' h o x stays)

@@ -182,7 +182,7 @@ set_at owner class rank = piece_at owner class (Some 1) (rows ((192 ∷ 0 ∷ 2 
 abbrev error_at : List (List ℕ) → ℕ → Piece
 error_at owner rank = piece_at owner 1 None (denied None) 600 rank
 
--- the same slot at a rank that is not lower; NODATA is of the slot of its set
+-- a piece takes the place of a piece of no higher rank in its slot; NODATA has the slot of its set
 same_slots : (takes_place_of (set_at a 1 3) (set_at a 1 1) ≡ true) × (takes_place_of (set_at a 1 1) (set_at a 1 1) ≡ true) × (takes_place_of (set_at a 1 1) (set_at a 1 2) ≡ false)
     × (takes_place_of (piece_at a 1 (Some 1) (no_data None) 0 3) (set_at a 1 3) ≡ true) × (takes_place_of (set_at a 3 3) (set_at a 1 3) ≡ false) × (takes_place_of (piece_at a 1 (Some 2) (no_data None) 0 3) (set_at a 1 3) ≡ false)
     × (takes_place_of (set_at (below_e 98) 1 3) (set_at a 1 3) ≡ false)

@@ -50,7 +50,7 @@ first_under s (k ∷ keys) key x first here = ap (λ o. slice_get (cons_option o
 pub place_under : (s : Slab Waiting) (keys : List ℕ) (items : List Waiting) (place : ℕ) → ArePresent s keys → waiting_under s keys ≡ items → place < length items → place < length keys
 place_under s keys items place present are within = omega (arith, within, length_under s keys present, ap length are)
 
--- the same values, the same questions
+-- slabs with equal values under these keys have equal questions there
 pub same_under : (s s' : Slab Waiting) (keys : List ℕ) → All (λ j. get s' j ≡ get s j) keys → waiting_under s' keys ≡ waiting_under s keys
 same_under s s' [] same = refl
 same_under s s' (k ∷ keys) same =

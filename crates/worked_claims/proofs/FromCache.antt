@@ -71,7 +71,7 @@ restarted = step_of 2000 [] restart []
 after_a_restart : SameAsEarlierFromCache config 2000 (address a) (answer 7 128 59 5 6) (restarted ∷ hit ∷ [])
 after_a_restart runs now quiet = absurd (true≢false runs)
 
--- the same holds of one a step before, where nothing was accepted since
+-- an answer two steps back is repeated, too, if nothing was accepted since
 abbrev passes : Step
 passes = step_of 2000 [] tick []
 

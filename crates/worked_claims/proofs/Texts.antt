@@ -19,7 +19,7 @@ with_flags id high low kind =
 abbrev pub question_text : ℕ → ℕ → List ℕ
 question_text id kind = with_flags id 1 0 kind
 
--- the same of opcode 2
+-- a question of opcode 2, with RD alone
 abbrev pub status_text : ℕ → List ℕ
 status_text id = with_flags id 17 0 1
 

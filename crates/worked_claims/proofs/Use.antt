@@ -146,7 +146,7 @@ a_known_error_is_used w is uses =
 
 -- ---- asked for again without RD
 
--- the same question with all flags clear (RFC 1035 4.1.1)
+-- the question with all flags clear (RFC 1035 4.1.1)
 abbrev plain_text : List ℕ
 plain_text = with_flags 7 0 0 1
 

@@ -69,7 +69,7 @@ older_ask_first : played config (first ∷ (1000, asks_for 2 (address b)) ∷ (2
 unfolding route_of
 older_ask_first = refl
 
--- the same two, asked the other way round
+-- of two asks of one moment, begun in the other order
 other_way_round : played config ((1000, asks_for 2 (address b)) ∷ (1000, asks_for 1 (address a)) ∷ (2500, ticking) ∷ (2500, ticking) ∷ [])
     ≡ (sends_query 1032 server 8 (address b) ∷ []) ∷ (sends_query 1040 server 16 (address a) ∷ [])
     ∷ (close_udp 1032 ∷ sends_query 1048 other_server 24 (address b) ∷ [])

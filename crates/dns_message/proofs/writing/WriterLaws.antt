@@ -69,7 +69,7 @@ ends start mid now left whole so_far step t h =
     let r = so_far t h in
     rw (← r.rest) (step r.text r.holds)
 
--- the same is left, in other words
+-- `other` is left, if it gives the text of `left` after each text that the writer holds
 pub instead : {A : Type 0} (start mid : Writer A) (left other whole : Writing) → GoesOn start mid left whole → ((u : Text) → Holds mid u → after u left ≡ after u other) → GoesOn start mid other whole
 instead start mid left other whole so_far same t h =
     let r = so_far t h in
