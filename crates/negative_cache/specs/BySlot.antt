@@ -56,7 +56,7 @@ abbrev pub climbed : (List (List ℕ) → Option Held) → List (List ℕ) → O
 climbed there [] = there []
 climbed there (label ∷ key) = option_or (there (label ∷ key)) (climbed there key)
 
--- the same from the names above alone
+-- the entry of the first name with an entry, from the name above upwards
 abbrev pub above : (List (List ℕ) → Option Held) → List (List ℕ) → Option Held
 above there [] = None
 above there (label ∷ key) = climbed there key
