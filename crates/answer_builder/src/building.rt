@@ -9,7 +9,7 @@ ghost use Rattle.answer_builder.specs.Transports.{answer_of, local_answer_of, st
 
 use crate::asked::{Asked, AskedRef, Transport};
 use crate::fault::Fault;
-use crate::pieces::with_stale_ttls;
+use crate::piece_with_ttl::with_stale_ttls;
 use crate::sections::Sections;
 use crate::text::{UDP_LIMIT, header_of, put_bare};
 use dns_message::MessageParts;

@@ -4,7 +4,7 @@
 mod asked;
 mod building;
 mod fault;
-mod pieces;
+mod piece_with_ttl;
 mod records;
 mod sections;
 mod text;
@@ -12,6 +12,6 @@ mod text;
 pub use asked::{Asked, AskedRef, Transport};
 pub use building::{build, build_local, build_stale, failure, put_failure};
 pub use fault::Fault;
-pub use pieces::PieceWithTtl;
+pub use piece_with_ttl::PieceWithTtl;
 pub use sections::Sections;
 pub use text::UDP_LIMIT;

@@ -11,7 +11,7 @@ ghost use Rattle.answer_builder.specs.Answers.{IsEarlier};
 ghost use Rattle.answer_builder.specs.Building.{listed};
 ghost use Rattle.plain_values.specs.Borrowed.{lent};
 
-use crate::pieces::PieceWithTtl;
+use crate::piece_with_ttl::PieceWithTtl;
 use dns_message::codes::NXDOMAIN;
 use dns_message::{DataRef, Record, RowsRef};
 use record_cache::Held;

@@ -13,7 +13,7 @@ ghost use Rattle.plain_values.specs.Borrowed.{lent};
 
 use crate::asked::{AskedRef, Transport};
 use crate::fault::Fault;
-use crate::pieces::{PieceWithTtl, last_at};
+use crate::piece_with_ttl::{PieceWithTtl, last_at};
 use crate::records::{rcode_of, set_of, sets_at, sets_of, soa_of};
 use crate::text::{header_of, put_text};
 use dns_message::codes::NXDOMAIN;

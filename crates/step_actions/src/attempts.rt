@@ -6,7 +6,7 @@ ghost use Rattle.outstanding.specs.Draws.{drawn_by_tcp};
 ghost use Rattle.step_table.specs.Attempts.{group_of, servers_in, peer_at, over_udp, over_tcp, ask_by, freed_by};
 ghost use Rattle.step_table.specs.Attempts.{plan_of};
 
-use crate::start::StepStartRef;
+use crate::step_start::StepStartRef;
 use dns_message::Question;
 use outstanding::{Ask, Path};
 use retry_failover::Plan;

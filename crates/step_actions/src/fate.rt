@@ -16,7 +16,7 @@ ghost use Rattle.alias_chains.specs.declared.looked.LookUpEnd.{LookUpEnd};
 ghost use Rattle.step_table.specs.Clients.{fate_missed, fate_of};
 ghost use Rattle.step_actions.specs.Fates.{becomes, began_at, fate_in, or_own, wanted_at, IfLed, IfWaits, IsSeenAs};
 
-use crate::start::StepStartRef;
+use crate::step_start::StepStartRef;
 use alias_chains::{LookUp, LookUpEnd, copies};
 use dns_message::{Question, QuestionRef};
 use dns_name::Name;

@@ -9,7 +9,7 @@ mod fate;
 mod kept;
 mod out_of_tries;
 mod replies;
-mod start;
+mod step_start;
 
 pub use attempts::{Attempt, by_tcp, by_udp, draw_connection, freed_port, new_ask, plan};
 pub use decision::{Change, Decision, Opening, Preferred, Sending};
@@ -18,4 +18,4 @@ pub use fate::{Fate, fate_of};
 pub use kept::Kept;
 pub use out_of_tries::last_replies;
 pub use replies::{answers_to, close_path, close_paths, failures};
-pub use start::{StepStartRef, nothing};
+pub use step_start::{StepStartRef, nothing};

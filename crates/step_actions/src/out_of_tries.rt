@@ -13,7 +13,7 @@ ghost use Rattle.step_table.specs.Failures.{found_stale, runs_out, with_stale_tt
 ghost use Rattle.step_actions.specs.Decision.{with_replies};
 
 use crate::replies::close_path;
-use crate::start::StepStartRef;
+use crate::step_start::StepStartRef;
 use alias_chains::look_up_stale;
 use dns_message::QuestionRef;
 use outstanding::KeyedAsk;

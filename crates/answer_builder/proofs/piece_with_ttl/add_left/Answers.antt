@@ -1,6 +1,6 @@
 use Rattle.answer_builder.specs.Answers.{with_ttl, IsEarlier}
 use Rattle.answer_builder.proofs.Chains.{drop_more, told_more}
-use Rattle.answer_builder.proofs.pieces.add_left.Goals as goal
+use Rattle.answer_builder.proofs.piece_with_ttl.add_left.Goals as goal
 
 pub loop-held-preserved : goal.loop-held-preserved
 loop-held-preserved g c =

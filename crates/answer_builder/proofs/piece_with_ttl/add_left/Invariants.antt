@@ -1,7 +1,7 @@
 use Rattle.std.proofs.Common.{◌≡◌, ◌++◌, map, take, drop}
 use Rattle.std.specs.List.{AllByRecursion}
 use Rattle.answer_builder.specs.Answers.{with_ttl, IsEarlier}
-use Rattle.answer_builder.proofs.pieces.add_left.Given as goal
+use Rattle.answer_builder.proofs.piece_with_ttl.add_left.Given as goal
 
 abbrev pub invariant-loop-held : goal.invariant-loop-held
 invariant-loop-held g l = record {

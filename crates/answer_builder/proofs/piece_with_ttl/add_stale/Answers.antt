@@ -1,6 +1,6 @@
 use Rattle.answer_builder.specs.Answers.{with_stale_ttl, IsEarlier}
 use Rattle.answer_builder.proofs.Chains.{drop_more, told_more}
-use Rattle.answer_builder.proofs.pieces.add_stale.Goals as goal
+use Rattle.answer_builder.proofs.piece_with_ttl.add_stale.Goals as goal
 
 pub loop-held-preserved : goal.loop-held-preserved
 loop-held-preserved g c =

@@ -5,7 +5,7 @@ use Rattle.record_cache.specs.Values.{Held}
 use Rattle.answer_builder.specs.Values.{PieceWithTtl}
 use Rattle.answer_builder.specs.Answers.{with_ttl, IsEarlier}
 use Rattle.answer_builder.proofs.Chains.{last_earlier, last_lent}
-use Rattle.answer_builder.proofs.pieces.last_at.Goals as goal
+use Rattle.answer_builder.proofs.piece_with_ttl.last_at.Goals as goal
 
 pub at-requires : goal.at-requires
 at-requires g c =

@@ -2,7 +2,7 @@ use Rattle.std.proofs.Common.{sym, subst}
 use Rattle.std.specs.List.{AllByRecursion}
 use Rattle.answer_builder.specs.Answers.{IsEarlier}
 use Rattle.answer_builder.proofs.Chains.{of_first, of_rest}
-use Rattle.answer_builder.proofs.pieces.with_stale_ttls.Goals as goal
+use Rattle.answer_builder.proofs.piece_with_ttl.with_stale_ttls.Goals as goal
 
 pub add_left-requires : goal.add_left-requires
 add_left-requires g c =

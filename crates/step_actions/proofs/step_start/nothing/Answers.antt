@@ -2,7 +2,7 @@ use Rattle.std.proofs.Common.{arith}
 use Rattle.std.proofs.lemmas.Grind.{common_steps}
 use Rattle.step_actions.specs.declared.decision.Change.TheVariants.{Nothing}
 use Rattle.step_actions.proofs.Carried.{fits_plain}
-use Rattle.step_actions.proofs.start.nothing.Goals as goal
+use Rattle.step_actions.proofs.step_start.nothing.Goals as goal
 
 pub returns-clause-decides : goal.returns-clause-decides
 returns-clause-decides g c = record {
