@@ -5,6 +5,7 @@ ghost use Rattle.forwarder_commands.specs.Commands.{command_by, IsOfOctets, IsFa
 ghost use Rattle.forwarder_commands.specs.Commands.{IsFaultOfServe, IsFaultOfReplay};
 
 use crate::arguments::{LONGEST, argument, count, text};
+use crate::checked::write_checked;
 use crate::fault::Fault;
 use crate::files::Opened;
 use crate::refused::say_refused;
@@ -64,8 +65,8 @@ where
 fn check<R: Env + Print + AllocGlobal>(rt: &R) -> Result<(), Fault>
     ensures { IfErr result IsFaultOfCheck }
 {
-    let routes = named_config(rt)?.routes().len();
-    println!(rt; "ok {routes}")?;
+    let checked = named_config(rt)?;
+    write_checked(&checked, &mut io::writer(rt))?;
     Ok(())
 }
 

@@ -3,6 +3,7 @@
 #![tactic(auto)]
 
 mod arguments;
+mod checked;
 mod commands;
 mod counted;
 mod fault;
@@ -13,6 +14,7 @@ mod serving;
 mod wanted_turns;
 
 pub use arguments::{LONGEST, argument, count, text};
+pub use checked::write_checked;
 pub use commands::{Command, command_of, load, run, turns};
 pub use fault::Fault;
 pub use serving::serve_config;
