@@ -246,6 +246,10 @@ top_bit = (refl, refl)
 without_top_bit : seconds_of (2 ^ 31 - 1) ≡ 0 → ⊥
 without_top_bit is = omega (arith, is)
 
+-- a TTL with its top bit set is no number of seconds
+own_number : AreSeconds (2 ^ 31) (2 ^ 31) → ⊥
+own_number h = omega (arith, h.set (omega arith))
+
 -- ---- ranks
 
 pub own_answer : IsRanked true a (below_e 65) 3

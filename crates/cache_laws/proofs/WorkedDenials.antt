@@ -197,6 +197,11 @@ pub lives_a_second_more : LivesBy (Some (soa e 1 3600)) 601 → ⊥
 lives_a_second_more h = let least : IsLeastOf 3600 600 601 =
     h other_numbers 0 0 2 88 3600 refl (top_bit_is_none 3600) in past_minimum least
 
+-- the TTL alone would be an hour
+lives_by_ttl_alone : LivesBy (Some (soa e 1 3600)) 3600 → ⊥
+lives_by_ttl_alone h = let least : IsLeastOf 3600 600 3600 =
+    h other_numbers 0 0 2 88 3600 refl (top_bit_is_none 3600) in omega (arith, least.within_minimum)
+
 lives_without_soa : LivesBy None 1 → ⊥
 lives_without_soa h = omega (arith, h)
 

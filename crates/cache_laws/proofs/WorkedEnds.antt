@@ -18,7 +18,7 @@ use Rattle.trust_rank.specs.Walks.{name_error_at, no_data_at, ending, walk_from,
 use Rattle.cache_laws.specs.Sets.{IsRecordFor}
 use Rattle.cache_laws.specs.Servers.{IsCarriedIn, OwnersDiffer}
 use Rattle.cache_laws.specs.Denials.{LacksAt, IsLoneAlias}
-use Rattle.cache_laws.specs.Carried.{HasToBeAsked, IsLeftOpen, IsPieceOf, IsOnRoute, HasTwoAliases}
+use Rattle.cache_laws.specs.Carried.{HasToBeAsked, EndsSo, IsLeftOpen, IsPieceOf, IsOnRoute, HasTwoAliases}
 use Rattle.cache_laws.specs.Carried.{AreWalked, IsServerFor, IsServerSet, AreServers, IsCarriedBy}
 use Rattle.cache_laws.proofs.Lists.{only_one}
 use Rattle.cache_laws.proofs.Sets.{data_of_set}
@@ -173,6 +173,13 @@ first_is_not_left_open h = omega (arith, h.led)
 on_route_of_z : HasToBeAsked (seen (alone [])) 1 ((97 ∷ []) ∷ (122 ∷ []) ∷ [])
 unfolding route_of
 on_route_of_z = inr (inl (off_by_test (seen (alone [])) ((97 ∷ []) ∷ (122 ∷ []) ∷ []) routes_differ refl))
+
+-- and no set there is taken
+set_of_another_route : (pieces : List Piece)
+    → EndsSo (seen (alone [])) 1 ((97 ∷ []) ∷ (122 ∷ []) ∷ []) pieces found → ⊥
+unfolding route_of
+set_of_another_route pieces h =
+    off_by_test (seen (alone [])) ((97 ∷ []) ∷ (122 ∷ []) ∷ []) routes_differ refl h.on_route
 
 -- ---- a name error, and no data
 
