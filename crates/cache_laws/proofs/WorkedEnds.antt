@@ -1,7 +1,7 @@
 -- Worked walks and name servers of replies, and neighbours that fail in one part of the definition
 -- alone.
 use Rattle.std.proofs.Common.{◌≡◌, ℕ, Bool, true, false, inl, inr, List, [], ◌∷◌, length, None, refl, sym, ap}
-use Rattle.std.proofs.Common.{◌∙◌, arith}
+use Rattle.std.proofs.Common.{◌∙◌, arith, Some}
 use Rattle.std.specs.List.{AllByRecursion}
 use Rattle.std.proofs.lemmas.Bool.{true≢false}
 use Rattle.dns_name.specs.Labels.{lowered, IsSame}
@@ -12,13 +12,14 @@ use Rattle.dns_message.specs.Names.{step as name_step, walk_in, name_within}
 use Rattle.suffix_routes.specs.Values.{AllDiffer}
 use Rattle.suffix_routes.specs.Routes.{route_of}
 use Rattle.suffix_routes.proofs.CallerLemmas.{route_found_is_longest}
-use Rattle.trust_rank.specs.Values.{Piece, found, ends_no_data, ends_denied, elsewhere, lame, Walk, Reply}
+use Rattle.trust_rank.specs.Values.{Piece, found, ends_no_data, ends_denied, elsewhere, lame, Walk, Reply, reply_of}
 use Rattle.trust_rank.specs.Sets.{set_with}
 use Rattle.trust_rank.specs.Walks.{name_error_at, no_data_at, ending, walk_from, servers_from}
+use Rattle.cache_laws.specs.Lists.{IsOneOf}
 use Rattle.cache_laws.specs.Sets.{IsRecordFor}
 use Rattle.cache_laws.specs.Servers.{IsCarriedIn, OwnersDiffer}
 use Rattle.cache_laws.specs.Denials.{LacksAt, IsLoneAlias}
-use Rattle.cache_laws.specs.Carried.{HasToBeAsked, EndsSo, IsLeftOpen, IsPieceOf, IsOnRoute, HasTwoAliases}
+use Rattle.cache_laws.specs.Carried.{HasToBeAsked, EndsSo, IsLeftOpen, IsPieceOf, IsOnRoute, HasTwoAliases, AsksForTwo, HasNoTarget}
 use Rattle.cache_laws.specs.Carried.{AreWalked, IsServerFor, IsServerSet, AreServers, IsCarriedBy}
 use Rattle.cache_laws.proofs.Lists.{only_one}
 use Rattle.cache_laws.proofs.Sets.{data_of_set}
@@ -320,6 +321,44 @@ two_are_lame = (
     lame_is = inr (inl (record { other = λ is. omega (arith, is); no_set = no_address; lost = inl two }));
   },
 )
+
+-- one alias, twice in the section
+one_is_not_two : HasTwoAliases (seen (message true 0 (to_b ∷ to_b ∷ []) [])) a → ⊥
+one_is_not_two h = h.differ (ap (λ (x : Record). x.rdata) (only h.s h.first.there) ∙ sym (ap (λ (x : Record). x.rdata) (only h.t h.second.there)))
+  where
+    only : (s : Record) → IsOneOf s (to_b ∷ to_b ∷ []) → s ≡ to_b
+    only s (inl is) = is
+    only s (inr (inl is)) = is
+    only s (inr (inr none)) = absurd none
+
+-- lame too if CNAME is asked for, and only then
+two_are_asked : AsksForTwo (reply_of config doubled (record { name = a; kind = 5; class = 1 }) 0) a
+two_are_asked = record {
+  asked = refl;
+  two = record {
+    s = to_b;
+    t = to_e;
+    first = record { there = inl refl; kind = refl; class = refl; name = refl };
+    second = record { there = inr (inl refl); kind = refl; class = refl; name = refl };
+    differ = differ (data_of 98) (1 ∷ 101 ∷ 0 ∷ []) refl;
+  };
+}
+
+address_is_asked : AsksForTwo (seen doubled) a → ⊥
+address_is_asked h = omega (arith, h.asked)
+
+-- an alias whose data is a label cut off has no target
+cut_off : HasNoTarget (seen (message true 0 (alias a (1 ∷ []) ∷ []) [])) a
+unfolding name_of_rdata name_within walk_in name_step
+cut_off = record {
+  s = alias a (1 ∷ []);
+  fits = record { there = inl refl; kind = refl; class = refl; name = refl };
+  none = refl;
+}
+
+whole_name : HasNoTarget (seen (alone [])) a → ⊥
+unfolding name_of_rdata name_within walk_in name_step
+whole_name h = absurd (let wrong : Some b ≡ None = sym (ap (λ (x : Record). name_of_rdata x.rdata) (only_one h.s to_b h.fits.there)) ∙ h.none in cc)
 
 -- a lame reply carries no name servers, though it is authoritative
 abbrev of_e : Piece
