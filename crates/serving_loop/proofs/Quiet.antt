@@ -8,7 +8,7 @@ use Rattle.outstanding.specs.declared.ask.Path.{Path}
 use Rattle.outstanding.specs.Values.{Ask}
 use Rattle.outstanding.specs.Lists.{on_path as ask_on}
 use Rattle.step_values.specs.Values.{path_failed, tick, Outcome}
-use Rattle.step_table.specs.State.{State, turn}
+use Rattle.step_table.specs.State.{State, start}
 use Rattle.waiting_questions.specs.Values.{Waiting}
 use Rattle.step_table.specs.Steps.{Done, idle_step, at_moment}
 use Rattle.step_table.specs.Row.{Row, is_due_at, effective}
@@ -32,17 +32,17 @@ off : (b : Bool) (x y : Done) → b ≡ false → cond b x y ≡ y
 off b x y is = ap (λ (v : Bool). cond v x y) is
 
 module _ (c : Config) (n : ℕ) (words : List ℕ) (s : State) where
-  idle_question : (x : Waiting) (others : List Waiting) → nat_le (deadline_of c x) n ≡ false → row_of_item (turn c n words s) (question x others) ≡ idle_step n s
+  idle_question : (x : Waiting) (others : List Waiting) → nat_le (deadline_of c x) n ≡ false → row_of_item (start c n words s) (question x others) ≡ idle_step n s
   idle_question x others early = off (nat_le (deadline_of c x) n) _ _ early
 
-  idle_attempt : (a : Ask) → nat_le (timeout_of c a) n ≡ false → row_of_item (turn c n words s) (attempt a) ≡ idle_step n s
+  idle_attempt : (a : Ask) → nat_le (timeout_of c a) n ≡ false → row_of_item (start c n words s) (attempt a) ≡ idle_step n s
   idle_attempt a early = off (nat_le (timeout_of c a) n) _ _ early
 
-  idle_item : (xs : List Waiting) (asks : List Ask) → list_any (λ (x : Waiting). nat_le (deadline_of c x) n) xs ≡ false → list_any (λ (a : Ask). nat_le (timeout_of c a) n) asks ≡ false → row_of_item (turn c n words s) (first_item c xs asks) ≡ idle_step n s
+  idle_item : (xs : List Waiting) (asks : List Ask) → list_any (λ (x : Waiting). nat_le (deadline_of c x) n) xs ≡ false → list_any (λ (a : Ask). nat_le (timeout_of c a) n) asks ≡ false → row_of_item (start c n words s) (first_item c xs asks) ≡ idle_step n s
   idle_item [] [] none early = refl
   idle_item [] (a ∷ asks) none early = idle_attempt a (neither _ _ early).0
   idle_item (x ∷ xs) [] none early = idle_question x xs (neither _ _ none).0
-  idle_item (x ∷ xs) (a ∷ asks) none early = cond_both (nat_le (deadline_of c x) (timeout_of c a)) (question x xs) (attempt a) (λ i. row_of_item (turn c n words s) i ≡ idle_step n s) (λ _. idle_question x xs (neither _ _ none).0) (λ _. idle_attempt a (neither _ _ early).0)
+  idle_item (x ∷ xs) (a ∷ asks) none early = cond_both (nat_le (deadline_of c x) (timeout_of c a)) (question x xs) (attempt a) (λ i. row_of_item (start c n words s) i ≡ idle_step n s) (λ _. idle_question x xs (neither _ _ none).0) (λ _. idle_attempt a (neither _ _ early).0)
 
 pub quiet_tick : (c : Config) (s s' : State) (now : ℕ) (words : List ℕ) (o : Outcome) → Row c s (record { now = now; words = words; event = tick }) o s' → is_due_at c (effective now s) s ≡ false → IsIdle (effective now s) s o s' × (o.more ≡ false)
 quiet_tick c s s' now words o row none =
@@ -52,4 +52,4 @@ quiet_tick c s s' now words o row none =
     (idle, row.more ∙ ap (λ (t : State). is_due_at c t.moment t) idle.state ∙ none)
 
 pub quiet_path : (c : Config) (s s' : State) (now : ℕ) (words : List ℕ) (path : Path) (o : Outcome) → Row c s (record { now = now; words = words; event = path_failed path }) o s' → ask_on path s.asks ≡ None → IsIdle (effective now s) s o s'
-quiet_path c s s' now words path o row none = is_idle (effective now s) s o s' (row.happens ∙ ap (λ (a : Option Ask). row_of_failed_path (turn c (effective now s) words s) a) none)
+quiet_path c s s' now words path o row none = is_idle (effective now s) s o s' (row.happens ∙ ap (λ (a : Option Ask). row_of_failed_path (start c (effective now s) words s) a) none)
