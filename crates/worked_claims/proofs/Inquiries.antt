@@ -1,7 +1,7 @@
 -- Which tries are of one inquiry, computed: an ask that a deadline closed, and an inquiry before
 -- it, count for nothing; and a try counts if a reply, a failed path or its time ended it.
 use Rattle.std.proofs.Common.{◌≡◌, ◌∙◌, ℕ, List, [], ◌∷◌, Option, Some, None, refl, sym, ap, subst}
-use Rattle.std.proofs.Common.{inl, inr, arith, ◌⊎◌, ◌+◌, ◌≤◌, true, false}
+use Rattle.std.proofs.Common.{inl, inr, arith, ◌⊎◌, ◌+◌, ◌≤◌, true}
 use Rattle.std.proofs.lemmas.Bool.{true≢false}
 use Rattle.dns_message.specs.Names.{step as name_step, walk_in, name_within}
 use Rattle.dns_message.specs.declared.reading.header.Header.{Header}
@@ -18,7 +18,7 @@ use Rattle.step_values.specs.Values.{from_client, delivery, path_failed, tick, r
 use Rattle.step_values.specs.Values.{Delivered, delivery_in, Event, Step}
 use Rattle.step_history.specs.History.{Look, ShownAsk, Matches, Carries, NothingAccepted, closes_path}
 use Rattle.step_history.specs.Causes.{ClosesAsk, LastFailed, FailsAsk, MayFail, AcceptsFor, BeginsToAsk, FailedSoFar}
-use Rattle.step_history.specs.Causes.{SendsAsk, TriesFailed, Cause}
+use Rattle.step_history.specs.Causes.{TriesFailed, Cause}
 use Rattle.step_history.specs.Sound.{RightStaleAnswer}
 use Rattle.step_table.proofs.Played.{a, address, server}
 use Rattle.worked_claims.proofs.Texts.{question_text, failure_with, client, other_client, step_of, the_only_ask}

@@ -28,3 +28,4 @@ mod Tries
 mod Inquiries
 mod Transports
 mod Truly
+mod Unused

@@ -1,9 +1,8 @@
 -- A history that serves truly, whole: a question, its ask, the reply with its answer, and the same
 -- question answered from cache. And for each field of that claim a neighbour of which all else
--- holds.
-use Rattle.std.proofs.Common.{◌≡◌, ℕ, ◌≤◌, List, [], ◌∷◌, Bool, true, false, Option, Some, None, Ok, refl, sym, ap, ◌∙◌, subst}
-use Rattle.std.proofs.Common.{inl, inr, arith}
-use Rattle.std.specs.Prelude.{zero, suc, length, not, is_none}
+-- holds. `Unused` has the neighbours of the claims of use.
+use Rattle.std.proofs.Common.{◌≡◌, ℕ, ◌≤◌, List, [], ◌∷◌, Bool, true, false, Option, Some, None, Ok, refl, sym, ap, ◌∙◌, subst, inl, inr, arith}
+use Rattle.std.specs.Prelude.{zero, suc, length}
 use Rattle.std.specs.List.{concat, AllByRecursion}
 use Rattle.std.proofs.lemmas.Bool.{true≢false}
 use Rattle.dns_message.specs.Names.{step as name_step, walk_in, name_within}
@@ -23,41 +22,39 @@ use Rattle.trust_rank.specs.Values.{Piece}
 use Rattle.record_cache.specs.Values.{Held}
 use Rattle.answer_builder.specs.Values.{asked_in}
 use Rattle.answer_builder.specs.Answers.{sections_of}
-use Rattle.outstanding.specs.declared.ask.Path.TheVariants.{Udp}
 use Rattle.step_values.specs.declared.event.Client.{Client}
 use Rattle.step_values.specs.declared.action.Why.TheVariants.{Answered, Deadline}
-use Rattle.step_values.specs.Values.{Request, request_in, reply_in_action, from_client, tick, Event, Action, ask_udp, send_reply, Step}
-use Rattle.step_history.specs.History.{InEra, Look, ShownAsk, listed, Sends}
+use Rattle.step_values.specs.Values.{Request, from_client, tick, Event, Action, ask_udp, send_reply, Step}
+use Rattle.step_history.specs.History.{InEra, Look, ShownAsk, Sends}
 use Rattle.cache_laws.proofs.CallerLemmas.{serves_exactly}
 use Rattle.step_history.specs.Carried.{then_carried, CarriedInEra, Justified}
 use Rattle.step_history.specs.Answers.{Answers}
-use Rattle.step_history.specs.Asked.{AsksRight, AsksWell}
-use Rattle.step_history.specs.Draws.{drawn}
+use Rattle.step_history.specs.Asked.{AsksWell}
 use Rattle.step_history.specs.Accounting.{TellsMore}
 use Rattle.step_history.specs.Replies.{full_text, short_text, sized_for}
 use Rattle.step_history.specs.Sound.{RightReply, Owns, Replies, Sound, unanswered}
 use Rattle.step_table.proofs.Played.{a, address, server, config}
 use Rattle.theorem_use.specs.Asking.{AnyByRecursion, Wants, EachWants, Asks, AsksForWaiting, AsksForThoseWhoWait}
 use Rattle.theorem_use.specs.Service.{ServesTruly}
-use Rattle.theorem_use.specs.Use.{FoundMemory, HasRoom, AsksToLookUp, IsKnown, AnswersAtOnce, UsesWhatStands}
-use Rattle.theorem_use.specs.Touched.{Touched, TouchedInEra, LeadsAlong, AnswersNothing, LooksUp, LooksOn, Uses}
+use Rattle.theorem_use.specs.Use.{AsksToLookUp, IsKnown, AnswersAtOnce, UsesWhatStands}
+use Rattle.theorem_use.specs.Touched.{Touched, TouchedInEra, LeadsAlong, AnswersNothing, LooksUp}
 use Rattle.theorem_use.specs.Recent.{IsRecent, IsAnsweredByRecent, UsesWhatIsRecent}
-use Rattle.worked_claims.proofs.Texts.{question_text, client, step_of, no_delivery, none_listed}
+use Rattle.worked_claims.proofs.Texts.{question_text, client, step_of, none_listed}
 use Rattle.worked_claims.proofs.Silent.{nothing_heard, nothing_carried}
 use Rattle.worked_claims.proofs.Accepted.{asked, answered, answer_with, piece, carries, held, carried_now}
-use Rattle.worked_claims.proofs.OnlyThis.{carries_this, leads_nowhere}
+use Rattle.worked_claims.proofs.OnlyThis.{carries_this}
 use Rattle.worked_claims.proofs.Whole.{history, it_is_sound, it_asks_well, it_tells_that_nothing_is_due}
 
 -- ---- a first step: a client asks for the address of a.e, and this is done
 
-abbrev first : Bool → List ℕ → List Action → Step
+abbrev pub first : Bool → List ℕ → List Action → Step
 first more words actions = record {
   input = record { now = 1000; words = words; event = from_client client (question_text 7 1) };
   outcome = record { actions = actions; unkept = 0; more = more };
 }
 
 -- its word, and the ask that goes by it
-abbrev word : List ℕ
+abbrev pub word : List ℕ
 word = 524296 ∷ []
 
 abbrev asks_it : List Action
@@ -86,7 +83,7 @@ wants_it c more words actions now in_era = record {
 }
 
 -- which is asked for
-asked_for : (c : Config) (more : Bool) (words : List ℕ) → AsksForWaiting c (first more words asks_it) [] []
+pub asked_for : (c : Config) (more : Bool) (words : List ℕ) → AsksForWaiting c (first more words asks_it) [] []
 unfolding first_question question_at octets_end name_within walk_in name_step
 asked_for c more words = record {
   wanted = address a ∷ [];
@@ -129,7 +126,7 @@ asks_right questions more = (
 request_is : (r s : Request) → Some r ≡ Some s → r ≡ s
 request_is r s is = cc
 
-not_sent : {r : Request} → ◌≡◌ {A = Option Request} None (Some r) → ⊥
+pub not_sent : {r : Request} → ◌≡◌ {A = Option Request} None (Some r) → ⊥
 not_sent is = absurd cc
 
 question_is : (q r : Question) → Some q ≡ Some r → q ≡ r
@@ -187,10 +184,10 @@ only_asks octets (inr never) = never
 abbrev again_text : List ℕ
 again_text = answer_with 7 129 128 59
 
-abbrev hit : Step
+abbrev pub hit : Step
 hit = step_of 2000 [] (from_client client (question_text 7 1)) (send_reply client again_text Answered ∷ [])
 
-abbrev now : List Step
+abbrev pub now : List Step
 now = hit ∷ history
 
 abbrev seen : Look
@@ -257,10 +254,10 @@ owns = record {
   right = right 0;
 }
 
-abbrev owners : List (List ℕ)
+abbrev pub owners : List (List ℕ)
 owners = (2 ∷ []) ∷ (0 ∷ []) ∷ [] ∷ []
 
-sound : Sound config now owners
+pub sound : Sound config now owners
 sound = (
   it_is_sound,
   (owns, refl, refl),
@@ -277,7 +274,7 @@ nobody_waits = (
   record { wanted = []; each = tt; asked = tt; wanting = tt; spelled = tt },
 )
 
-handed_on : UsesWhatStands config history ((0 ∷ []) ∷ [] ∷ [])
+pub handed_on : UsesWhatStands config history ((0 ∷ []) ∷ [] ∷ [])
 handed_on = (uses_nothing config false word asks_it [], λ asker q some asks is room known. absurd (not_sent asks.sends))
 
 at_once : (asker : Client) (request : List ℕ) → Sends hit.input.event asker request
@@ -604,260 +601,4 @@ but_for_what_is_asked waits = record {
   uses = uses_nothing config false word [] [];
   used = [] ∷ [];
   recent = uses_no_slot config false word [] [] (λ octets never. never);
-}
-
--- ---- what stands, and is recent, is not used: the question is asked again
-
-abbrev asks_again : Step
-asks_again = step_of 2000 (1048592 ∷ []) (from_client client (question_text 7 1))
-    (ask_udp 1040 server (question_text 16 1) ∷ [])
-
-looks_up : AsksToLookUp config asks_again client (address a)
-unfolding first_question question_at octets_end name_within walk_in name_step route_of
-looks_up = record {
-  octets = question_text 7 1;
-  sends = refl;
-  taken = refl;
-  opcode = refl;
-  reads = refl;
-  served = refl;
-  route = 0;
-  on_route = refl;
-}
-
-room : HasRoom config history (held ∷ [])
-room = record {
-  slots = record { slots = held.piece.slot ∷ []; few = omega arith; each = (inl refl, tt) };
-  memory = inr (refl, inr (refl, tt));
-}
-
-abbrev is_reply : List Action → Bool
-is_reply [] = false
-is_reply (x ∷ more) = not (is_none (reply_in_action x))
-
-not_used : ServesTruly config (asked ∷ answered ∷ asks_again ∷ []) → ⊥
-not_used h = by h.sound.owners h.uses
-  where
-    by : (w : List (List ℕ)) → UsesWhatStands config (asks_again ∷ history) w → ⊥
-    by [] uses = uses
-    by (is ∷ w) uses =
-        let once = uses.1 client (address a) (held ∷ []) looks_up (carried_now 4 0) room tt in
-        true≢false (sym (ap is_reply once.actions))
-
--- it wants the address again, behind this history
-wants_again : (past : List Step) → Wants config (asks_again ∷ past) (length past) (address a)
-unfolding first_question question_at octets_end name_within walk_in name_step
-wants_again past = record {
-  asked = asks_again;
-  before = past;
-  in_era = inl refl;
-  number = refl;
-  client = client;
-  request = question_text 7 1;
-  sent = refl;
-  question = address a;
-  reads = refl;
-  aliases = [];
-  leads = record { few = omega arith; follows = refl };
-}
-
-waits_again : AsksForWaiting config asks_again history (0 ∷ [])
-unfolding first_question question_at octets_end name_within walk_in name_step
-waits_again = record {
-  wanted = address a ∷ [];
-  each = (wants_again history, tt);
-  asked = (inl (record { question = address a; reads = refl; same = refl }), tt);
-  wanting = (inl (record { question = address a; reads = refl; same = refl }), tt);
-  spelled = (
-    inr (record {
-      question = address a;
-      reads = refl;
-      from = inl (record { anew = λ closes quiet. none_listed closes.is_listed; spelled = inl refl });
-    }),
-    tt,
-  );
-}
-
-asks_again_right : (past : List Step) → listed past ≡ []
-    → AsksRight config asks_again past (record { path = Udp 1040; server = server; octets = question_text 16 1 })
-unfolding written ◌▹◌ each name_text first_question question_at octets_end name_within walk_in name_step route_of
-asks_again_right past none = record {
-  id = 16;
-  question = address a;
-  text = refl;
-  reads = refl;
-  server = record { route = 0; group = _; place = 0; route_is = serves_exactly.only config a 0 refl; there = refl; server = refl };
-  drawn_so = subst (λ (asks : List ShownAsk). drawn asks_again.input.words asks asks_again.outcome.actions ≡ Some (16, 1040)) (sym none) refl;
-}
-
-no_reply : (octets : List ℕ) → Replies asks_again.outcome.actions octets → ⊥
-no_reply octets (inl never) = never
-no_reply octets (inr none) = none
-
-but_for_its_use : UsesWhatStands config (asks_again ∷ history) ([] ∷ (0 ∷ []) ∷ [] ∷ [])
-    → UsesWhatIsRecent config (asks_again ∷ history) ([] ∷ (0 ∷ []) ∷ [] ∷ []) ([] ∷ [] ∷ [] ∷ [])
-    → ServesTruly config (asked ∷ answered ∷ asks_again ∷ [])
-but_for_its_use uses recent = record {
-  sound = record {
-    owners = [] ∷ (0 ∷ []) ∷ [] ∷ [];
-    sound = (it_is_sound, refl, λ q octets hit. absurd (no_reply octets hit.1));
-    tells = (it_tells_that_nothing_is_due, refl);
-    few = omega arith;
-  };
-  asks = (it_asks_well, (tt, tt), omega arith, ((asks_again_right history refl, refl), tt));
-  waiting = (
-    (
-      (tt, asked_for config false word),
-      record { wanted = []; each = tt; asked = tt; wanting = tt; spelled = tt },
-    ),
-    waits_again,
-  );
-  uses = uses;
-  used = [] ∷ [] ∷ [] ∷ [];
-  recent = recent;
-}
-
--- ---- what is recent is not used, in an era that was once out of memory
-
--- time passes, and an entry found no memory
-abbrev stumbles : Step
-stumbles = record {
-  input = record { now = 1500; words = []; event = tick };
-  outcome = record { actions = []; unkept = 1; more = false };
-}
-
-abbrev stumbled : List Step
-stumbled = stumbles ∷ history
-
--- a step that brings no question uses no slot, unless it accepts a reply that leads on
-uses_none : (s : Step) (past : List Step) (ts : List Touched) (slots : List Slot)
-    → ((r : Request) → request_in s.input.event ≡ Some r → ⊥) → (LooksOn config s past ts slots → ⊥)
-    → Uses config s past ts slots → slots ≡ []
-uses_none s past ts slots unasked unled (inl looks) = absurd (unasked _ looks.asks.sends)
-uses_none s past ts slots unasked unled (inr (inl looks)) = absurd (unled looks)
-uses_none s past ts slots unasked unled (inr (inr nothing)) = nothing.none
-
--- what the era touched so far, by the slots that its steps used
-abbrev touched : List Slot → List Slot → List Slot → List Touched
-touched first second third =
-    record { carried = []; used = third; unkept = 1 } ∷ record { carried = held ∷ []; used = second; unkept = 0 }
-    ∷ record { carried = []; used = first; unkept = 0 } ∷ []
-
-known : (first second third : List Slot) → second ≡ [] → third ≡ []
-    → IsAnsweredByRecent config 2000 (touched first second third) 8 (address a)
-unfolding route_of
-known first second third none nothing =
-    subst (λ (z : List Slot × List Slot). IsAnsweredByRecent config 2000 (touched first z.0 z.1) 8 (address a))
-    (λ i. (sym none i, sym nothing i))
-    (inl (
-      held,
-      record {
-        ready = record {
-          alive = omega arith;
-          slots = held.piece.slot ∷ [];
-          recent = (
-            omega arith,
-            record { carried = tt; used = tt },
-            inr (
-              tt,
-              inr (
-                omega arith,
-                record { carried = (inl refl, tt); used = tt },
-                inl (record { believed = inl (refl, inr (λ h never one alive. absurd never)); memory = refl }),
-              ),
-            ),
-          );
-        };
-        ends = record { name = refl; class = refl; kind = refl };
-        on_route = serves_exactly.only config a 0 refl;
-        alone = inl (_, refl);
-      },
-    ))
-
-not_recent : ServesTruly config (asked ∷ answered ∷ stumbles ∷ asks_again ∷ []) → ⊥
-not_recent h = by h.sound.owners h.used h.recent
-  where
-    asked_touched : (first : List Slot) (used : List (List Slot))
-        → TouchedInEra config (asked ∷ []) (first ∷ used) (record { carried = []; used = first; unkept = 0 } ∷ [])
-    asked_touched first used = inr (refl, [], [], inl (nothing_heard config asked [] refl, refl), refl, refl)
-
-    answered_touched : (first second : List Slot) (used : List (List Slot)) → TouchedInEra config history (second ∷ first ∷ used)
-        (record { carried = held ∷ []; used = second; unkept = 0 } ∷ record { carried = []; used = first; unkept = 0 } ∷ [])
-    answered_touched first second used =
-        inr (refl, held ∷ [], _, inr (piece ∷ [], carries 4 0, refl), asked_touched first used, refl)
-
-    all_touched : (first second third : List Slot) (used : List (List Slot))
-        → TouchedInEra config stumbled (third ∷ second ∷ first ∷ used) (touched first second third)
-    all_touched first second third used =
-        inr (refl, [], _, inl (nothing_heard config stumbles history refl, refl), answered_touched first second used, refl)
-
-    by : (w : List (List ℕ)) (used : List (List Slot)) → UsesWhatIsRecent config (asks_again ∷ stumbled) w used → ⊥
-    by [] used uses = uses
-    by (is ∷ w) [] uses = uses
-    by (is ∷ []) (u ∷ used) uses = uses.0
-    by (is ∷ (js ∷ w)) (u ∷ []) uses = uses.0
-    by (is ∷ (js ∷ [])) (u ∷ (third ∷ used)) uses = uses.0.0
-    by (is ∷ (js ∷ (ks ∷ w))) (u ∷ (third ∷ [])) uses = uses.0.0
-    by (is ∷ (js ∷ (ks ∷ []))) (u ∷ (third ∷ (second ∷ used))) uses = uses.0.0.0
-    by (is ∷ (js ∷ (ks ∷ (ls ∷ w)))) (u ∷ (third ∷ (second ∷ []))) uses = uses.0.0.0
-    by (is ∷ (js ∷ (ks ∷ (ls ∷ w)))) (u ∷ (third ∷ (second ∷ (first ∷ used)))) uses =
-        let none : second ≡ [] = uses_none answered (asked ∷ []) (record { carried = []; used = first; unkept = 0 } ∷ []) second (λ r. not_sent)
-        (λ looks. leads_nowhere looks.pieces looks.servers looks.accepts looks.name looks.end) (uses.0.0.1 _ (asked_touched first used)).0 in
-        let nothing : third ≡ [] = uses_none stumbles history _ third (λ r. not_sent) (λ looks. no_delivery looks.accepts.matches.delivered)
-        (uses.0.1 _ (answered_touched first second used)).0 in
-        let once = (uses.1 (touched first second third) (all_touched first second third used)).1 client (address a) looks_up (known first second third none nothing) in
-        true≢false (sym (ap is_reply once.actions))
-
-waits_behind : AsksForWaiting config asks_again stumbled (0 ∷ [])
-unfolding first_question question_at octets_end name_within walk_in name_step
-waits_behind = record {
-  wanted = address a ∷ [];
-  each = (wants_again stumbled, tt);
-  asked = (inl (record { question = address a; reads = refl; same = refl }), tt);
-  wanting = (inl (record { question = address a; reads = refl; same = refl }), tt);
-  spelled = (
-    inr (record {
-      question = address a;
-      reads = refl;
-      from = inl (record { anew = λ closes quiet. none_listed closes.is_listed; spelled = inl refl });
-    }),
-    tt,
-  );
-}
-
--- of that era the other claim of use says nothing
-out_of_memory : UsesWhatStands config (asks_again ∷ stumbled) ([] ∷ [] ∷ (0 ∷ []) ∷ [] ∷ [])
-out_of_memory = (
-  (handed_on, λ asker q some asks is room known. absurd (not_sent asks.sends)),
-  λ asker q some asks is room known. absurd (forgot room.memory),
-)
-  where
-    forgot : FoundMemory stumbled → ⊥
-    forgot (inl restarts) = true≢false (sym restarts)
-    forgot (inr found) = let one : 1 ≡ 0 = found.0 in omega (arith, one)
-
-but_for_what_is_recent :
-    UsesWhatIsRecent config (asks_again ∷ stumbled) ([] ∷ [] ∷ (0 ∷ []) ∷ [] ∷ []) ([] ∷ [] ∷ [] ∷ [] ∷ [])
-    → ServesTruly config (asked ∷ answered ∷ stumbles ∷ asks_again ∷ [])
-but_for_what_is_recent recent = record {
-  sound = record {
-    owners = [] ∷ [] ∷ (0 ∷ []) ∷ [] ∷ [];
-    sound = ((it_is_sound, refl, λ q octets hit. absurd hit.0), refl, λ q octets hit. absurd (no_reply octets hit.1));
-    tells = ((it_tells_that_nothing_is_due, refl), refl);
-    few = omega arith;
-  };
-  asks = ((it_asks_well, tt, omega arith, tt), (tt, tt), omega arith, ((asks_again_right stumbled refl, refl), tt));
-  waiting = (
-    (
-      (
-        (tt, asked_for config false word),
-        record { wanted = []; each = tt; asked = tt; wanting = tt; spelled = tt },
-      ),
-      record { wanted = []; each = tt; asked = tt; wanting = tt; spelled = tt },
-    ),
-    waits_behind,
-  );
-  uses = out_of_memory;
-  used = [] ∷ [] ∷ [] ∷ [] ∷ [];
-  recent = recent;
 }
