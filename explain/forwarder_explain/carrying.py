@@ -1,7 +1,8 @@
 """What was kept and open at a moment of a capture, with which a later part of it begins."""
 from collections import OrderedDict, defaultdict
 
-from .kept import Cache, History
+from .cached import Cache
+from .kept import History
 
 NOTES = ("found", "verdicts", "walks", "closed", "rests_on")  # what a history has of events
 MARKS = ("answered", "foreign", "needless")  # sets of events

@@ -1,7 +1,8 @@
 """The questions to which the numbers of a page lead, and their lines.
 
-They are taken one after another, in the order of their moments, and only as many of them are kept as the
-page shows: the first ones of each number.
+They are taken one after another, in the order of their moments. Of each number they are counted, and the lines of
+the first ones are put into a file, with all that they are counted under: which numbers the page has, and so which
+lines, is known at the end.
 """
 import tempfile
 from html import escape
@@ -38,53 +39,51 @@ WITHOUT = {
 
 
 class Group:
-    """Questions to which one number leads: how many there are, and the first of them. Its number in
-    the page is None as long as nothing leads there."""
+    """Questions to which one number leads: how many there are, and how many lines they have at most: those of
+    the first ones, which bear its mark in the file. Its number in the page is None as long as nothing leads
+    there."""
 
-    def __init__(self, most):
-        self.number, self.count, self.places, self.most = None, 0, [], most
+    __slots__ = ("mark", "number", "count", "most")
 
-    def add(self, place):
-        """Takes a question; gives whether its line is shown."""
+    def __init__(self, mark, most):
+        self.mark, self.number, self.count, self.most = mark, None, 0, most
+
+    def add(self):
+        """Takes a question; gives whether its line may be shown."""
         self.count += 1
-        is_shown = len(self.places) < self.most
-        if is_shown:
-            self.places.append(place)
-        return is_shown
-
-    def join(self, other):
-        """Takes the questions of another group."""
-        self.count += other.count
-        self.places = sorted(self.places + other.places)[: self.most]
+        return self.count <= self.most
 
 
 class Lines:
-    """Lines in a file without a name, which nobody else can read."""
+    """Lines in a file without a name, which nobody else can read; each with its moment and the marks of its
+    groups."""
 
     def __init__(self):
-        self.places = []
         try:
             self.file = tempfile.TemporaryFile("w+", encoding="utf-8", newline="\n")
         except OSError as fault:
             raise Unreadable(fault.strerror, tempfile.gettempdir()) from None
 
-    def put(self, place, line):
-        self.places.append(place)
+    def put(self, moment, marks, line):
+        numbers = " ".join(map(str, (moment, *marks)))
         try:
-            self.file.write(line.replace("\n", "&#10;") + "\n")
+            self.file.write(numbers + "\t" + line.replace("\n", "&#10;") + "\n")
         except OSError as fault:
             raise Unreadable(fault.strerror, tempfile.gettempdir()) from None
 
     def __iter__(self):
         self.file.seek(0)
-        return zip(self.places, (line.rstrip("\n") for line in self.file))
+        for text in self.file:
+            numbers, _, line = text.rstrip("\n").partition("\t")
+            moment, *marks = map(int, numbers.split(" "))
+            yield moment, marks, line
 
 
 class Groups:
     """All groups, each by what it is of: a bar by its moment and fate, others by two words."""
 
     def __init__(self):
-        self.found, self.linked, self.kinds, self.lines, self.number = {}, {}, {}, Lines(), 0
+        self.found, self.linked, self.kinds, self.lines, self.made = {}, {}, {}, Lines(), 0
         # The moments of the first and the last question, and how long a bar of the page is, and one that is
         # counted until then, in microseconds.
         self.span, self.bar, self.step = None, 1_000_000, 1_000_000
@@ -92,15 +91,15 @@ class Groups:
     def add(self, row):
         """Takes the next question."""
         self.reach(row.question.moment)
-        shown = [self.group(key).add(self.number) for key in set(self.keys_of(row))]
-        if any(shown):
-            self.lines.put(self.number, line_of(row))
-        self.number += 1
+        groups = [self.group(key) for key in dict.fromkeys(self.keys_of(row))]
+        if any([group.add() for group in groups]):
+            self.lines.put(row.question.moment, [group.mark for group in groups], line_of(row))
 
     def group(self, key):
         if key not in self.found:
             is_of_bar = isinstance(key[0], int)
-            self.found[key] = Group(MOST_OF_BAR if is_of_bar else MOST_LINES)
+            self.found[key] = Group(self.made, MOST_OF_BAR if is_of_bar else MOST_LINES)
+            self.made += 1
             if not is_of_bar:
                 self.kinds[key[0]] = self.kinds.get(key[0], 0) + 1
         return self.found[key]
@@ -125,7 +124,7 @@ class Groups:
         bars = {key: group for key, group in self.found.items() if isinstance(key[0], int)}
         self.found = {key: group for key, group in self.found.items() if key not in bars}
         for (moment, fate), group in sorted(bars.items()):
-            self.group((moment // step * step, fate)).join(group)
+            self.group((moment // step * step, fate)).count += group.count
 
     def end(self):
         """Takes it that all questions have come; gives when the first bar begins, and how long each is."""
@@ -135,7 +134,7 @@ class Groups:
         return self.span[0] // self.step * self.step, self.step
 
     def keys_of(self, row):
-        """All that a question is counted under, in words."""
+        """All that a question is counted under, in words; first how it ended."""
         fate, client = fate_of(row), self.known("client", address_text(row.question.peer[0]))
         yield fate, ""
         yield row.question.moment // self.step * self.step, fate
@@ -178,19 +177,23 @@ class Groups:
         for (kind, of), group in self.linked.items():
             kind = moment_text(kind)[:19] if isinstance(kind, int) else kind
             of = ", ".join(of) if isinstance(of, tuple) else of
-            what = f"the first {len(group.places)} of " if group.count > len(group.places) else ""
+            what = f"the first {group.most} of " if group.count > group.most else ""
             said = f"{kind}{': ' if of else ''}{of}: {what}{counted(group.count, 'question')}"
             yield f'<p class="chosen" id="g{group.number}"><b>{escape(said)}</b> · <a href="#lines">all lines</a></p>'
 
     def listed(self):
         """Each line that belongs to a group, with its groups as classes."""
-        classes = {}
-        for group in self.linked.values():
-            for place in group.places:
-                classes.setdefault(place, []).append(f"g{group.number}")
-        for place, line in self.lines:
-            if place in classes:
-                yield f'<li class="{" ".join(classes[place])}" {line}</li>'
+        fates = {self.found[fate, ""].mark: fate for fate in FATES if (fate, "") in self.found}
+        linked = {group.mark: group for group in self.linked.values()}
+        left = {group: group.most for group in linked.values()}
+        for moment, marks, line in self.lines:
+            bar = self.linked.get((moment // self.step * self.step, fates[marks[0]]))
+            groups = {linked.get(mark) for mark in marks} | {bar}
+            shown = sorted(group.number for group in groups if group and left[group])
+            for group in groups - {None}:
+                left[group] -= left[group] > 0
+            if shown:
+                yield f'<li class="{" ".join(f"g{number}" for number in shown)}" {line}</li>'
 
 
 def line_of(row):

@@ -4,10 +4,10 @@ This serves explanations, and the beginnings of scripts. What is right the scrip
 this.
 """
 import bisect
-from collections import OrderedDict, defaultdict
-from typing import NamedTuple
+from collections import defaultdict
 
 from . import carried, comparing, messages
+from .cached import Cache, is_looked_up, looked_up
 from .carried import MOST_ALIASES, Held
 from .eras import Eras
 from .messages import CNAME, SOA
@@ -15,7 +15,6 @@ from .near import NEAR
 from .strangers import strangeness
 from .traffic import Answer, Ending, Query, Question, Refusal, Reply
 
-UNSERVED, ANY_CLASS = frozenset((0, 41, *range(128, 256))), 255  # types, and a class
 BEFORE = 1000  # milliseconds before the capture in which what was kept before is put into a script
 MOST_LATE = 9000  # milliseconds beyond the deadline in which a query may leave for a question
 PROMPT = 50  # milliseconds in which a query leaves for a question that has come
@@ -32,113 +31,6 @@ def records_of(answer):
         return messages.records(answer.octets)
     except messages.Malformed:
         return []
-
-
-class Found(NamedTuple):
-    """A look-up: what was used in order, whether that answers, and otherwise the name that is
-    missed.
-
-    `was_asked` says whether that was being asked for already, `expired` what was kept of it in
-    vain.
-    """
-
-    used: tuple
-    answers: bool
-    missed: bytes
-    was_asked: bool = False
-    expired: object = None
-
-
-class Cache:
-    """The entries, least recently used first; `left` are the slots of those that had to leave a full cache."""
-
-    def __init__(self, configuration):
-        self.configuration, self.entries = configuration, OrderedDict()
-        self.capacity, self.denials, self.left = configuration.limits["cache"], 0, set()
-
-    def offer(self, held, now):
-        """Takes the place of what is there, unless that lives and is of a higher rank."""
-        slot = held.slot()
-        if held.kind is not None and self.denials:
-            for above in messages.parents(held.key):
-                self.drop((above, held.klass, None))
-        there = self.entries.get(slot)
-        if held.kind is not None and there and there.rank > held.rank and now < there.end():
-            return
-        if there:
-            self.drop(slot)
-        if held.seconds == 0:
-            return
-        if len(self.entries) >= self.capacity:
-            self.left.add(next(iter(self.entries)))
-            self.drop(next(iter(self.entries)))
-        self.entries[slot] = held
-        self.left.discard(slot)
-        self.denials += held.kind is None
-
-    def drop(self, slot):
-        if self.entries.pop(slot, None) and slot[2] is None:
-            self.denials -= 1
-
-    def find(self, key, klass, kind, now):
-        """The living entry that answers this name, or the alias that leads on; None where there is
-        none."""
-        there = self.entries.get((key, klass, kind))
-        if there and not there.denies and now < there.end():
-            return there
-        if kind != CNAME:
-            alias = self.entries.get((key, klass, CNAME))
-            if alias and not alias.denies and now < alias.end():
-                return alias
-        if there and now < there.end():
-            return there
-        if self.denials:
-            route = self.configuration.route_of(key)
-            for above in messages.parents(key):
-                denial = self.entries.get((above, klass, None))
-                if denial and now < denial.end() and self.configuration.route_of(above) is route:
-                    return denial
-        return None
-
-    def look_up(self, asked, now, aliases=0):
-        """Follows aliases, of which the question has some already; what is used is promoted."""
-        key, used = asked.key, []
-        while True:
-            held = self.find(key, asked.klass, asked.kind, now)
-            if held is None:
-                return Found(tuple(used), False, key, expired=self.entries.get((key, asked.klass, asked.kind)))
-            self.entries.move_to_end(held.slot())
-            used.append(held)
-            if held.kind != CNAME or asked.kind == CNAME or held.denies:
-                return Found(tuple(used), True, key)
-            if len(used) + aliases > MOST_ALIASES:
-                return Found(tuple(used), True, key)
-            key = held.rows[0].data.lower()
-
-
-def is_looked_up(question):
-    """Whether the service looks for an answer: not if it does not serve that (forwarder(8))."""
-    asked = question.asked
-    if asked is None or not question.wants_answer() or question.refused:
-        return False
-    return not (messages.operation(question.octets) or asked.kind in UNSERVED or asked.klass == ANY_CLASS)
-
-
-def looked_up(asked, found):
-    """What would be asked for each name of a look-up, and what was found there."""
-    name = asked.key
-    for held in found.used:
-        yield (name, asked.kind, asked.klass), held
-        if held.kind == CNAME and not held.denies:
-            name = held.rows[0].data.lower()
-
-
-def slots_of(name, asked):
-    """Where what answers a question for a name would be kept."""
-    yield name, asked.klass, asked.kind
-    yield name, asked.klass, CNAME
-    for above in messages.parents(name):
-        yield above, asked.klass, None
 
 
 class History:
@@ -164,6 +56,7 @@ class History:
         self.late_tries = []  # when the time of a try was over, and when the next one left long after
         self.awaited = set()  # replies that call for an answer over UDP at once
         self.needless = set()  # questions that what is kept answers, and for which a query left
+        self.unheard = []  # questions that call for an answer or a query at once, and get none
         self.eras = Eras()
         # When each query left, in milliseconds by what it asks; and when what was kept before the
         # capture has ended by, as a query for it shows.
@@ -206,6 +99,8 @@ class History:
         self.found[question] = found._replace(was_asked=wanted in self.open)
         if not found.answers:
             self.wanting[wanted].append(question)
+        if question.answer is None and (found.answers or wanted not in self.open):
+            self.unheard.append(question)
         for of, _ in looked_up(question.asked, found):
             self.served[of].append(question)
             if of in self.open:
@@ -236,10 +131,24 @@ class History:
         else:
             self.look_for_twice(query, of, youngest)
         self.needless.update(served)
+        self.note_unheard(query, of)
         self.note_first(query, youngest)
         self.note_late_try(query, self.open.get(of))
         self.open[of] = query
         self.last_asked[of] = self.last_output = query.moment
+
+    def note_unheard(self, output, of=None):
+        """Notes that a process may have begun between a question that it did not hear and what it sent then,
+        unless that is the question's query."""
+        for question in self.unheard:
+            if self.wanted(question) != of:
+                self.eras.may_have_begun(question.moment, output.moment)
+        self.unheard = []
+
+    def wanted(self, question):
+        """What a query for a question asks that what is kept does not answer."""
+        found = self.found[question]
+        return None if found.answers else (found.missed, question.asked.kind, question.asked.klass)
 
     def note_first(self, query, question):
         """Notes whom a route prefers that nobody was seen to ask yet: the server of its first try."""
@@ -249,12 +158,13 @@ class History:
         if self.had_before and is_first and route and query.server in route.servers and route not in self.preferred:
             self.first_asked.setdefault(route, query.server)
 
-    def note_late_try(self, query, before):
-        """Notes a query that left long after the time of the one before it was over."""
+    def note_late_try(self, output, before, since=0):
+        """Notes a query, or the answer to a question of a moment, that left long after the time of the query
+        before it was over."""
         if before is not None:
             due = before.moment + 1000 * self.configuration.limits["ask_ms"]
-            if query.moment - due > STILL:
-                self.late_tries.append((due, query.moment))
+            if since < due and output.moment - due > STILL:
+                self.late_tries.append((due, output.moment))
 
     def waits(self, question, since):
         return question not in self.answered and question.moment >= since
@@ -376,11 +286,14 @@ class History:
         question = answer.question
         self.answered.add(question)
         self.last_output = answer.moment
+        self.note_unheard(answer)
         self.forget(question)
         found = self.found.get(question)
         if self.near:
             self.look_for_order(question, answer)
         self.note_span(question, answer, found)
+        if found and not found.answers:
+            self.note_late_try(answer, self.open.get(self.wanted(question)), question.moment)
         if found is None or messages.code(answer.octets) not in (0, 3):
             return
         for held in found.used:

@@ -81,7 +81,8 @@ class Lateness:
                 continue
             due = each.moment + self.ask_ms
             used = line in self.first and self.first[line].moment < event.moment
-            if used or moment < due - 1 or self.is_busy(reply.moment + 1000 * SOON, event.moment):
+            since, until = reply.moment + 1000 * SOON, event.moment - 1000 * SOON
+            if used or moment < due - 1 or self.is_busy(since, until):
                 return False
             if not self.may((line, "drop"), 1):
                 return False

@@ -48,7 +48,7 @@ class Page:
 
     def html(self):
         """The lines of the file."""
-        body = [*self.counts(), *self.lines()]
+        counts = [*self.counts()]  # which say to which lines a number leads
         yield "<!DOCTYPE html>"
         yield '<html lang="en"><head><meta charset="utf-8">'
         yield f'<meta http-equiv="Content-Security-Policy" content="{POLICY}">'
@@ -57,7 +57,8 @@ class Page:
         yield f"<h1>{escape(self.about[0])}</h1>"
         yield from (f'<p class="note">{escape(line)}</p>' for line in self.about[1:])
         yield "<p>" + "<br>".join(map(escape, self.summary.verdict())) + "</p>"
-        yield from body
+        yield from counts
+        yield from self.lines()
         yield "</body></html>"
 
     def counts(self):

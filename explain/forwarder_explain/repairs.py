@@ -5,6 +5,7 @@ and a query that could not be sent is in no capture. Each change moves something
 milliseconds, or ends a try earlier. None of them changes an octet, nor can it hide an answer that
 is past its end, of another route or of another question.
 """
+import bisect
 from collections import defaultdict
 
 from .carried import MOST_ALIASES
@@ -28,6 +29,7 @@ class Repairs:
         self.tried = defaultdict(int)
         self.changed, self.touched = False, set()
         self.lateness = Lateness(window, self.may)
+        self.came = sorted(event.moment for event in window.questions + window.replies + window.endings)
 
     def after(self, outcome, pairing, answers, moved):
         """The changes that a run calls for, in the order of time.
@@ -40,7 +42,9 @@ class Repairs:
         self.by_question = defaultdict(list)
         for each in outcome.asked:
             self.by_question[self.window.asked_in(each)].append(each)
-        until = min((query.moment for query in moved), default=float("inf")) + HORIZON
+        dues = self.overdue()
+        changes = [*(query.moment for query in moved), *(self.order_of(due)[0] for due in dues)]
+        until = min(changes, default=float("inf")) + HORIZON
         for moment, _, of, repair, what in sorted(self.open_points(), key=lambda point: point[:2]):
             if moment > until:
                 break
@@ -48,7 +52,7 @@ class Repairs:
                 self.touched.add(of)
                 self.changed = True
                 until = min(until, moment + HORIZON)
-        self.let_time_pass()
+        self.let_time_pass(dues)
         return self.changed
 
     def open_points(self):
@@ -104,18 +108,23 @@ class Repairs:
         )
         self.window.lines.append(line)
 
-    def let_time_pass(self):
-        """Ticks where the script leaves something undone for long that was due: the service never
-        does.
-
-        Such ticks are taken out again where they do nothing.
+    def let_time_pass(self, dues):
+        """Ticks at moments at which so much is overdue. Such ticks are taken out again where they do nothing.
         """
-        lines, dues = self.window.lines, {}
+        lines = self.window.lines
         lines[:] = [
             line
             for line in lines
             if line.kind != "tick" or line.event is not None or line.number not in self.outcome.quiet
         ]
+        for due, count in dues.items():
+            for _ in range(count):
+                self.insert(self.order_of(due), self.seen(due), "tick")
+        self.changed |= bool(dues)
+
+    def overdue(self):
+        """How much the script leaves undone for long that was due at a moment: the service never does."""
+        dues = {}
         for each in self.outcome.asked:
             due = each.moment + self.limits["ask_ms"]
             if self.is_late(due, each.closed):
@@ -126,10 +135,7 @@ class Repairs:
                 due = self.outcome.moments[line.number - 1] + self.limits["deadline_ms"]
                 if self.is_late(due, self.answers.get(question, (None,))[0]):
                     dues[due] = dues.get(due, 0) + 1
-        for due, count in dues.items():
-            for _ in range(count):
-                self.insert(self.order_of(due), self.seen(due), "tick")
-        self.changed |= bool(dues)
+        return dues
 
     def stall_at(self, moment):
         return at(self.window.stalls, self.window.maker.micros(moment))
@@ -142,7 +148,11 @@ class Repairs:
     def order_of(self, due):
         """The place of a tick: after a stall once the first thing that came in it is taken."""
         stall = self.stall_at(due)
-        return (self.window.maker.micros(due), 0) if stall is None else (stall.since, 1e9)
+        if stall is None:
+            return self.window.maker.micros(due), 0
+        place = bisect.bisect_left(self.came, stall.since)
+        first = self.came[place] if place < len(self.came) else stall.until
+        return (first if first < stall.until else stall.since), 1e9
 
     def is_late(self, due, line):
         """Whether something that was due happened long after, or not before the end; after a stall also
@@ -225,9 +235,17 @@ class Repairs:
         if each and self.may_follow(each, query):
             return self.end_try(each, query, moment)
         for question in self.asking(of, query.moment - SOON * 1000, query.moment):
-            if self.take_later(question, of, query):
+            if self.take_back(question, query) or self.take_later(question, of, query):
                 return True
         return self.lateness.drop(of, query)
+
+    def take_back(self, question, query):
+        """A question that was moved to after a captured query that left soon after it came."""
+        line = self.window.maker.line_of.get(question)
+        if line is None or line.order < (query.moment,) or not self.may((question, "back"), 2):
+            return False
+        line.order, line.moment = (question.moment, 0), self.window.maker.moment(question)
+        return True
 
     def may_be_late(self, found):
         """Whether a captured answer may be the script's and shows when the service made it: it is
@@ -265,11 +283,24 @@ class Repairs:
         if near and near[-1].query is not query and self.may((question, "after"), 1):
             line.order, line.moment = (near[-1].moment, 1e9), max(line.moment, self.window.maker.moment(near[-1]))
             return True
+        if self.take_after(question, line, found[0], query):
+            return True
         count = self.tried[question, "later"]
         if found[0] is not line or count >= len(STEPS) or not ends_soon(found[2]):
             return False
         self.tried[question, "later"] += 1
         line.moment = self.window.maker.moment(question) + STEPS[count]
+        return True
+
+    def take_after(self, question, line, end, query):
+        """A question that came as the last try of another one ended, by time, and was read after that: it was
+        asked anew."""
+        moments = self.outcome.moments
+        is_near = moments[end.number - 1] - moments[line.number - 1] <= SLACK
+        is_first = end.order[0] <= query.moment and moments[end.number - 1] <= self.window.maker.moment(query) + 1
+        if end.kind != "tick" or not (is_near and is_first) or not self.may((question, "after a try"), 1):
+            return False
+        line.order, line.moment = (end.order[0], end.order[1] + 1e-6), max(line.moment, end.moment)
         return True
 
     def unseen(self, each):

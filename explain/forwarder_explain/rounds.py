@@ -4,9 +4,9 @@ from functools import partial
 from typing import NamedTuple
 
 from . import comparing
+from .cached import slots_of
 from .carrying import Base, Continued
 from .eras import is_output
-from .kept import slots_of
 from .lines import FIRST_MOMENT
 from .repairs import SLACK
 from .windows import AIM_LINES, SAID, Cut, Cutter, others_of, side_by_side

@@ -61,7 +61,7 @@ def calls_for(history, event, output, limits):
         if event.refused or not event.wants_answer() or not event.answer:
             return False
         if found and found.was_asked:
-            return outlasts(event, limits)
+            return outlasts(event, limits) or is_overlooked(event, output, limits)
         return not ends_try(output.moment - event.moment, limits)
     return event in history.awaited
 
@@ -85,6 +85,13 @@ def outlasts(question, limits):
     later than it came."""
     waited = question.answer.moment - question.moment
     return messages.code(question.answer.octets) in (0, 3) and waited > 1000 * limits["deadline_ms"] + NEAR
+
+
+def is_overlooked(question, output, limits):
+    """Whether a question's deadline was over when the service went on, and did not fail it then: it was not
+    read before."""
+    due = question.moment + 1000 * limits["deadline_ms"]
+    return due + NEAR < output.moment and question.answer.moment > output.moment + NEAR
 
 
 def ends_try(waited, limits):

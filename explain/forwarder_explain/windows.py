@@ -7,8 +7,9 @@ import os
 from collections import Counter, defaultdict
 
 from . import messages, near
+from .cached import slots_of
 from .eras import first_output, is_output
-from .kept import History, slots_of
+from .kept import History
 from .leaps import set_forward
 from .losses import Losses
 from .messages import CNAME
@@ -172,15 +173,15 @@ class Cutter:
         The youngest for what it asks first called for that."""
         if not cut.anew:
             return frozenset()
-        waiting = []
+        came, caller = [], None
         for event in self.events[cut.place : end]:
             if is_output(event, self.history.foreign):
                 asked = event.asked.of() if isinstance(event, Query) and event.asked else None
-                caller = next((question for question in reversed(waiting) if question.asked.of() == asked), None)
-                return frozenset(waiting).difference([caller])
-            if isinstance(event, Question) and event.asked and not event.answer and not event.refused:
-                waiting.append(event)
-        return frozenset(waiting)
+                caller = next((question for question in reversed(came) if question.asked.of() == asked), None)
+                break
+            if isinstance(event, Question) and event.asked and not event.refused:
+                came.append(event)
+        return frozenset(question for question in came if not question.answer).difference([caller])
 
     def open_before(self, cut):
         """The events of conversations that are under way when the window begins."""

@@ -18,10 +18,23 @@ from office import FORWARDER
 PAIRS = 60  # of a capture
 # Captures that lack packets, and others of which two packets are all that shows what happened.
 LOSSY = {scene.__name__ for scene in [*lossy.ALL, *losses.ALL]}
-SINGLE = {"one_identifier", "clock_set_back", "clock_set_forward", "taken_late", "stood_still_twice"}
+SINGLE = {
+    "one_identifier",
+    "clock_set_back",
+    "clock_set_forward",
+    "taken_late",
+    "stood_still_twice",
+    "stood_still_a_little",
+}
 # Captures in which a loss next to what they show is not told apart: of two messages without a question nothing says
 # which one is missing, and a service that stands still past a deadline and a lost query look like another service.
-NOT_TOLD = {"one_identifier_without_a_question", "stood_still_past_the_deadline", "stood_still_and_asked_anew"}
+NOT_TOLD = {
+    "one_identifier_without_a_question",
+    "stood_still_past_the_deadline",
+    "stood_still_and_asked_anew",
+    "stood_still_as_a_try_ends",
+    "asked_as_tries_end",
+}
 # Of captures with a fault the packets without which nothing shows it: the question, its answer, and what was used.
 FAULTS = {
     "two_seconds_more": {4, 5},

@@ -205,6 +205,84 @@ def stood_still_and_asked_anew():
     return scene.pcap()
 
 
+def stood_still_as_a_try_ends():
+    """A client asks again under one identifier 100 us before the first try for it is over, and the service
+    stands still by then. It reads that question first, asks on, and then fails the first question, whose
+    deadline is over."""
+    scene, www = Scene(), asked("www.example.com")
+    scene.question(0, ONE, 1, www)
+    scene.query(0.2, FIRST, www)
+    scene.question(1000.1, ONE, 1, www)
+    port = scene.query(4030.2, SECOND, www)
+    scene.answer(4030.3, ONE, 1, www, 0x8182)
+    scene.reply(4035.2, SECOND, port, www, answers=[address(60, 192, 0, 2, 80)])
+    scene.answer(4036, ONE, 1, www, answers=[address(60, 192, 0, 2, 80)])
+    return scene.pcap()
+
+
+def stood_still_in_the_last_try():
+    """The time of the last try for a name is over while the service stands still, before anything comes.
+    What comes later is read first, and then the question for that name fails, by its tries and not by its
+    deadline, which is over, too."""
+    scene, www, new = Scene(), asked("www.example.com"), asked("new.example.com")
+    scene.question(0, ONE, 1, www)
+    scene.query(0.2, FIRST, www)
+    scene.query(1001.2, SECOND, www)
+    scene.question(3000, OTHER, 2, new)
+    scene.query(4500.2, FIRST, new)
+    scene.answer(4500.3, ONE, 1, www, 0x8182)
+    port = scene.query(5501.2, SECOND, new)
+    scene.reply(5511.2, SECOND, port, new, answers=[address(60, 192, 0, 2, 81)])
+    scene.answer(5512, OTHER, 2, new, answers=[address(60, 192, 0, 2, 81)])
+    return scene.pcap()
+
+
+def stood_still_past_two_deadlines():
+    """A question joins one that waits, while the service stands still. The deadlines of both are over when it
+    goes on: the first one fails by it, and the other one, read only now, by the tries."""
+    scene, www = Scene(), asked("www.example.com")
+    scene.question(0, ONE, 1, www)
+    scene.query(0.2, FIRST, www)
+    scene.question(800, OTHER, 2, www)
+    scene.query(4600.2, SECOND, www)
+    scene.answer(4600.3, ONE, 1, www, 0x8182)
+    scene.answer(5601.2, OTHER, 2, www, 0x8182)
+    return scene.pcap()
+
+
+def stood_still_a_little():
+    """A reply comes 29 ms before the end of its try, and is read 239 ms late, with the ends of two tries. The
+    query for the other name leaves first, since its try was over first."""
+    scene, www, new = Scene(), asked("www.example.com"), asked("new.example.com")
+    scene.question(0, OTHER, 1, new)
+    scene.query(0.2, FIRST, new)
+    scene.question(30, ONE, 2, www)
+    port = scene.query(30.2, FIRST, www)
+    scene.reply(1001.2, FIRST, port, www, answers=[address(60, 192, 0, 2, 80)])
+    other = scene.query(1240.2, SECOND, new)
+    port = scene.query(1240.3, SECOND, www)
+    scene.reply(1250.3, SECOND, port, www, 0x8185)
+    scene.answer(1251, ONE, 2, www, 0x8182)
+    scene.reply(1260.2, SECOND, other, new, answers=[address(60, 192, 0, 2, 81)])
+    scene.answer(1261, OTHER, 1, new, answers=[address(60, 192, 0, 2, 81)])
+    return scene.pcap()
+
+
+def asked_as_tries_end():
+    """A question comes 20 us before the failure of another one for the same leaves, and is read after that: it
+    is asked anew."""
+    scene, www = Scene(), asked("www.example.com")
+    scene.question(0, ONE, 1, www)
+    scene.query(0.2, FIRST, www)
+    scene.query(1001.2, SECOND, www)
+    scene.question(2002.18, OTHER, 2, www)
+    scene.answer(2002.2, ONE, 1, www, 0x8182)
+    port = scene.query(2002.4, FIRST, www)
+    scene.reply(2012.4, FIRST, port, www, answers=[address(60, 192, 0, 2, 80)])
+    scene.answer(2013, OTHER, 2, www, answers=[address(60, 192, 0, 2, 80)])
+    return scene.pcap()
+
+
 def stood_still_over_tcp():
     """A question over TCP is read five seconds late, as the lifetime in its answer says."""
     scene, www, client = Scene(), asked("www.example.com"), "10.0.0.9:50000"
@@ -269,6 +347,11 @@ ALL = [
     stood_still_twice,
     stood_still_past_the_deadline,
     stood_still_and_asked_anew,
+    stood_still_as_a_try_ends,
+    stood_still_in_the_last_try,
+    stood_still_past_two_deadlines,
+    stood_still_a_little,
+    asked_as_tries_end,
     stood_still_over_tcp,
     closed,
     joined_late,

@@ -37,6 +37,19 @@ def restarted_in_flight():
     return scene.pcap()
 
 
+def restarted_standing_still():
+    """A process stands still, and ends: it answers neither what is cached nor what came first. A new one is
+    asked for the first again, and later for what was cached: only that shows the restart, and when it was the
+    questions without an answer."""
+    scene, mail = Scene(), asked("mail.example.com")
+    scene.fetched(0, ONE, 1, WWW, 300, (192, 0, 2, 80))
+    scene.question(2500, ONE, 2, mail)
+    scene.question(2600, OTHER, 3, WWW)
+    scene.fetched(5000, OTHER, 4, mail, 60, (192, 0, 2, 25))
+    scene.fetched(6000, ONE, 5, WWW, 300, (192, 0, 2, 80))
+    return scene.pcap()
+
+
 def refused():
     """Nothing listens for five seconds: ICMP and a reset say so. Then the cache is empty."""
     scene = Scene()
@@ -134,6 +147,7 @@ ALL = [
     restarted,
     restarted_in_flight,
     restarted_near_an_end,
+    restarted_standing_still,
     refused,
     refused_alone,
     refused_in_a_long_capture,
