@@ -1,4 +1,4 @@
-/* The bare programs of tools/beside and tools/echo_costs, and the server and the generator of both.
+/* The bare programs of tools/beside, tools/echo_costs and tools/socket_costs, the server and the generator.
 
      bare echo PORT             answers each datagram with one record: recvfrom, sendto
      bare echo PORT CODE STACK STEPS

@@ -22,6 +22,7 @@ NOT_HELD = {
     "a_question_over_tcp_beside_a_flood": "more datagrams come than a capture or the service takes",
     "events_that_find_no_memory_are_counted": "events are lost for want of memory",
     "memory_of_datagrams_and_connections_is_used_again": "explaining 22,000 questions takes longer than all else",
+    "memory_of_queries_and_their_replies_is_used_again": "explaining so many queries takes longer than all else",
     "memory_of_replies_that_were_taken_is_free_again": "it has more than 50 MB of replies",
 }
 

@@ -126,7 +126,8 @@ def what_the_page_for_administrators_shows(program):
     for it."""
     page = (TOP / "docs" / "ADMIN.md").read_text()
     smallest = (TOP / "examples" / "smallest.toml").read_text()
-    rows = re.findall(r"^\| `([^`]+)` \| (\d+) \| (`+)(.+?)\3 \| .+ \|$", page, re.MULTILINE)
+    table = page.partition("\n## What a refused configuration prints\n")[2].partition("\n\n**")[0]
+    rows = re.findall(r"^\| `([^`]+)` \| (\d+) \| (`+)(.+?)\3 \| .+ \|$", table, re.MULTILINE)
     for line, number, _, said in rows:
         wanted = [said.strip(), f"fault {number}"], 2
         expect((line, checked(program, with_line(smallest, line).encode())), (line, wanted))
@@ -138,14 +139,18 @@ def what_the_page_for_administrators_shows(program):
     utf_16 = ["the text is no TOML: see line 1, column 1: invalid UTF-8", "fault 1"]
     expect((checked(program, smallest.encode("utf-16")), utf_16[0] in page), ((utf_16, 2), True))
     expect(checked(program, b"\xef\xbb\xbf" + smallest.replace("\n", "\r\n").encode()), (["ok 1"], 0))
-    if len(rows) < 10 or len(blocks) < 4:
-        raise AssertionError(f"only {len(rows)} rows and {len(blocks)} configurations were found")
+    # Two lines of the table are its head.
+    expect((len(rows), len(blocks)), (table.count("\n|") - 2, page.count("```toml\n")))
+    if len(rows) + len(REFUSED_LINES) < LEAST_REFUSED:
+        raise AssertionError(f"only {len(rows)} lines of the page and {len(REFUSED_LINES)} others were tried")
 
 
 # What a server has to be, as the program says it.
 PEER = "and has to be four numbers from 0 to 255 with dots between, a colon, and a port from 1 to 65535"
 NO_NAME = "which is no name: a character is no letter, digit, hyphen, underscore or dot"
-# Lines of a configuration, with the number of their fault and what is printed of them.
+# Lines of a configuration, with the number of their fault and what is printed of them. A line that the page
+# drops is put here: so many are tried at least, of both.
+LEAST_REFUSED = 32
 REFUSED_LINES = [
     ('servers = ["192.0.2.53@53"]', 6,
      f'server 1 of route 1 is "192.0.2.53@53", {PEER}: the port follows a colon, as in `192.0.2.1:53`'),

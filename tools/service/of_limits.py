@@ -190,17 +190,19 @@ def a_client_comes_where_no_descriptor_is_left(program):
 
 @case
 def many_asks_in_turn_under_few_descriptors(program):
-    """The descriptor of each query is free again once the query ended: by a reply, by a failure, by a cut reply and
-    another over TCP. So is that of each client over TCP that closed."""
-    server, cut, gone = Server(), Server(by_udp=cut_reply_to), free_port()
-    for port, over_tcp in ((server.port, False), (gone, False), (cut.port, False), (server.port, True)):
-        with Forwarder(program, [port], descriptors=64) as forwarder:
+    """The descriptor of each query is free again once the query ended: by a reply, by a failure, by a refusal of the
+    system to connect its socket (EACCES), by a cut reply and another over TCP. So is that of each client over TCP that
+    closed."""
+    server, cut, failing = Server(), Server(by_udp=cut_reply_to), (free_port(), "255.255.255.255:53")
+    rows = [(server.port, False), *((each, False) for each in failing), (cut.port, False), (server.port, True)]
+    for asked_server, over_tcp in rows:
+        with Forwarder(program, [asked_server], descriptors=64) as forwarder:
             before = descriptors(forwarder.process.pid)
             ask = forwarder.ask_tcp if over_tcp else forwarder.ask_udp
             for n in range(200):
                 asked = question(f"n{n}.example")
                 answer = ask(asked)
-                if port == gone:
+                if asked_server in failing:
                     expect(code(answer), SERVFAIL)
                 else:
                     is_answer(answer, asked)
@@ -227,6 +229,27 @@ def memory_of_datagrams_and_connections_is_used_again(program):
             more = resident(forwarder.process.pid) - before
             if more > 1 << 20:
                 raise AssertionError(f"{more} octets more after {rest} questions")
+
+
+@case
+def memory_of_queries_and_their_replies_is_used_again(program):
+    """After 1,000 questions that are asked of a server, by UDP and then over TCP, at most 1 MiB more is in use than
+    after the first 200, which fill the cache. Each reply has 4,000 octets, so that what is kept of each shows."""
+    def answers(stream, query):
+        stream.sendall(framed(long_reply_to(query, 4000, seconds=300)))
+
+    by_udp = Server(by_udp=lambda query: long_reply_to(query, 4000, seconds=300))
+    over_tcp = Server(by_udp=cut_reply_to, over_tcp=answers)
+    for server in (by_udp, over_tcp):
+        with Forwarder(program, [server.port], limits="cache = 64\n") as forwarder, forwarder.udp() as client:
+            for n in range(1000):
+                if n == 200:
+                    before = resident(forwarder.process.pid)
+                client.send(question(f"n{n}.example", UNKNOWN))
+                client.recv(65535)
+            more = resident(forwarder.process.pid) - before
+            if more > 1 << 20:
+                raise AssertionError(f"{more} octets more after 800 questions")
 
 
 @case
