@@ -266,22 +266,13 @@ fn ask_anew<'s, H: BuildHasher + Drop, A: Allocator + Copy>(
         (from_state (with_promoted used.entry start.now.state) start.now) waiting)) }
 {
     let config = start.config;
-    if asks_under_way(start) >= config.limits.inquiries {
+    if start.kept.inquiries.len() >= config.limits.inquiries {
         return refuse(start, &waiting.request(), Why::InquiriesFull, used);
     }
     match first_ask(start, waiting.wanted(), route)? {
         Some(ask) => open(start, waiting, ask, key, used),
         None => refuse(start, &waiting.request(), Why::NoPort, used),
     }
-}
-
-/// The number of asks under way.
-fn asks_under_way<H: BuildHasher + Drop, A: Allocator + Copy>(
-    start: &StepStartRef<'_, H, A>,
-) -> usize
-    ensures count { result ≡ length start.now.state.asks }
-{
-    start.kept.inquiries.len()
 }
 
 /// Decides that the question fails at once.

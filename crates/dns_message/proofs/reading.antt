@@ -9,3 +9,4 @@ pub mod QuestionLaws
 pub mod WholeLaws
 pub mod ShapeLaws
 pub mod SpanLaws
+pub mod HeaderLaws

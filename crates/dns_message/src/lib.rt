@@ -16,6 +16,6 @@ pub use reading::{
     messages_are_spelled, names_are_written_out, spans_are_records, what_stands_is_read,
 };
 pub use writing::{
-    DataRef, MessageParts, RowsRef, what_is_read_can_be_written, what_is_written_is_spelled, write,
-    write_parts,
+    DataRef, MessageParts, RowsRef, reply_front, what_is_read_can_be_written,
+    what_is_written_is_spelled, write, write_parts,
 };

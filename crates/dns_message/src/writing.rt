@@ -13,5 +13,6 @@ mod records;
 mod writer;
 
 pub use borrowed::{DataRef, MessageParts, RowsRef};
+pub use header::reply_front;
 pub use laws::{what_is_read_can_be_written, what_is_written_is_spelled};
 pub use message::{write, write_parts};

@@ -5,12 +5,13 @@ ghost use Rattle.forwarder_commands.specs.Commands.{command_by, IsOfOctets, IsFa
 ghost use Rattle.forwarder_commands.specs.Commands.{IsFaultOfServe, IsFaultOfReplay};
 
 use crate::arguments::{LONGEST, argument, count, text};
+use crate::checked::write_checked;
 use crate::fault::Fault;
 use crate::files::Opened;
 use crate::refused::say_refused;
 use crate::saying::{say, say_unread, unopened};
 use crate::serving::serve_config;
-use crate::wanted_turns::Turns;
+use crate::wanted_turns::read_turns;
 use replay_script::{ReplayFault, config_in, read_limited, replay_run};
 use std::io;
 use std::io::{BufWriter, Write};
@@ -18,9 +19,6 @@ use std::net::Net;
 use std::random::RandomSource;
 use std::rt::{Clock, Env};
 use suffix_routes::Config;
-
-/// How many digits a number of turns may have.
-const MOST_DIGITS: usize = 20;
 
 /// A command of the program.
 #[derive(Clone, Copy, PartialEq, Eq, Debug)]
@@ -64,8 +62,8 @@ where
 fn check<R: Env + Print + AllocGlobal>(rt: &R) -> Result<(), Fault>
     ensures { IfErr result IsFaultOfCheck }
 {
-    let routes = named_config(rt)?.routes().len();
-    println!(rt; "ok {routes}")?;
+    let checked = named_config(rt)?;
+    write_checked(&checked, &mut io::writer(rt))?;
     Ok(())
 }
 
@@ -112,12 +110,6 @@ fn named_config<R: Env + Print + AllocGlobal>(rt: &R) -> Result<Config, ReplayFa
     }
 }
 
-/// The number of turns in the third argument; `None` for any other text.
-pub fn turns<R: Env>(rt: &R) -> Option<Turns> {
-    let mut room = [0u8; MOST_DIGITS];
-    Turns::of(text(rt, 3, &mut room)?)
-}
-
 /// Serves the turns of the third argument by the configuration named by the second, and prints the
 /// counts.
 fn serve<R>(rt: &R) -> Result<(), Fault>
@@ -125,7 +117,7 @@ where
     R: Env + Print + AllocGlobal + Net + Clock + RandomSource,
     ensures { IfErr result IsFaultOfServe }
 {
-    let turns = turns(rt).ok_or(Fault::Usage)?;
+    let turns = read_turns(rt).ok_or(Fault::Usage)?;
     let config = named_config(rt)?;
     serve_config(rt, rt.alloc(), config, turns, &mut io::writer(rt))
 }

@@ -3,6 +3,7 @@
 #![tactic(auto)]
 
 mod arguments;
+mod checked;
 mod commands;
 mod counted;
 mod fault;
@@ -13,7 +14,8 @@ mod serving;
 mod wanted_turns;
 
 pub use arguments::{LONGEST, argument, count, text};
-pub use commands::{Command, command_of, load, run, turns};
+pub use checked::write_checked;
+pub use commands::{Command, command_of, load, run};
 pub use fault::Fault;
 pub use serving::serve_config;
-pub use wanted_turns::Turns;
+pub use wanted_turns::{Turns, read_turns};

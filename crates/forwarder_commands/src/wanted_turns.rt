@@ -3,9 +3,20 @@
 ghost use Rattle.std.specs.Prelude.{◌≡◌, option_map};
 ghost use Rattle.replay_script.specs.Lines.{number_in, read_of};
 
+use crate::arguments::text;
 use replay_script::decimal;
+use std::rt::Env;
 
-/// A number of turns, made of a command's word alone, so that none but the written one is served.
+/// How many digits a number of turns may have.
+const MOST_DIGITS: usize = 20;
+
+/// The number of turns in the third argument; `None` for any other text.
+pub fn read_turns<R: Env>(rt: &R) -> Option<Turns> {
+    let mut room = [0u8; MOST_DIGITS];
+    Turns::of(text(rt, 3, &mut room)?)
+}
+
+/// A number of turns, which [`read_turns`] alone makes, so that none but the written one is served.
 #[derive(Clone, Copy, PartialEq, Eq, Debug, Drop)]
 pub struct Turns {
     number: u64,
@@ -13,7 +24,7 @@ pub struct Turns {
 
 impl Turns {
     /// The number that 1 to 20 decimal digits write, up to 2^64 - 1; `None` for another word.
-    pub fn of(word: &str) -> Option<Turns>
+    fn of(word: &str) -> Option<Turns>
         ensures { option_map (λ (turns : Turns). turns.number) result
             ≡ read_of (number_in 20 word.now) }
     {

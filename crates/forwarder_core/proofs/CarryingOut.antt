@@ -1,11 +1,11 @@
 -- What is done is what was decided.
 use Rattle.std.proofs.Common.{◌≡◌, ℕ, List, [], Bool, refl, sym, ◌∙◌, subst, Option, Some}
-use Rattle.std.specs.Prelude.{Ok}
+use Rattle.std.specs.Prelude.{Ok, IfSome}
 use Rattle.suffix_routes.specs.Values.{Config}
 use Rattle.step_values.specs.Values.{Event, Action, actions_of, Outcome}
 use Rattle.trust_rank.specs.declared.slot.Slot.{Slot}
 use Rattle.trust_rank.specs.Values.{Piece}
-use Rattle.step_table.specs.State.{State, start}
+use Rattle.step_table.specs.State.{State, StepStart, start}
 use Rattle.alias_chains.specs.LookingUp.{promoted_all}
 use Rattle.alias_chains.specs.Offering.{put_all, unkept_of, pieces_of}
 use Rattle.step_table.specs.Steps.{offering_step, with_promoted, with_entries}
@@ -13,7 +13,7 @@ use Rattle.step_table.specs.Row.{Happens, HandsOctets, effective, Row}
 use Rattle.step_actions.specs.declared.decision.Change.{Change}
 use Rattle.step_actions.specs.declared.decision.Change.TheVariants.{Nothing, Join, Open, Close, SendOn, AskAgain, Expire}
 use Rattle.step_actions.specs.declared.decision.Decision.{Decision}
-use Rattle.step_actions.specs.Decision.{changed, next_of, IsDecided, IsDecidedQuietly, IsOutcome}
+use Rattle.step_actions.specs.Decision.{changed, next_of, CanChange, IsDecided, IsDecidedQuietly, IsOutcome}
 
 -- what was put in place is what was decided
 by_change : {A : Type 0} (n : ℕ) (rooms : List Bool) (s : State) (actions : List Action) (used : List Slot)
@@ -78,3 +78,12 @@ row_is {A} c s s' now n words e d next o moment octets decided is out =
 pub quiet_at : {A : Type 0} (d : Option (Decision A)) (next : Decision A) → d ≡ Some next
     → IsDecidedQuietly {A = A} (Ok d) → (next.used ≡ []) × (next.change ≡ Nothing)
 quiet_at {A} d next is quiet = subst (λ (r : Option (Decision A)). IsDecidedQuietly {A = A} (Ok r)) is quiet
+
+-- the change of a decision fits
+pub fits_at : {A : Type 0} (t : StepStart) (c : Config) (n m : ℕ) (words : List ℕ) (s : State)
+    (d : Option (Decision A)) (next : Decision A) → t ≡ start c m words s → n ≡ m → d ≡ Some next
+    → IfSome d (λ some. CanChange t.config t.moment t.state some) → CanChange c n s next
+fits_at {A} t c n m words s d next begins moment is fits =
+    subst (λ (k : ℕ). CanChange c k s next) (sym moment)
+    (subst (λ (u : StepStart). CanChange u.config u.moment u.state next) begins
+    (subst (λ (o : Option (Decision A)). IfSome o (λ some. CanChange t.config t.moment t.state some)) is fits))

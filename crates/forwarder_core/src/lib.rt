@@ -4,7 +4,6 @@
 
 mod deciding;
 mod forwarder;
-mod lists;
 
 pub use forwarder::Forwarder;
 pub use step_values::{Action, Actions, Client, Event, Outcome, Path, Step, StepInput, Why};

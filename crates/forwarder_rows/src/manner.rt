@@ -3,6 +3,7 @@
 use crate::narrow::is_wide;
 use crate::probing::run_stepped;
 use crate::script::Way;
+use forwarder_commands::write_checked;
 use replay_script::{ReplayFault, read_config, replay_run};
 use std::alloc::Global;
 use std::io::{Read, Write};
@@ -70,14 +71,13 @@ pub(crate) fn told_by<R: Files + AllocGlobal>(
     Ok(Told { stdout, stderr })
 }
 
-/// Prints the number of routes of the reader's configuration.
+/// Checks the reader's configuration, and writes the line of the command.
 fn check<R: Read, W: Write>(
     alloc: Global,
     reader: &mut R,
     writer: &mut W,
 ) -> Result<(), ReplayFault> {
     let config = read_config(alloc, alloc, reader)?;
-    let routes = config.routes().len();
-    writeln!(writer, "ok {routes}")?;
+    write_checked(&config, writer)?;
     Ok(())
 }

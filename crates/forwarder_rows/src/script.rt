@@ -5,7 +5,9 @@ ghost use Rattle.std.specs.Prelude.{◌≤◌};
 use forwarder_core::{Forwarder, Outcome, StepInput};
 use lru::DefaultHasher;
 use refusing_allocator::Refusing;
-use replay_script::{MOST_LINES, ReplayFault, input_of_line, parts, print, read_config};
+use replay_script::{
+    MOST_LINES, ReplayFault, ScriptParts, input_of_line, parts, print, read_config,
+};
 use std::alloc::Global;
 use std::io::Write;
 use suffix_routes::Config;
@@ -72,7 +74,7 @@ pub(crate) fn script_in<'a, 's>(
     text: &'s [u8],
     way: Way,
 ) -> Result<Script<'a, 's>, ReplayFault> {
-    let (config, events) = parts(text).ok_or(ReplayFault::Line(0))?;
+    let ScriptParts { config, events } = parts(text).ok_or(ReplayFault::Line(0))?;
     let lines = events.strip_suffix(b"\n".as_slice()).unwrap_or(events);
     let count = if events.is_empty() {
         0

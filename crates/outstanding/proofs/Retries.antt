@@ -1,9 +1,9 @@
 -- One question has one ask, so the next ask for it may begin where that one ended. And a port that
 -- is drawn is free.
-use Rattle.std.proofs.Common.{◌≡◌, ℕ, ◌%◌, ◌≤◌, inl, inr, List, [], ◌∷◌, Bool, true, false, cond, refl, sym, ap, ◌∙◌, subst, Option, Some, None, is_some, Bor}
-use Rattle.std.specs.Prelude.{not, filter, ◌||◌, IfSome, MatchOption}
+use Rattle.std.proofs.Common.{◌≡◌, ℕ, ◌≤◌, List, [], ◌∷◌, Bool, true, false, cond, refl, sym, ap, ◌∙◌, subst, Option, Some, None, is_some, Bor}
+use Rattle.std.specs.Prelude.{not, filter, ◌||◌, MatchOption}
 use Rattle.std.specs.List.{find, list_any, AllByRecursion}
-use Rattle.std.proofs.lemmas.Bool.{eqb-true, false≢true, cond-false, or_cases, not-true}
+use Rattle.std.proofs.lemmas.Bool.{eqb-true, false≢true, cond-false}
 use Rattle.std.proofs.lemmas.Option.{none-some, same_Some}
 use Rattle.dns_message.specs.Values.{Question}
 use Rattle.outstanding.specs.declared.ask.Path.{Path}
@@ -12,7 +12,7 @@ use Rattle.outstanding.specs.Values.{Ask}
 use Rattle.dns_message.specs.Questions.{same_question}
 use Rattle.dns_message.proofs.CallerLemmas.{same_question_decides, same_question_symmetric, same_question_transitive}
 use Rattle.outstanding.specs.Lists.{same_path, on_path, of_question, without_path, Follows, AreInTurn}
-use Rattle.outstanding.specs.Draws.{port_of, is_used, is_freed, is_free, without_port, udp_draw}
+use Rattle.outstanding.specs.Draws.{is_used, is_freed, without_port}
 use Rattle.outstanding.specs.Laws.{NextMayBegin, EndedIsUnlisted, UnlistedStaysSo}
 
 -- two questions that are equal to a third are equal
@@ -116,33 +116,17 @@ unlisted_stays asks path other none = none_kept (λ (a : Ask). same_path a.path 
 
 -- ---- a drawn port
 
-unused : (port : ℕ) (asks : List Ask) (freed : Option ℕ) → is_used port asks ≡ false → on_path (Udp port) (without_port freed asks) ≡ None
+-- a port without a listed ask has none once the freed port is given up
+pub unused : (port : ℕ) (asks : List Ask) (freed : Option ℕ) → is_used port asks ≡ false → on_path (Udp port) (without_port freed asks) ≡ None
 unused port asks None e = none_at_all (λ (a : Ask). same_path a.path (Udp port)) asks e
 unused port asks (Some freed) e =
     unlisted_stays asks (Udp port) (Udp freed) (none_at_all (λ (a : Ask). same_path a.path (Udp port)) asks e)
 
-given_up : (port : ℕ) (asks : List Ask) (freed : Option ℕ) → is_freed port freed ≡ true → on_path (Udp port) (without_port freed asks) ≡ None
+-- nor has the freed port
+pub given_up : (port : ℕ) (asks : List Ask) (freed : Option ℕ) → is_freed port freed ≡ true → on_path (Udp port) (without_port freed asks) ≡ None
 given_up port asks None e = absurd (false≢true e)
 given_up port asks (Some freed) e =
     subst (λ (p : ℕ). on_path (Udp port) (without_path (Udp p) asks) ≡ None) (eqb-true port freed e) (ended_unlisted asks (Udp port))
-
-free : (port : ℕ) (asks : List Ask) (freed : Option ℕ) → is_free port asks freed ≡ true → on_path (Udp port) (without_port freed asks) ≡ None
-free port asks freed e = elim (or_cases (is_freed port freed) (not (is_used port asks)) e) [
-  | inl is ↦ given_up port asks freed is
-  | inr is ↦ unused port asks freed (not-true (is_used port asks) is)
-]
-
-drawn : (words : List ℕ) (asks : List Ask) (freed : Option ℕ) → IfSome (udp_draw words asks freed) (λ (draw : ℕ × ℕ). on_path (Udp draw.1) (without_port freed asks) ≡ None)
-drawn [] asks freed = tt
-drawn (word ∷ words) asks freed = by (is_free (port_of word) asks freed) refl (drawn words asks freed)
-  where
-    by : (b : Bool) → is_free (port_of word) asks freed ≡ b → IfSome (udp_draw words asks freed) (λ (draw : ℕ × ℕ). on_path (Udp draw.1) (without_port freed asks) ≡ None)
-        → IfSome (cond b (Some (word % 65536, port_of word)) (udp_draw words asks freed)) (λ (draw : ℕ × ℕ). on_path (Udp draw.1) (without_port freed asks) ≡ None)
-    by true is rest = free (port_of word) asks freed is
-    by false is rest = rest
-
-pub drawn_free : (words : List ℕ) (asks : List Ask) (freed : Option ℕ) (r : Option (ℕ × ℕ)) → r ≡ udp_draw words asks freed → IfSome r (λ (draw : ℕ × ℕ). on_path (Udp draw.1) (without_port freed asks) ≡ None)
-drawn_free words asks freed r is = subst (λ (d : Option (ℕ × ℕ)). IfSome d (λ (draw : ℕ × ℕ). on_path (Udp draw.1) (without_port freed asks) ≡ None)) (sym is) (drawn words asks freed)
 
 any_found : {X : Type 0} (p : X → Bool) (xs : List X) → list_any p xs ≡ is_some (find p xs)
 any_found p [] = refl

@@ -21,17 +21,6 @@ pub fn draw<A: Allocator>(
     ensures drawn { result ≡ udp_draw words inquiries.now.asks freed }
     ensures free { IfSome result (λ draw. on_path (Path.Udp draw.1) (without_port freed inquiries.now.asks) ≡ None) }
 {
-    draw_among(words, inquiries, freed)
-}
-
-/// Identifier and port of the first word whose port has no listed ask, or is freed.
-fn draw_among<A: Allocator>(
-    words: [u32; 8],
-    inquiries: &Inquiries<A>,
-    freed: Option<u16>,
-) -> Option<(u16, u16)>
-    ensures { result ≡ udp_draw words inquiries.now.asks freed }
-{
     for word in words {
         let port = port_from(word);
         if is_freed(port, freed) || !is_used(port, inquiries) {

@@ -1,4 +1,5 @@
 pub mod Octets
 pub mod Borrowed
 pub mod Places
+pub mod Listed
 pub mod FirstFault

@@ -1,2 +1,9 @@
+pub mod Records
+pub mod Cut
 pub mod Read
+pub mod Failures
+pub mod Asks
+pub mod Fits
 pub mod Worked
+pub mod WorkedQueries
+pub mod WorkedAnswers

@@ -16,16 +16,19 @@ use hex::FromHexError;
 use plain_values::{Octets, PlainList};
 use std::alloc::{AllocError, Allocator};
 use suffix_routes::Peer;
+use thiserror::Error;
 
 /// How many event lines a script may have.
 pub const MOST_LINES: u32 = 8191;
 
 /// Why a line gives no event.
-#[derive(Clone, Copy, PartialEq, Eq, Debug)]
+#[derive(Clone, Copy, PartialEq, Eq, Debug, Error)]
 pub(crate) enum Refusal {
     /// The line has none of the forms.
+    #[error("none of the forms")]
     Form,
     /// Memory ran out.
+    #[error("memory")]
     Memory,
 }
 

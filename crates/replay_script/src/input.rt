@@ -36,21 +36,34 @@ pub fn read_limited<A: Allocator, R: Read>(
     Ok(octets)
 }
 
-/// A script's configuration, and the event lines after its first line `---`; `None` without such a
-/// line.
-pub fn parts(script: &[u8]) -> Option<(&[u8], &[u8])>
-    ensures some { IfSome result (λ parts. AreParts script.now parts.0.now parts.1.now) }
+/// The two parts of a script.
+pub struct ScriptParts<'a> {
+    /// The text of the configuration.
+    pub config: &'a [u8],
+    /// The event lines after the first line `---`.
+    pub events: &'a [u8],
+}
+
+/// A script's parts; `None` without a line `---`.
+pub fn parts(script: &[u8]) -> Option<ScriptParts<'_>>
+    ensures some { IfSome result (λ parts. AreParts script.now parts.config.now parts.events.now) }
     ensures none { IfNone result (HasOnePart script.now) }
 {
     let mut rest = script;
     while let Some((line, behind)) = first_line(rest) {
         if line == SEPARATOR {
-            return Some((&script[..script.len() - rest.len()], behind));
+            return Some(ScriptParts {
+                config: &script[..script.len() - rest.len()],
+                events: behind,
+            });
         }
         rest = behind;
     }
     if rest == SEPARATOR {
-        return Some((&script[..script.len() - rest.len()], &[]));
+        return Some(ScriptParts {
+            config: &script[..script.len() - rest.len()],
+            events: &[],
+        });
     }
     None
 }

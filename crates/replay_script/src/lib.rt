@@ -12,5 +12,5 @@ mod replay;
 pub use actions::print;
 pub use events::{MOST_LINES, decimal, input_of_line};
 pub use fault::ReplayFault;
-pub use input::{config_in, parts, read_config, read_limited};
+pub use input::{ScriptParts, config_in, parts, read_config, read_limited};
 pub use replay::replay_run;

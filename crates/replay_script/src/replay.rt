@@ -6,7 +6,7 @@ ghost use Rattle.replay_script.specs.Runs.{lines_of, RunsLines, ReplaysText, Rep
 use crate::actions::print_all;
 use crate::events::{MOST_LINES, input_of_line};
 use crate::fault::ReplayFault;
-use crate::input::{config_in, first_line, parts, read_limited};
+use crate::input::{ScriptParts, config_in, first_line, parts, read_limited};
 use forwarder_core::Forwarder;
 use std::alloc::{Allocator, Global};
 use std::hash::{BuildHasherDefault, FoldHasher};
@@ -46,7 +46,7 @@ fn replay_text<A: Allocator + Copy, W: Write>(
 ) -> Result<(), ReplayFault>
     ensures { ReplaysText script.now (W.contents writer.old) result (W.contents writer.new) }
 {
-    let Some((config, events)) = parts(script) else {
+    let Some(ScriptParts { config, events }) = parts(script) else {
         return Err(ReplayFault::Line(0));
     };
     let config = config_in(heap, alloc, config)?;

@@ -6,6 +6,7 @@ ghost use Rattle.outstanding.specs.Lists.{on_path as ask_on, without_path};
 ghost use Rattle.step_table.specs.Attempts.{ask_by, peer_at};
 ghost use Rattle.step_table.specs.Steps.{closing_step, fails};
 ghost use Rattle.step_table.specs.Failures.{row_of_attempt, row_of_failure, row_of_failed_path, runs_out};
+ghost use Rattle.step_actions.specs.Attempts.{pair_of};
 ghost use Rattle.step_actions.specs.Decision.{IsQuiet, CanFollow, MeetsStep};
 ghost use Rattle.step_table.specs.State.{start};
 
@@ -14,7 +15,7 @@ use retry_failover::{Failure, Next, after};
 use std::alloc::{AllocError, Allocator};
 use std::hash::BuildHasher;
 use step_actions::{
-    Attempt, Change, Decision, StepStartRef, by_tcp, by_udp, close_path, draw_connection, failures,
+    Attempt, Change, Decision, Drawn, StepStartRef, by_udp, close_path, draw_connection, failures,
     freed_port, last_replies, new_ask, nothing, plan,
 };
 use step_texts::ask as ask_action;
@@ -56,7 +57,7 @@ pub(crate) fn fail<'s, H: BuildHasher + Drop, A: Allocator + Copy>(
         }
         Next::AskTcp(server) => {
             let drawn = draw_connection(start.words, start.kept.tcp_asks);
-            retry(start, ask, server, by_tcp(drawn))
+            retry(start, ask, server, drawn)
         }
     }
 }
@@ -99,17 +100,18 @@ fn retry<'s, H: BuildHasher + Drop, A: Allocator + Copy>(
     start: &StepStartRef<'_, H, A>,
     ask: &KeyedAsk<A>,
     server: u8,
-    drawn: Option<(u16, Path)>,
+    drawn: Option<Drawn>,
 ) -> Result<Decision<'s, A>, AllocError>
     requires on { ask_on ask.now.path start.now.state.asks ≡ Some ask.now }
     requires tries { ask.now.used < 255 }
     requires follows { (next : AskValue) → ask_by start.now.moment ask.now.question ask.now.route server
-        (ask.now.used + 1) (peer_at start.now.config ask.now.route server) drawn ≡ Some next
+        (ask.now.used + 1) (peer_at start.now.config ask.now.route server) (pair_of drawn)
+        ≡ Some next
         → CanFollow start.now.config start.now.moment start.now.state
         (without_path ask.now.path start.now.state.asks) next }
     ensures decides { IfOk result (MeetsStep start.now (row_of_attempt start.now.moment ask.now start.now.state
         (ask_by start.now.moment ask.now.question ask.now.route server (ask.now.used + 1)
-        (peer_at start.now.config ask.now.route server) drawn))) }
+        (peer_at start.now.config ask.now.route server) (pair_of drawn)))) }
 {
     let asked = ask.ask();
     let attempt = Attempt {

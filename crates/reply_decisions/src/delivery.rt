@@ -10,7 +10,6 @@
 
 ghost use Rattle.std.specs.Prelude.{◌≡◌, ◌^◌, ◌≤◌, ℕ, true, false, Bool, List, IfOk, Some};
 ghost use Rattle.dns_message.specs.Messages.{message_of};
-ghost use Rattle.dns_message.specs.Reading.{wants_memory};
 ghost use Rattle.trust_rank.specs.Values.{End as EndValue};
 ghost use Rattle.trust_rank.specs.Walks.{walk_of, has_last};
 ghost use Rattle.reply_match.specs.Judged.{IsViewOf, verdict_of};
@@ -99,7 +98,7 @@ fn on_whole<'s, H: BuildHasher + Drop, A: Allocator + Copy>(
 {
     match view.read_whole(start.alloc) {
         Ok(message) => on_message(start, ask, &message),
-        Err(fault) if wants_memory(fault) => Err(AllocError),
+        Err(fault) if matches!(fault, Fault::Memory) => Err(AllocError),
         Err(_) => fail(start, ask, Failure::Malformed),
     }
 }
@@ -163,11 +162,4 @@ fn accept<'s, H: BuildHasher + Drop, A: Allocator + Copy>(
         change: Change::Close(answered.path, Some(preferred)),
         carried: held,
     })
-}
-
-/// Whether the fault is not in the octets: memory ran out.
-fn wants_memory(fault: Fault) -> bool
-    ensures { result ≡ wants_memory fault }
-{
-    matches!(fault, Fault::Memory)
 }

@@ -29,6 +29,14 @@ pub struct Fates<'a, A: Allocator = Global> {
     used: Vec<Slot, A>,
 }
 
+/// In the order of arrival the aliases and the wanted question of each question that waits on, and
+/// `None` of each that gets its reply; and the slots of the entries used by look-ups.
+#[derive(Drop)]
+pub struct FateParts<'s, A: Allocator = Global> {
+    pub onward: Vec<Option<Onward<A>>, A>,
+    pub used: Slots<'s, A>,
+}
+
 impl<'a, A: Allocator> Model for Fates<'a, A> {
     ghost use Rattle.std.specs.Prelude.{map};
     ghost use Rattle.reply_decisions.specs.Fates.{fate_now, Fates};
@@ -121,17 +129,16 @@ impl<'a, A: Allocator + Copy> Fates<'a, A> {
         Ok(Fates { each: told, used })
     }
 
-    /// Puts the replies last. Returns, in order, the aliases and the wanted question of each that
-    /// is sent on, and the slots that look-ups used.
+    /// Puts the replies last, and returns the parts.
     pub fn into_parts<'s>(
         self,
         alloc: A,
         actions: &mut Actions<A>,
-    ) -> Result<(Vec<Option<Onward<A>>, A>, Slots<'s, A>), AllocError>
+    ) -> Result<FateParts<'s, A>, AllocError>
         ensures replies { IfOk result (λ parts. actions_of actions.new
             ≡ actions_of actions.old ++ replies self.entry.each) }
-        ensures onward { IfOk result (λ parts. parts.0.items ≡ map onward_of self.entry.each) }
-        ensures used { IfOk result (λ parts. parts.1 ≡ self.entry.used) }
+        ensures onward { IfOk result (λ parts. parts.onward.items ≡ map onward_of self.entry.each) }
+        ensures used { IfOk result (λ parts. parts.used ≡ self.entry.used) }
     {
         let Fates { each, used } = self;
         let mut onward = Vec::with_capacity(alloc, each.len())?;
@@ -144,6 +151,7 @@ impl<'a, A: Allocator + Copy> Fates<'a, A> {
                 WaitingFate::WaitsOn(_, redirected) => onward.push(Some(redirected))?,
             }
         }
-        Ok((onward, Slots::of(used)))
+        let used = Slots::of(used);
+        Ok(FateParts { onward, used })
     }
 }

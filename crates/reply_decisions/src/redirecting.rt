@@ -25,7 +25,7 @@ ghost use Rattle.reply_decisions.specs.Walked.{walk_on, IsWalkFor};
 ghost use Rattle.step_table.specs.State.{start, from_state};
 
 use crate::fate::AliasLead;
-use crate::fates::{Fates, fates_of};
+use crate::fates::{FateParts, Fates, fates_of};
 use alias_chains::held_from;
 use dns_message::Question;
 use dns_name::Name;
@@ -184,7 +184,7 @@ fn close_and_send_on<'s, H: BuildHasher + Drop, A: Allocator + Copy>(
 {
     let ask = answered.ask();
     let mut actions = Actions::one(start.alloc, close_path(ask.path));
-    let (onward, used) = fates.into_parts(start.alloc, &mut actions)?;
+    let FateParts { onward, used } = fates.into_parts(start.alloc, &mut actions)?;
     put_next(start.alloc, &mut actions, &next)?;
     let preferred = Preferred {
         route: ask.route,

@@ -56,13 +56,13 @@ module _ {A : Type 0} where
       (before after : ℕ → SeenSockets A)
       → ((try : ℕ) → TriesAsk (found try) (before try) (after try))
       → ((try : ℕ) → (before (try + 1)).next_ask ≡ (after try).next_ask)
-      → ((try : ℕ) → StaysListed (2 ^ 16) port ever (keys_of (before try).asks))
+      → ((try : ℕ) → StaysListed (2 ^ 16) port ever (keys_of (before try).asks.listed))
       → length ever + 1 ≤ tries
       → (try : ℕ) × ((try < tries) × (ask_in_turn (before try) ≡ Some port))
   ask_is_tried tries port ever found before after one next listed enough =
-      tried_at tries (2 ^ 16) port (λ try. (before try).asks) (λ try. (before try).next_ask)
+      tried_at tries (2 ^ 16) port (λ try. (before try).asks.listed) (λ try. (before try).next_ask)
       (λ try. next try ∙ (one try).next)
-      (tried_within tries (2 ^ 16) port (before 0).next_ask ever (λ try. (before try).asks)
+      (tried_within tries (2 ^ 16) port (before 0).next_ask ever (λ try. (before try).asks.listed)
       listed enough)
 
   -- The connection of an ask is tried.
@@ -101,13 +101,13 @@ module _ {A : Type 0} where
 
   asks_stay : (done : ℕ) (before at : SeenSockets A)
       → TriesTo TriesAsk done before at
-      → keys_of at.asks ≡ keys_of before.asks
+      → keys_of at.asks.listed ≡ keys_of before.asks.listed
   unfolding TriesTo
-  asks_stay zero before at same = ap (λ (s : SeenSockets A). keys_of s.asks)
+  asks_stay zero before at same = ap (λ (s : SeenSockets A). keys_of s.asks.listed)
       same
   asks_stay (suc done) before at later =
       asks_stay done later.0 at later.1.1
-      ∙ ap (λ (s : SeenSockets A). keys_of s.asks) later.1.0.rest
+      ∙ ap (λ (s : SeenSockets A). keys_of s.asks.listed) later.1.0.rest
 
   servers_stay : (done : ℕ) (before at : SeenSockets A)
       → TriesTo TriesServer done before at
@@ -131,7 +131,7 @@ module _ {A : Type 0} where
 
   -- The port is found in a sweep of twenty tries.
   abbrev pub FindsAsk : (port : ℕ) → (ever : List ℕ) → SeenSockets A → Type 0
-  FindsAsk port ever before = FindsIn TriesAsk (2 ^ 16) port (λ s. s.next_ask) (λ s. s.asks)
+  FindsAsk port ever before = FindsIn TriesAsk (2 ^ 16) port (λ s. s.next_ask) (λ s. s.asks.listed)
       ever 20 before
 
   abbrev pub FindsServer : (conn : ℕ) → (ever : List ℕ) → SeenSockets A → Type 0
@@ -145,11 +145,11 @@ module _ {A : Type 0} where
       (before after : ℕ → SeenSockets A)
       → ((sweep : ℕ) → TriesUpTo TriesAsk 20 (before sweep) (after sweep))
       → ((sweep : ℕ) → (before (sweep + 1)).next_ask ≡ (after sweep).next_ask)
-      → ((sweep : ℕ) → StaysListed (2 ^ 16) port ever (keys_of (before sweep).asks))
+      → ((sweep : ℕ) → StaysListed (2 ^ 16) port ever (keys_of (before sweep).asks.listed))
       → length ever + 20 ≤ 20 * sweeps
       → (sweep : ℕ) × ((sweep < sweeps) × FindsAsk port ever (before sweep))
   ask_is_tried_in_sweeps sweeps port ever before after one between listed enough =
-      found_in_sweeps TriesAsk (2 ^ 16) port (λ s. s.next_ask) (λ s. s.asks) ever sweeps 20
+      found_in_sweeps TriesAsk (2 ^ 16) port (λ s. s.next_ask) (λ s. s.asks.listed) ever sweeps 20
       before after
       (record { report = λ found s s' try. try.one; next = λ found s s' try. try.next }) one between
       (λ sweep done at reached.

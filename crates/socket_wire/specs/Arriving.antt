@@ -3,6 +3,9 @@ use Rattle.std.specs.Prelude.{◌≡◌, ℕ, ◌+◌, ◌<◌, ◌≤◌, ◌�
 use Rattle.std.specs.Prelude.{if◌then◌else◌, nat_lt}
 use Rattle.std.specs.Prelude.{Bool, true, false, Some, None, is_some, Result, Ok, Err}
 use Rattle.std.specs.declared.alloc.AllocError.{AllocError}
+use Rattle.std.specs.Ordering.{nat_cmp}
+use Rattle.std.specs.Map.{lookup}
+use Rattle.std.specs.BTreeMap.{is_at}
 use Rattle.step_values.specs.declared.Path.TheVariants as path
 use Rattle.wires.specs.declared.wire.Arrival.{Arrival}
 use Rattle.wires.specs.declared.wire.Arrival.TheVariants.{ClientClosed, PathGone}
@@ -16,6 +19,7 @@ use Rattle.stream_connections.specs.declared.connections.Closed.TheVariants.{Cli
 use Rattle.socket_wire.specs.Seen.{SeenSockets}
 use Rattle.socket_wire.specs.declared.sockets.taking.Tried.{Tried}
 use Rattle.socket_wire.specs.declared.sockets.taking.Tried.TheVariants.{Arrived, Served, Nothing}
+use Rattle.stream_connections.specs.Dropped.{with_dropped}
 use Rattle.stream_connections.specs.Listed.{Admits, first_idle, first_resting}
 use Rattle.stream_connections.specs.Open.{AreNone, Connections, without_first}
 use Rattle.ready_sockets.specs.Trying.{IsBegun}
@@ -30,7 +34,12 @@ pub record IsTakenIn {A : Type 0} (number now : ℕ) (before : Connections A) (n
     (after : Connections A) : Type 0 where
   pub given : next ≡ number + 1
   pub listed : Admits number now before.clients after.clients
-  pub rest : after ≡ record before { clients = after.clients; has_room = after.has_room }
+  pub rest : after ≡ record before {
+    clients = after.clients;
+    has_room = after.has_room;
+    gone_clients = with_dropped (lookup (is_at (nat_cmp number)) before.clients)
+        before.gone_clients;
+  }
 
 -- No connection is listed.
 pub record IsLeftOut {A : Type 0} (number : ℕ) (before : Connections A) (next : ℕ)
@@ -114,7 +123,7 @@ TakesConnection now Nothing before after = after ≡ before
 pub record AreNew {A : Type 0} (sockets : SeenSockets A) : Type 0 where
   pub ready : IsBegun sockets.readiness.ready
   pub connections : AreNone sockets.connections
-  pub asks : sockets.asks ≡ []
+  pub asks : sockets.asks ≡ record { listed = []; gone = [] }
   pub numbers : sockets.numbers.next ≡ 0
 
 -- the arrival that reports the end of a connection

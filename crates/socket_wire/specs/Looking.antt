@@ -29,7 +29,7 @@ pub record LooksAtAll {A : Type 0} (now : ℕ) (before after : SeenSockets A) : 
 
 -- whether a socket or a connection of an ask is open
 abbrev pub has_asks : {A : Type 0} → SeenSockets A → Bool
-has_asks sockets = nat_lt 0 (length sockets.asks)
+has_asks sockets = nat_lt 0 (length sockets.asks.listed)
     || nat_lt 0 (length sockets.connections.servers)
 
 -- If something may be ready, events are taken only if asks are open and none of them may be ready.

@@ -2,9 +2,6 @@
 use Rattle.std.specs.Prelude.{◌≡◌, ℕ, ◌⊎◌, Bool, true, false, not, List, Option, Some, None, Result}
 use Rattle.std.specs.Prelude.{Ok, Err}
 use Rattle.std.specs.Prelude.{if◌then◌else◌}
-use Rattle.std.specs.Ordering.{nat_cmp}
-use Rattle.std.specs.Map.{remove_entry}
-use Rattle.std.specs.BTreeMap.{insert_entry, is_at}
 use Rattle.suffix_routes.specs.declared.peer.Peer.{Peer}
 use Rattle.step_values.specs.declared.action.Action.{Action}
 use Rattle.step_values.specs.declared.action.Action.TheVariants.{AskUdp, AskTcp, CloseUdp, CloseTcp}
@@ -12,11 +9,12 @@ use Rattle.step_values.specs.declared.action.Action.TheVariants.{Reply}
 use Rattle.step_values.specs.declared.event.Client.TheVariants.{Udp, Tcp}
 use Rattle.stream_connections.specs.declared.client_stream.ClientStream.{ClientStream}
 use Rattle.stream_connections.specs.declared.servers.ServerStream.{ServerStream}
+use Rattle.socket_wire.specs.Asks.{ListsPort, SeenAsks, without_ask}
 use Rattle.socket_wire.specs.Seen.{SeenSockets}
 use Rattle.stream_connections.specs.declared.lost.Lost.{Lost}
 use Rattle.stream_connections.specs.Listed.{RepliesOn, first_resting}
-use Rattle.stream_connections.specs.Open.{Connections, without_client, without_first}
-use Rattle.stream_connections.specs.Open.{without_server}
+use Rattle.stream_connections.specs.Open.{Connections, with_server, without_client}
+use Rattle.stream_connections.specs.Open.{without_first, without_server}
 use Rattle.stream_connections.specs.Queries.{IsBegunWith}
 use Rattle.stream_connections.specs.Serving.{is_over}
 
@@ -28,20 +26,6 @@ MayMakeRoom now before after =
     ⊎ (after ≡ record (without_first (first_resting now before.clients) before)
     { has_room = after.has_room })
 
--- A query by UDP: its port is listed, and no other socket has changed; if not sent, no socket has
--- changed.
-abbrev pub ListsPort : {X : Type 0} → (port : ℕ) → (is_done : Bool) → List (ℕ × X) → List (ℕ × X)
-    → Type 0
-ListsPort {X} port true before after = (socket : X)
-    × (after ≡ insert_entry nat_cmp before port socket)
-ListsPort port false before after = after ≡ before
-
--- A sent query by UDP: its socket is listed at its port, unless memory ran out.
-abbrev pub ListsThis : {X : Type 0} → (port : ℕ) → X → (is_done : Bool) → List (ℕ × X)
-    → List (ℕ × X) → Type 0
-ListsThis port socket true before after = after ≡ insert_entry nat_cmp before port socket
-ListsThis port socket false before after = after ≡ before
-
 -- A begun query over TCP: its connection is listed.
 pub record Begins {A : Type 0} (conn : ℕ) (server : Peer) (query : List ℕ) (now : ℕ)
     (before after : Connections A)
@@ -50,10 +34,7 @@ pub record Begins {A : Type 0} (conn : ℕ) (server : Peer) (query : List ℕ) (
   pub stream : ServerStream A
   pub begun : IsBegunWith server query stream
   pub room : MayMakeRoom now before between
-  pub listed : after ≡ record between {
-    servers = insert_entry nat_cmp between.servers conn stream;
-    has_room = after.has_room;
-  }
+  pub listed : after ≡ record (with_server conn stream between) { has_room = after.has_room }
 
 -- A query over TCP.
 abbrev pub ListsServer : {A : Type 0} → (conn : ℕ) (server : Peer) (query : List ℕ) (now : ℕ)
@@ -87,15 +68,15 @@ pub record AnswersOn {A : Type 0} (conn : ℕ) (reply : List ℕ) (now : ℕ) (i
       else record before { clients = clients })
 
 -- The effect of an action, done or refused.
-abbrev pub Puts : {A X : Type 0} → Action A → (now : ℕ) → (is_done : Bool)
-    → (asks asks' : List (ℕ × X))
+abbrev pub Puts : {A : Type 0} → Action A → (now : ℕ) → (is_done : Bool)
+    → (asks asks' : SeenAsks)
     → (before after : Connections A) → Type 0
 Puts (AskUdp port _ _) now is_done asks asks' before after =
     ListsPort port is_done asks asks' × MayMakeRoom now before after
 Puts (AskTcp conn server query) now is_done asks asks' before after =
     (asks' ≡ asks) × ListsServer conn server query now is_done before after
 Puts (CloseUdp port) now is_done asks asks' before after =
-    (is_done ≡ true) × (asks' ≡ remove_entry (is_at (nat_cmp port)) asks) × (after ≡ before)
+    (is_done ≡ true) × (asks' ≡ without_ask port asks) × (after ≡ before)
 Puts (CloseTcp conn) now is_done asks asks' before after =
     (is_done ≡ true) × (asks' ≡ asks) × (after ≡ without_server conn before)
 Puts (Reply (Udp _) _ _) now is_done asks asks' before after = (asks' ≡ asks) × (after ≡ before)

@@ -10,20 +10,22 @@ use Rattle.mio.specs.declared.net.listener.TcpListener.{TcpListener}
 use Rattle.mio.specs.declared.net.udp.UdpSocket.{UdpSocket}
 use Rattle.ready_sockets.specs.Seen.{SeenReadiness}
 use Rattle.stream_connections.specs.Open.{Connections}
+use Rattle.socket_wire.specs.Asks.{SeenAsks}
 use Rattle.socket_wire.specs.declared.numbers.Numbers.{Numbers}
 use Rattle.socket_wire.specs.declared.words.Words.{Words}
 
--- What may be ready; the sockets of datagrams and for new connections; the connections and the
--- numbers given to them; the sockets of asks, by port; what was read last; the words; the time, in
--- ms, for which a question may wait; the moment of the last sweep and the number of sweeps; and where
--- the turns of clients, asks and servers go on.
+-- The allocator; what may be ready; the sockets of datagrams and for new connections; the connections
+-- and the numbers given to them; the sockets of asks; what was read last; the words; the time, in ms,
+-- for which a question may wait; the moment of the last sweep and the number of sweeps; and where the
+-- turns of clients, asks and servers go on.
 pub record SeenSockets (A : Type 0) : Type 0 where
+  pub alloc : A
   pub readiness : SeenReadiness A
   pub datagrams : UdpSocket
   pub listener : TcpListener
   pub connections : Connections A
   pub numbers : Numbers
-  pub asks : List (ℕ × UdpSocket)
+  pub asks : SeenAsks
   pub buffer : List ℕ
   pub words : Words
   pub deadline : ℕ

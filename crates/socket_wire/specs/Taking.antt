@@ -3,10 +3,8 @@ use Rattle.std.specs.Prelude.{◌≡◌, ℕ, ◌≤◌, length, Bool, true, fal
 use Rattle.std.specs.Prelude.{IfOk, is_ok}
 use Rattle.std.specs.Prelude.{List, take, Option, Some, None, Result, Ok, Err}
 use Rattle.std.specs.declared.alloc.AllocError.{AllocError}
-use Rattle.std.specs.Ordering.{nat_cmp}
-use Rattle.std.specs.Map.{remove_entry}
-use Rattle.std.specs.BTreeMap.{is_at}
 use Rattle.step_values.specs.declared.Path.TheVariants as path
+use Rattle.socket_wire.specs.Asks.{SeenAsks, without_ask}
 use Rattle.socket_wire.specs.Seen.{SeenSockets}
 use Rattle.std.specs.declared.io.Error.{Error}
 use Rattle.suffix_routes.specs.declared.peer.Peer.{Peer}
@@ -17,6 +15,7 @@ use Rattle.wires.specs.declared.wire.Arrival.TheVariants.{ServerDatagram, Server
 use Rattle.stream_connections.specs.declared.client_stream.ClientStream.{ClientStream}
 use Rattle.stream_connections.specs.Answers.{refusal_of}
 use Rattle.stream_connections.specs.declared.answers.Heard.{Heard}
+use Rattle.stream_connections.specs.declared.connections.ServerHeard.{ServerHeard}
 use Rattle.stream_connections.specs.declared.answers.Heard.TheVariants as heard
 use Rattle.stream_connections.specs.declared.answers.Refusal.{Refusal}
 use Rattle.stream_connections.specs.declared.answers.Refusal.TheVariants.{WouldBlock, Interrupted}
@@ -119,14 +118,17 @@ pub record TakesClient {A : Type 0} (conn now : ℕ) (result : Result (Tried A) 
 -- The arrival of the server on the connection with this number: the octets read, unless memory ran
 -- out. Nothing arrives if the server sends nothing more, the stream failed, or the read would
 -- block.
-abbrev pub ArrivesOf : {A : Type 0} → (conn : ℕ) (buffer : List ℕ) → Option (Peer × Heard)
+abbrev pub ArrivesBy : {A : Type 0} → (conn : ℕ) (buffer : List ℕ) → Peer → Heard → Result (Tried A) AllocError → Type 0
+ArrivesBy conn buffer from (heard.Octets count) (Ok tried) = tried ≡ Arrived (ServerStream conn from (take count buffer))
+ArrivesBy conn buffer from (heard.Octets count) (Err _) = Unit {0}
+ArrivesBy conn buffer from heard.Nothing result = result ≡ Ok Nothing
+ArrivesBy conn buffer from heard.Done result = result ≡ Ok Served
+ArrivesBy conn buffer from heard.Failed result = result ≡ Ok Served
+
+-- what arrives of the server with this number; nothing if not open
+abbrev pub ArrivesOf : {A : Type 0} → (conn : ℕ) (buffer : List ℕ) → Option ServerHeard
     → Result (Tried A) AllocError → Type 0
-ArrivesOf conn buffer (Some (from, heard.Octets count)) (Ok tried) =
-    tried ≡ Arrived (ServerStream conn from (take count buffer))
-ArrivesOf conn buffer (Some (from, heard.Octets count)) (Err _) = Unit {0}
-ArrivesOf conn buffer (Some (from, heard.Nothing)) result = result ≡ Ok Nothing
-ArrivesOf conn buffer (Some (from, heard.Done)) result = result ≡ Ok Served
-ArrivesOf conn buffer (Some (from, heard.Failed)) result = result ≡ Ok Served
+ArrivesOf conn buffer (Some served) result = ArrivesBy conn buffer served.server served.heard result
 ArrivesOf conn buffer None result = result ≡ Ok Nothing
 
 -- whether a connection to a server is closed after this result
@@ -139,7 +141,7 @@ is_closed_by (Err _) = true
 -- Reading the server on the connection with this number. No other changes.
 pub record TakesServer {A : Type 0} (conn : ℕ) (result : Result (Tried A) AllocError)
     (before after : SeenSockets A) : Type 0 where
-  pub served : Option (Peer × Heard)
+  pub served : Option ServerHeard
   pub servers : List (ℕ × ServerConnection A)
   pub serves : ServesServer conn served after.buffer before.connections.servers servers
   pub arrives : ArrivesOf conn after.buffer served result
@@ -148,9 +150,8 @@ pub record TakesServer {A : Type 0} (conn : ℕ) (result : Result (Tried A) Allo
   pub rest : after ≡ record before { connections = after.connections; buffer = after.buffer }
 
 -- the sockets of asks, without the socket at this port if its end is reported
-abbrev pub left_by : {A X : Type 0} → (port : ℕ) → Result (Tried A) AllocError → List (ℕ × X)
-    → List (ℕ × X)
-left_by port (Ok (Arrived (PathGone _))) asks = remove_entry (is_at (nat_cmp port)) asks
+abbrev pub left_by : {A : Type 0} → (port : ℕ) → Result (Tried A) AllocError → SeenAsks → SeenAsks
+left_by port (Ok (Arrived (PathGone _))) asks = without_ask port asks
 left_by port _ asks = asks
 
 -- A datagram at this port, or the end of its path, if any.
@@ -162,15 +163,15 @@ IsOfAsk port buffer Served = Unit {0}
 IsOfAsk port buffer Nothing = Unit {0}
 
 -- The path of the ask at this port is gone, and its socket too.
-abbrev pub IsLost : {A X : Type 0} → (port : ℕ) → Tried A → (before after : List (ℕ × X)) → Type 0
+abbrev pub IsLost : {A : Type 0} → (port : ℕ) → Tried A → (before after : SeenAsks) → Type 0
 IsLost port tried before after =
     (tried ≡ Arrived (PathGone (path.Udp port)))
-    × (after ≡ remove_entry (is_at (nat_cmp port)) before)
+    × (after ≡ without_ask port before)
 
 -- The path of an ask whose socket refused a read: if the read would block, nothing is there and
 -- nothing changes; for any other reason path and socket are gone.
-abbrev pub LosesAsk : {A X : Type 0} → (port : ℕ) → Refusal → Tried A
-    → (before after : List (ℕ × X)) → Type 0
+abbrev pub LosesAsk : {A : Type 0} → (port : ℕ) → Refusal → Tried A → (before after : SeenAsks)
+    → Type 0
 LosesAsk port WouldBlock tried before after = (tried ≡ Nothing) × (after ≡ before)
 LosesAsk port Interrupted tried before after = IsLost port tried before after
 LosesAsk port NoDescriptor tried before after = IsLost port tried before after
@@ -178,9 +179,9 @@ LosesAsk port Failed tried before after = IsLost port tried before after
 
 -- The result of reading the port of an ask, by the answer of its socket: a datagram; or if refused,
 -- nothing or the end of its path.
-abbrev pub HearsAsk : {A X : Type 0} → (port : ℕ) → Result (ℕ × SocketAddr) Error
+abbrev pub HearsAsk : {A : Type 0} → (port : ℕ) → Result (ℕ × SocketAddr) Error
     → (buffer : List ℕ)
-    → Result (Tried A) AllocError → (before after : List (ℕ × X)) → Type 0
+    → Result (Tried A) AllocError → (before after : SeenAsks) → Type 0
 HearsAsk port (Ok (count, from)) buffer result before after =
     IsReceived count (peer_at from) buffer (ServerDatagram port) result × (after ≡ before)
 HearsAsk port (Err error) buffer (Ok tried) before after = LosesAsk port (refusal_of error) tried

@@ -25,7 +25,7 @@ client_in_turn sockets = first_number sockets.next_client sockets.connections.cl
 
 -- the port of the ask whose turn it is
 abbrev pub ask_in_turn : {A : Type 0} → SeenSockets A → Option ℕ
-ask_in_turn sockets = first_number sockets.next_ask sockets.asks
+ask_in_turn sockets = first_number sockets.next_ask sockets.asks.listed
 
 -- the connection to a server whose turn it is
 abbrev pub server_in_turn : {A : Type 0} → SeenSockets A → Option ℕ

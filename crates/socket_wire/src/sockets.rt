@@ -11,6 +11,7 @@ mod taking;
 mod trying;
 
 use crate::address::address_of;
+use crate::asks::Asks;
 use crate::listeners::{connections_at, datagrams_at};
 use crate::numbers::Numbers;
 use crate::spare::Spare;
@@ -19,7 +20,6 @@ use mio::net::{TcpListener, UdpSocket};
 use plain_values::Octets;
 use ready_sockets::Readiness;
 use std::alloc::{AllocError, Allocator};
-use std::collections::BTreeMap;
 use std::io;
 use std::marker::Model;
 use std::net::Net;
@@ -38,7 +38,8 @@ const PAUSE: u64 = 5;
 /// The most sockets that a turn tries.
 const TRIES: u8 = 64;
 
-/// The sockets of a wire. Contracts see all but the runtime, the allocator and the spare memory.
+/// The sockets of a wire. Contracts see all but the spare memory and the runtime, of whose type a
+/// body has no second value.
 #[derive(Drop)]
 pub(crate) struct Sockets<'a, R: Net, A: Allocator> {
     rt: &'a R,
@@ -49,7 +50,7 @@ pub(crate) struct Sockets<'a, R: Net, A: Allocator> {
     /// The connections of clients and of asks.
     connections: Connections<A>,
     numbers: Numbers,
-    asks: BTreeMap<u16, UdpSocket, A>,
+    asks: Asks<A>,
     buffer: Box<[u8; LARGEST], A>,
     spare: Spare<A>,
     words: Words,
@@ -70,12 +71,13 @@ impl<'a, R: Net, A: Allocator> Model for Sockets<'a, R, A> {
     ghost Value = { SeenSockets A };
 
     ghost view = { λ s. record {
+      alloc = s.alloc;
       readiness = s.readiness;
       datagrams = s.datagrams;
       listener = s.listener;
       connections = s.connections;
       numbers = s.numbers;
-      asks = s.asks.entries;
+      asks = s.asks;
       buffer = s.buffer.value;
       words = s.words;
       deadline = s.deadline;
@@ -98,6 +100,7 @@ impl<'a, R: Net, A: Allocator + Copy> Sockets<'a, R, A> {
         words: Words,
     ) -> io::Result<Sockets<'a, R, A>>
         ensures new { IfOk result (λ sockets. AreNew sockets) }
+        ensures alloc { IfOk result (λ sockets. sockets.alloc ≡ alloc) }
         ensures deadline { IfOk result (λ sockets. sockets.deadline ≡ limits.now.deadline_ms) }
         ensures words { IfOk result (λ sockets. sockets.words ≡ words) }
     {
@@ -114,7 +117,7 @@ impl<'a, R: Net, A: Allocator + Copy> Sockets<'a, R, A> {
             listener,
             connections: Connections::new(alloc),
             numbers: Numbers::new(),
-            asks: BTreeMap::new(alloc),
+            asks: Asks::new(alloc),
             buffer,
             spare: Spare::new(alloc),
             words,
@@ -230,6 +233,6 @@ impl<'a, R: Net, A: Allocator + Copy> Sockets<'a, R, A> {
     fn has_asks(&self) -> bool
         ensures { result ≡ has_asks self.now }
     {
-        !self.asks.is_empty() || self.connections.has_server()
+        self.asks.has_any() || self.connections.has_server()
     }
 }

@@ -1,5 +1,6 @@
 -- Lemmas on decisions for the proofs of crates above.
 pub use Rattle.step_actions.proofs.Carried.{carries_nothing, fits_plain, next_is, plain_next}
+pub use Rattle.step_actions.proofs.Changes.{kept_later, kept_put, put_back}
 pub use Rattle.step_actions.proofs.DueFirst.{rest_is, timeout_fits}
 pub use Rattle.step_actions.proofs.Made.{decides_as, decides_by}
 pub use Rattle.step_actions.proofs.Following.{first_follows, kept_of, listed_within, more_left, next_by_tcp, next_by_udp, server_within, tcp_goes_on, udp_goes_on}

@@ -26,6 +26,11 @@ later_taken m n xs le all = All-weaker (λ (x : Waiting). x.taken ≤ m) (λ (x 
 pub kept_rest : (c : Config) (m k : ℕ) (path : Path) (asks : List Ask) → AllByRecursion (IsKeptAsk c m k) asks → AllByRecursion (IsKeptAsk c m k) (without_path path asks)
 kept_rest c m k path asks all = All-filter (IsKeptAsk c m k) (λ b. not (same_path b.path path)) asks all
 
+-- the list without the ask on a path, if any
+pub listed_without : (closed : Option Path) (i : Inquiries) → AreListed i → AreListed (record i { asks = without_closed closed i.asks })
+listed_without None i listed = listed
+listed_without (Some path) i listed = listed_without_path path i.capacity i.asks listed
+
 -- an ask fewer
 pub kept_without : (c : Config) (e : Cache) (i i' : Inquiries) (ws : List Waiting) (ps : List ℕ) (m k : ℕ) (closed : Option Path) → IsKeptForwarder c e i ws ps m k → i' ≡ record i { asks = without_closed closed i.asks } → IsKeptForwarder c e i' ws ps m k
 kept_without c e i i' ws ps m k closed kept is = subst (λ (q : Inquiries). IsKeptForwarder c e q ws ps m k) (sym is) (record {
@@ -33,7 +38,7 @@ kept_without c e i i' ws ps m k closed kept is = subst (λ (q : Inquiries). IsKe
   cache = kept.cache;
   accepted = kept.accepted;
   capacity = kept.capacity;
-  listed = still closed;
+  listed = listed_without closed i kept.listed;
   asks = by closed;
   few = kept.few;
   by_arrival = kept.by_arrival;
@@ -44,10 +49,6 @@ kept_without c e i i' ws ps m k closed kept is = subst (λ (q : Inquiries). IsKe
   counted = kept.counted;
 })
   where
-    still : (o : Option Path) → AreListed (record i { asks = without_closed o i.asks })
-    still None = kept.listed
-    still (Some path) = listed_without_path path i.capacity i.asks kept.listed
-
     by : (o : Option Path) → AllByRecursion (IsKeptAsk c m k) (without_closed o i.asks)
     by None = kept.asks
     by (Some path) = kept_rest c m k path i.asks kept.asks

@@ -1,5 +1,6 @@
 pub mod CallerLemmas
 pub mod Carried
+pub mod Changes
 pub mod DueFirst
 pub mod Fates
 pub mod Folds

@@ -1,8 +1,9 @@
 -- The decision of a step, before it is put in place.
 use Rattle.std.specs.Prelude.{◌≡◌, ℕ, suc, ◌+◌, ◌^◌, ◌<◌, ◌≤◌, Bool, if◌then◌else◌, not, nat_le, List, [], ◌∷◌, ◌++◌}
-use Rattle.std.specs.Prelude.{length, drop, filter, slice_set, Option, Some, None, Result, Ok, Err}
+use Rattle.std.specs.Prelude.{length, drop, filter, slice_set, Option, Some, None, IsSome, Result, Ok, Err}
 use Rattle.std.specs.declared.alloc.AllocError.{AllocError}
 use Rattle.suffix_routes.specs.Values.{Config}
+use Rattle.suffix_routes.specs.Serving.{serving_route_of}
 use Rattle.dns_message.specs.Values.{Question}
 use Rattle.outstanding.specs.declared.ask.Path.{Path}
 use Rattle.step_actions.specs.declared.decision.Preferred.{Preferred}
@@ -17,6 +18,7 @@ use Rattle.outstanding.specs.Lists.{on_path as ask_on, without_path, MayBegin, i
 use Rattle.outstanding.specs.Values.{Ask}
 use Rattle.step_table.specs.Steps.{Done, Fate, gets, waits, gives_up, ask_list, tcp_count, closes, reply_in}
 use Rattle.step_table.specs.Steps.{with_promoted, offering_step, sends, transport_of}
+use Rattle.step_table.specs.Attempts.{group_of, servers_in}
 use Rattle.step_table.specs.Row.{is_due_at, Happens}
 use Rattle.answer_builder.specs.Transports.{answer_of}
 use Rattle.trust_rank.specs.Values.{Piece}
@@ -112,8 +114,7 @@ pub record CanWait (c : Config) (n : ℕ) (s : State) (x : Waiting) : Type 0 whe
 -- the preferred server is of its own route
 abbrev pub IsServed : Config → Option Preferred → Type 0
 IsServed c None = Unit {0}
-IsServed c (Some p) = p.server < length (Rattle.step_table.specs.Attempts.servers_in
-    (Rattle.step_table.specs.Attempts.group_of c p.route))
+IsServed c (Some p) = p.server < length (servers_in (group_of c p.route))
 
 -- the aliases of the redirection were accepted by now
 abbrev pub IsSentEarlier : ℕ → Option Onward → Type 0
@@ -145,19 +146,19 @@ FitsChange c n s (Join b) = CanWait c n s b.value
 FitsChange c n s (Open b) = CanWait c n s b.value.waiting × CanFollow c n s s.asks b.value.ask
 FitsChange c n s (Close path preferred) = IsServed c preferred
 FitsChange c n s (SendOn b) = CanSendOn c n s b.value.path b.value.preferred b.value.onward.items b.value.ask
-FitsChange c n s (AskAgain path b) = Rattle.std.specs.Prelude.IsSome (ask_on path s.asks)
+FitsChange c n s (AskAgain path b) = IsSome (ask_on path s.asks)
     × CanFollow c n s (without_path path s.asks) b.value
 FitsChange c n s (Expire closed) = Unit {0}
 
 -- a piece for the cache: the route of its ask serves its name
 abbrev pub IsRouted : Config → Piece → Type 0
-IsRouted c p = Rattle.suffix_routes.specs.Serving.serving_route_of c p.slot.key ≡ Some p.route
+IsRouted c p = serving_route_of c p.slot.key ≡ Some p.route
 
 -- the allowed changes of now
 pub record CanChange {A : Type 0} (c : Config) (n : ℕ) (s : State) (d : Decision A) : Type 0 where
   pub fits : FitsChange c n s d.change
   pub few : length (pieces_of d.carried.items) < 2 ^ 32
-  pub routed : Rattle.std.specs.List.AllByRecursion (IsRouted c) (pieces_of d.carried.items)
+  pub routed : AllByRecursion (IsRouted c) (pieces_of d.carried.items)
 
 -- the done step; rooms has true for each new slot that found memory
 abbrev pub next_of : {A : Type 0} → ℕ → List Bool → State → Decision A → Done

@@ -1,5 +1,7 @@
-pub mod Kept
+pub mod Attempts
 pub mod Decision
-pub mod LookUps
-pub mod Fates
 pub mod Due
+pub mod Fates
+pub mod Kept
+pub mod LookUps
+pub mod Putting

@@ -5,6 +5,7 @@ ghost use Rattle.suffix_routes.specs.Values.{IsConfig};
 ghost use Rattle.outstanding.specs.Draws.{drawn_by_tcp};
 ghost use Rattle.step_table.specs.Attempts.{group_of, servers_in, peer_at, over_udp, over_tcp, ask_by, freed_by};
 ghost use Rattle.step_table.specs.Attempts.{plan_of};
+ghost use Rattle.step_actions.specs.Attempts.{pair_of};
 
 use crate::step_start::StepStartRef;
 use dns_message::Question;
@@ -14,33 +15,36 @@ use std::alloc::{AllocError, Allocator};
 use std::hash::BuildHasher;
 use suffix_routes::{Config, Peer, RouteId};
 
-/// The identifier of the first word, and the number of the next connection: the count of asks by
+/// The identifier of an ask, and the path it goes over.
+#[derive(Clone, Copy)]
+pub struct Drawn {
+    pub id: u16,
+    pub path: Path,
+}
+
+/// The identifier of the first word, and the next connection, whose number is the count of asks by
 /// TCP before. `None` for the last number, which is never given.
-pub fn draw_connection(words: [u32; 8], count: u64) -> Option<(u16, u64)>
-    ensures { result ≡ drawn_by_tcp words count }
+pub fn draw_connection(words: [u32; 8], count: u64) -> Option<Drawn>
+    ensures { pair_of result ≡ over_tcp (drawn_by_tcp words count) }
 {
     if count == u64::MAX {
         return None;
     }
-    Some(((words[0] % 65536) as u16, count))
+    Some(Drawn {
+        id: (words[0] % 65536) as u16,
+        path: Path::Tcp(count),
+    })
 }
 
-/// A drawn port as a path.
-pub fn by_udp(drawn: Option<(u16, u16)>) -> Option<(u16, Path)>
-    ensures { result ≡ over_udp drawn }
+/// A drawn identifier, with the drawn port as a path.
+pub fn by_udp(drawn: Option<(u16, u16)>) -> Option<Drawn>
+    ensures { pair_of result ≡ over_udp drawn }
 {
     match drawn {
-        Some((id, port)) => Some((id, Path::Udp(port))),
-        None => None,
-    }
-}
-
-/// A connection's number as a path.
-pub fn by_tcp(drawn: Option<(u16, u64)>) -> Option<(u16, Path)>
-    ensures { result ≡ over_tcp drawn }
-{
-    match drawn {
-        Some((id, conn)) => Some((id, Path::Tcp(conn))),
+        Some((id, port)) => Some(Drawn {
+            id,
+            path: Path::Udp(port),
+        }),
         None => None,
     }
 }
@@ -68,15 +72,15 @@ pub fn new_ask<'a, H: BuildHasher + Drop, A: Allocator + Copy>(
     start: &StepStartRef<'a, H, A>,
     question: &Question<A>,
     attempt: Attempt,
-    drawn: Option<(u16, Path)>,
+    drawn: Option<Drawn>,
 ) -> Result<Option<Ask<A>>, AllocError>
     ensures { IfOk result (λ ask. ask ≡ ask_by start.now.moment question.now attempt.route attempt.server attempt.used
-        (peer_at start.now.config attempt.route attempt.server) drawn) }
+        (peer_at start.now.config attempt.route attempt.server) (pair_of drawn)) }
 {
     let Some(peer) = server_at(start.config, attempt.route, attempt.server) else {
         return Ok(None);
     };
-    let Some((id, path)) = drawn else {
+    let Some(Drawn { id, path }) = drawn else {
         return Ok(None);
     };
     let question = question.copy(start.alloc)?;

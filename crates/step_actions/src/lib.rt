@@ -7,11 +7,12 @@ mod decision;
 mod due;
 mod fate;
 mod kept;
+mod lists;
 mod out_of_tries;
 mod replies;
 mod step_start;
 
-pub use attempts::{Attempt, by_tcp, by_udp, draw_connection, freed_port, new_ask, plan};
+pub use attempts::{Attempt, Drawn, by_udp, draw_connection, freed_port, new_ask, plan};
 pub use decision::{Change, Decision, Opening, Preferred, Redirect};
 pub use due::{Due, Oldest, first_due, is_live};
 pub use fate::{Fate, fate_of, redirected};

@@ -1,12 +1,12 @@
 -- Texts of answers to questions with one spelling: they differ in identifier, opcode and RD alone
 -- (RFC 1035 4.1.1).
-use Rattle.std.specs.Prelude.{◌≡◌, ℕ, ◌+◌, ◌*◌, ◌/◌, ◌%◌, ◌<◌, ◌==◌, ◌&&◌, Bool, true, false, List, [], ◌∷◌, ◌++◌, drop}
+use Rattle.std.specs.Prelude.{◌≡◌, ℕ, ◌<◌, ◌==◌, ◌&&◌, Bool, true, false, List, ◌++◌, drop}
 use Rattle.std.specs.Prelude.{slice_index, option_map, Option, Some, None, Result, Ok, Err}
 use Rattle.std.specs.List.{AllByRecursion}
 use Rattle.std.specs.Str.{bytes_eq}
 use Rattle.dns_name.specs.Labels.{octets_of}
 use Rattle.dns_message.specs.Values.{Question}
-use Rattle.dns_message.specs.Writing.{bit, octets16}
+use Rattle.dns_message.specs.Writing.{reply_front}
 use Rattle.record_cache.specs.Values.{Held}
 use Rattle.answer_builder.specs.declared.asked.Transport.{Transport}
 use Rattle.answer_builder.specs.declared.asked.Transport.TheVariants.{Udp, Tcp}
@@ -36,13 +36,9 @@ abbrev pub sends_text : Why → Waiting → Option (List ℕ) → Action
 sends_text why x (Some text) = send_reply x.client text why
 sends_text why x None = gives_up TooLarge x
 
--- the identifier, and the octet with QR, opcode, RD and the TC of this octet
-abbrev pub front_of : Asked → ℕ → List ℕ
-front_of a flags = octets16 a.id ++ (128 + a.opcode * 8 + flags / 2 % 2 * 2 + bit a.rd 1) ∷ []
-
 -- the text with this front in place of its own; TC stays
 abbrev pub with_front : Asked → List ℕ → List ℕ
-with_front a text = front_of a (slice_index text 2) ++ drop 3 text
+with_front a text = reply_front a.id a.opcode (slice_index text 2) a.rd ++ drop 3 text
 
 -- names are equal if their octets are, letter case included
 abbrev pub same_spelling : List (List ℕ) → List (List ℕ) → Bool

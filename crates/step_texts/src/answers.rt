@@ -12,13 +12,12 @@ ghost use Rattle.answer_builder.specs.Transports.{answer_of};
 ghost use Rattle.step_values.specs.Values.{action_of};
 ghost use Rattle.step_values.specs.declared.action.Why.TheVariants.{Answered};
 ghost use Rattle.step_table.specs.Steps.{sends, transport_of};
-ghost use Rattle.step_texts.specs.Spelling.{are_alike, front_of, is_for, IsSpelled, ok_text, same_spelling};
+ghost use Rattle.step_texts.specs.Spelling.{are_alike, is_for, IsSpelled, ok_text, same_spelling};
 ghost use Rattle.step_texts.specs.Spelling.{with_front};
 
 use crate::texts::{reply, reply_with, text_of, transport_of};
 use answer_builder::{AskedRef, Sections, Transport};
-use byteorder::{BigEndian, ByteOrder};
-use dns_message::Question;
+use dns_message::{Question, reply_front};
 use dns_name::Name;
 use plain_values::{Octets, PlainList};
 use record_cache::Held;
@@ -211,22 +210,9 @@ fn under_front<A: Allocator + Copy>(
     ensures { IfOk result (λ own. own ≡ with_front asked.now text.now) }
 {
     let mut octets = Vec::with_capacity(alloc, text.len())?;
-    octets.extend_from_slice(&front_of(asked, text[2]))?;
+    octets.extend_from_slice(&reply_front(asked.id, asked.opcode, text[2], asked.rd))?;
     octets.extend_from_slice(&text[3..])?;
     Ok(Octets::from_vec(octets))
-}
-
-/// The first three octets of the answer to a request: identifier, QR, opcode and RD, and the TC of
-/// these flags; AA is clear.
-fn front_of(asked: &AskedRef<'_>, flags: u8) -> [u8; 3]
-    requires { asked.now.opcode < 16 }
-    ensures { result ≡ front_of asked.now flags }
-{
-    let cut = flags / 2 % 2;
-    let mut front = [0; 3];
-    BigEndian::write_u16(&mut front, asked.id);
-    front[2] = 128 + 8 * asked.opcode + 2 * cut + u8::from(asked.rd);
-    front
 }
 
 /// The text for a question in one spelling; `None` if too large.

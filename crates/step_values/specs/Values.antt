@@ -1,5 +1,5 @@
 -- Events, actions and steps.
-use Rattle.std.specs.Prelude.{ℕ, ◌≤◌, length, Bool, List, [], ◌∷◌, map, Option, Some, None}
+use Rattle.std.specs.Prelude.{ℕ, Bool, List, map, Option, Some, None}
 use Rattle.suffix_routes.specs.declared.peer.Peer.{Peer}
 use Rattle.step_values.specs.declared.event.Client.{Client}
 use Rattle.outstanding.specs.declared.ask.Path.{Path}
@@ -9,8 +9,6 @@ use Rattle.step_values.specs.declared.event.Event.{Event as OwnedEvent}
 use Rattle.step_values.specs.declared.event.Event.TheVariants.{Client as OfClient, Delivery, PathFailed, Tick, Restart}
 use Rattle.step_values.specs.declared.action.Action.{Action as OwnedAction}
 use Rattle.step_values.specs.declared.action.Action.TheVariants.{AskUdp, AskTcp, CloseUdp, CloseTcp, Reply}
-use Rattle.step_values.specs.declared.actions.Listed.{Listed}
-use Rattle.step_values.specs.declared.actions.Listed.TheVariants.{Nothing, One, More}
 
 -- a client's message, a message on a path, the end of a path, a tick, or a restart
 pub data Event : Type 0 where
@@ -27,26 +25,6 @@ pub data Action : Type 0 where
   close_udp : ℕ → Action
   close_tcp : ℕ → Action
   send_reply : Client → List ℕ → Why → Action
-
--- ---- where actions lie
-
--- the actions of a list, in order
-abbrev pub listed_in : {A : Type 0} → Listed A → List (OwnedAction A)
-listed_in Nothing = []
-listed_in (One action) = action ∷ []
-listed_in (More actions) = actions.items
-
--- a list in memory of its own has an action
-abbrev pub HasActions : {A : Type 0} → Listed A → Type 0
-HasActions Nothing = Unit {0}
-HasActions (One action) = Unit {0}
-HasActions (More actions) = 1 ≤ length actions.items
-
--- the list has one action, in place
-abbrev pub IsOne : {A : Type 0} → Listed A → Type 0
-IsOne Nothing = ⊥
-IsOne (One action) = Unit {0}
-IsOne (More actions) = ⊥
 
 -- ---- the parts of an event and of an action
 

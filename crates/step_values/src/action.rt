@@ -3,7 +3,7 @@
 ghost use Rattle.std.specs.Prelude.{◌≡◌, IfOk};
 
 use crate::event::Client;
-use plain_values::{Octets, PlainList};
+use plain_values::{FewList, Octets, PlainList};
 use std::alloc::{AllocError, Allocator, Global};
 use suffix_routes::Peer;
 
@@ -71,6 +71,9 @@ pub enum Action<A: Allocator = Global> {
         why: Why,
     },
 }
+
+/// Actions, in order. Most steps have a single action, and listing it does not allocate.
+pub type Actions<A> = FewList<Action<A>, A>;
 
 impl<A: Allocator + Copy> Action<A> {
     /// An equal action.

@@ -2,12 +2,10 @@
 #![tactic(auto)]
 
 mod action;
-mod actions;
 mod event;
 mod step;
 
-pub use action::{Action, Why};
-pub use actions::Actions;
+pub use action::{Action, Actions, Why};
 pub use event::{Client, Event};
 pub use outstanding::Path;
 pub use step::{Outcome, Step, StepInput};

@@ -2,7 +2,7 @@
 
 ghost use Rattle.std.specs.Prelude.{◌≡◌, IfOk};
 
-use crate::actions::Actions;
+use crate::action::Actions;
 use crate::event::Event;
 use std::alloc::{AllocError, Allocator, Global};
 use std::marker::Model;

@@ -1,4 +1,5 @@
 pub mod Answers
+pub mod Dropped
 pub mod Listed
 pub mod Open
 pub mod Queries

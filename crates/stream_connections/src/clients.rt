@@ -1,6 +1,6 @@
 //! The connections of clients.
 
-ghost use Rattle.std.specs.Prelude.{◌≡◌, ◌+◌, ◌<◌, ◌≤◌, if◌then◌else◌, [], length, nat_le, is_some, OnOk, OnErr};
+ghost use Rattle.std.specs.Prelude.{◌≡◌, ◌+◌, ◌<◌, ◌≤◌, if◌then◌else◌, [], length, nat_le, is_some, IfOk, OnOk, OnErr};
 ghost use Rattle.std.specs.Ordering.{nat_cmp};
 ghost use Rattle.std.specs.Map.{lookup, remove_entry};
 ghost use Rattle.std.specs.BTreeMap.{is_at};
@@ -60,22 +60,24 @@ impl<A: Allocator + Copy> Clients<A> {
         self.open.len()
     }
 
-    /// Lists a connection under its number.
+    /// Lists a connection under its number. Returns the one listed there before, if any.
     pub fn admit(
         &mut self,
         alloc: A,
         conn: u64,
         stream: TcpStream,
         now: u64,
-    ) -> Result<(), AllocError>
+    ) -> Result<Option<ClientStream<A>>, AllocError>
         requires { length self.old < 1024 }
         ensures ok { OnOk result (Admits conn now self.old self.new) }
+        ensures before { IfOk result (λ before. before ≡ lookup (is_at (nat_cmp conn)) self.old) }
         ensures err { OnErr result (self.new ≡ self.old) }
         ensures number { length self.new ≤ length self.old + 1 }
     {
-        self.open
+        let before = self
+            .open
             .insert(conn, ClientStream::new(alloc, stream, now))?;
-        Ok(())
+        Ok(before)
     }
 
     /// Sends the octets left for the client with this number, and reads a piece of its stream into
@@ -104,13 +106,13 @@ impl<A: Allocator + Copy> Clients<A> {
         Some(client.reply(alloc, reply, now))
     }
 
-    /// Closes the connection with this number; false if not open.
-    pub fn close(&mut self, conn: u64) -> bool
-        ensures open { result ≡ is_some (lookup (is_at (nat_cmp conn)) self.old) }
+    /// Takes out the connection with this number, if open.
+    pub fn take_out(&mut self, conn: u64) -> Option<ClientStream<A>>
+        ensures open { result ≡ lookup (is_at (nat_cmp conn)) self.old }
         ensures rest { self.new ≡ remove_entry (is_at (nat_cmp conn)) self.old }
-        ensures number { length self.new + (if result then 1 else 0) ≡ length self.old }
+        ensures number { length self.new + (if is_some result then 1 else 0) ≡ length self.old }
     {
-        self.open.remove(&conn).is_some()
+        self.open.remove(&conn)
     }
 
     /// The number of the oldest client that waits for nothing.

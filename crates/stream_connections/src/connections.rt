@@ -3,14 +3,18 @@
 ghost use Rattle.std.specs.Prelude.{◌≡◌, ◌<◌, length, drop, slice_get, nat_lt};
 ghost use Rattle.std.specs.Prelude.{true, is_some, IsTrue, OnOk, OnErr};
 ghost use Rattle.std.specs.Ordering.{nat_cmp};
-ghost use Rattle.std.specs.BTreeMap.{insert_entry};
+ghost use Rattle.std.specs.Map.{lookup};
+ghost use Rattle.std.specs.BTreeMap.{is_at};
+ghost use Rattle.stream_connections.specs.Dropped.{with_dropped};
 ghost use Rattle.stream_connections.specs.Listed.{Admits, RepliesOn, ServesOn, first_idle, first_number, first_resting};
 ghost use Rattle.stream_connections.specs.Listed.{is_late_on};
 ghost use Rattle.stream_connections.specs.Open.{AreNone, MakesPlace, ServesServer};
-ghost use Rattle.stream_connections.specs.Open.{without_client, without_first, without_server};
+ghost use Rattle.stream_connections.specs.Open.{with_server, without_client, without_first, without_server};
 
 use crate::answers::Heard;
+use crate::client_stream::ClientStream;
 use crate::clients::Clients;
+use crate::dropped::Dropped;
 use crate::lost::Lost;
 use crate::servers::ServerStream;
 use mio::net::TcpStream;
@@ -18,6 +22,13 @@ use std::alloc::{AllocError, Allocator, Global};
 use std::collections::{BTreeMap, VecDeque};
 use std::marker::Model;
 use suffix_routes::Peer;
+
+/// The server on a connection, and what its stream gave.
+#[derive(Drop)]
+pub struct ServerHeard {
+    pub server: Peer,
+    pub heard: Heard,
+}
 
 /// A connection closed by the wire.
 #[derive(Clone, Copy, Drop)]
@@ -36,15 +47,24 @@ pub struct Connections<A: Allocator = Global> {
     clients: Clients<A>,
     servers: BTreeMap<u64, ServerStream<A>, A>,
     ends: VecDeque<Closed, A>,
+    gone_clients: Dropped<ClientStream<A>>,
+    gone_servers: Dropped<ServerStream<A>>,
 }
 
 impl<A: Allocator> Model for Connections<A> {
     ghost use Rattle.std.specs.VecDeque.{deque_len, deque_capacity};
-    ghost use Rattle.stream_connections.specs.Open.{AllEndsFit, Connections, seen_as};
+    ghost use Rattle.stream_connections.specs.Open.{AllEndsFit, Connections, has_room};
 
     ghost Value = { Connections A };
 
-    ghost view = { λ c. seen_as c.clients c.servers.entries c.ends.items (deque_len c.ends) (deque_capacity c.ends) };
+    ghost view = { λ c. record {
+      clients = c.clients;
+      servers = c.servers.entries;
+      closed = c.ends.items;
+      has_room = has_room c.clients c.servers.entries (deque_len c.ends) (deque_capacity c.ends);
+      gone_clients = c.gone_clients;
+      gone_servers = c.gone_servers;
+    } };
 
     ghost invariant = { λ c. AllEndsFit c.clients c.servers.entries (deque_len c.ends) (deque_capacity c.ends) };
 }
@@ -58,6 +78,8 @@ impl<A: Allocator + Copy> Connections<A> {
             clients: Clients::new(alloc),
             servers: BTreeMap::new(alloc),
             ends: VecDeque::new(alloc),
+            gone_clients: Dropped::new(),
+            gone_servers: Dropped::new(),
         }
     }
 
@@ -82,7 +104,8 @@ impl<A: Allocator + Copy> Connections<A> {
     pub fn close_client(&mut self, conn: u64)
         ensures { self.new ≡ without_client conn self.old }
     {
-        if self.clients.close(conn) {
+        if let Some(client) = self.clients.take_out(conn) {
+            self.gone_clients.take(client);
             self.ends.push_back_reserved(Closed::Client(conn));
         }
     }
@@ -91,7 +114,8 @@ impl<A: Allocator + Copy> Connections<A> {
     pub fn close_server(&mut self, conn: u64)
         ensures { self.new ≡ without_server conn self.old }
     {
-        if self.servers.remove(&conn).is_some() {
+        if let Some(server) = self.servers.remove(&conn) {
+            self.gone_servers.take(server);
             self.ends.push_back_reserved(Closed::Server(conn));
         }
     }
@@ -120,7 +144,7 @@ impl<A: Allocator + Copy> Connections<A> {
         !self.clients.is_full() || self.close_oldest()
     }
 
-    /// Lists a client's connection under its number.
+    /// Lists a client's connection under its number, in place of the one listed there before.
     pub fn admit(
         &mut self,
         alloc: A,
@@ -131,20 +155,31 @@ impl<A: Allocator + Copy> Connections<A> {
         requires place { length self.old.clients < 1024 }
         requires room { self.old.has_room ≡ true }
         ensures ok { OnOk result (Admits conn now self.old.clients self.new.clients) }
+        ensures gone { OnOk result (self.new.gone_clients
+            ≡ with_dropped (lookup (is_at (nat_cmp conn)) self.old.clients) self.old.gone_clients) }
         ensures err { OnErr result (self.new ≡ self.old) }
-        ensures rest { self.new ≡ record self.old { clients = self.new.clients; has_room = self.new.has_room } }
+        ensures rest { self.new ≡ record self.old {
+          clients = self.new.clients;
+          has_room = self.new.has_room;
+          gone_clients = self.new.gone_clients;
+        } }
     {
-        self.clients.admit(alloc, conn, stream, now)
+        if let Some(replaced) = self.clients.admit(alloc, conn, stream, now)? {
+            self.gone_clients.take(replaced);
+        }
+        Ok(())
     }
 
-    /// Lists a connection to a server under its number.
+    /// Lists a connection to a server under its number, in place of the one listed there before.
     pub fn list_server(&mut self, conn: u64, stream: ServerStream<A>) -> Result<(), AllocError>
         requires { self.old.has_room ≡ true }
-        ensures ok { OnOk result (self.new.servers ≡ insert_entry nat_cmp self.old.servers conn stream) }
+        ensures ok { OnOk result (self.new
+            ≡ record (with_server conn stream self.old) { has_room = self.new.has_room }) }
         ensures err { OnErr result (self.new ≡ self.old) }
-        ensures rest { self.new ≡ record self.old { servers = self.new.servers; has_room = self.new.has_room } }
     {
-        self.servers.insert(conn, stream)?;
+        if let Some(replaced) = self.servers.insert(conn, stream)? {
+            self.gone_servers.take(replaced);
+        }
         Ok(())
     }
 
@@ -159,12 +194,14 @@ impl<A: Allocator + Copy> Connections<A> {
 
     /// Sends the octets left for the server on the connection with this number, and reads a piece
     /// of its stream into the buffer; `None` if not open.
-    pub fn serve_server(&mut self, conn: u64, buffer: &mut [u8]) -> Option<(Peer, Heard)>
+    pub fn serve_server(&mut self, conn: u64, buffer: &mut [u8]) -> Option<ServerHeard>
         ensures serves { ServesServer conn result buffer.new self.old.servers self.new.servers }
         ensures rest { self.new ≡ record self.old { servers = self.new.servers } }
     {
-        let server = self.servers.get_mut(&conn)?;
-        Some((server.server, server.serve(buffer)))
+        let stream = self.servers.get_mut(&conn)?;
+        let server = stream.server;
+        let heard = stream.serve(buffer);
+        Some(ServerHeard { server, heard })
     }
 
     /// Replies to the client with this number, after the octets left for the client. Returns

@@ -6,10 +6,12 @@ mod answers;
 mod client_stream;
 mod clients;
 mod connections;
+mod dropped;
 mod lost;
 mod servers;
 
 pub use answers::{Heard, Refusal};
-pub use connections::{Closed, Connections};
+pub use connections::{Closed, Connections, ServerHeard};
+pub use dropped::Dropped;
 pub use lost::Lost;
 pub use servers::{ServerStream, unsent_query};

@@ -403,11 +403,14 @@ fn keys(rt: HostRuntime) -> Result<(), Fail> {
     let near = hint_for_key(b"verison", "`version`");
     let far = hint_for_key(b"vrsn_", "`version`");
     let long = hint_for_key(b"a_key_that_is_longer_than_any", "`version`");
-    let longest = hint_for_key(b"deadline_mss", "`deadline_ms`");
+    let longer = hint_for_key(b"deadline_mss", "`deadline_ms`");
+    // As long as a key near the longest known key can be, which it does not begin with.
+    let longest = hint_for_key(b"dead_lines_ms", "`deadline_ms`");
     let least = hint_for_key(b"tris", "`cache`, `tries`, `trees`");
     assert_eq!(rt; near, Some(Hint::Nearly("version")));
     assert_eq!(rt; far, None);
     assert_eq!(rt; long, None);
+    assert_eq!(rt; longer, Some(Hint::Nearly("deadline_ms")));
     assert_eq!(rt; longest, Some(Hint::Nearly("deadline_ms")));
     assert_eq!(rt; least, Some(Hint::Nearly("tries")));
     Ok(())

@@ -41,11 +41,21 @@ fn beginnings_agree(alloc: Global, octets: &[u8]) -> Result<bool, AllocError> {
     judging_agrees(alloc, octets)
 }
 
-/// Whether this is so of each message.
+/// Whether each beginning of the written text of a message is judged as it is read, if these octets
+/// are a whole message.
+fn written_beginnings_agree(alloc: Global, octets: &[u8]) -> Result<bool, Fail> {
+    if !is_whole(octets) {
+        return Ok(true);
+    }
+    let written = rewritten(alloc, octets)?;
+    Ok(beginnings_agree(alloc, written.as_slice())?)
+}
+
+/// Whether this is so of each message, and of its written text.
 fn all_beginnings_agree(alloc: Global, messages: &[&str]) -> Result<bool, Fail> {
     for digits in messages {
         let octets = octets_of(alloc, digits)?;
-        if !beginnings_agree(alloc, &octets)? {
+        if !beginnings_agree(alloc, &octets)? || !written_beginnings_agree(alloc, &octets)? {
             return Ok(false);
         }
     }

@@ -1,7 +1,7 @@
 //! The commands, with arguments, input and output of a test's own.
 
 use crate::faults::{Arguments, CONFIG, COUNTED, PRINTED, SCRIPT, SERVED};
-use forwarder_commands::{Fault, Turns, run, turns};
+use forwarder_commands::{Fault, Turns, read_turns, run};
 use replay_script::ReplayFault;
 use std::alloc::{Allocator, Global};
 use std::cell::Cell;
@@ -196,7 +196,7 @@ const REFUSED_TURNS: [&[u8]; 8] = [
 fn refused_turns_end_with_status_1(rt: HostRuntime) {
     for (place, number) in REFUSED_TURNS.iter().enumerate() {
         let words = [b"forwarder".as_slice(), b"serve", b"absent", number];
-        assert_eq!(rt; turns(&Arguments(&words)), None, "{place}");
+        assert_eq!(rt; read_turns(&Arguments(&words)), None, "{place}");
         let (ended, prints_nothing) = ended_by(&rt, &words, b"", Wanted::Just(b""));
         assert_eq!(rt; ended, Err(Fault::Usage), "{place}");
         assert!(rt; prints_nothing, "{place}");
@@ -214,11 +214,11 @@ const TURNS: [(&[u8], u64); 3] = [
 fn turns_are_read(rt: HostRuntime) {
     for (text, number) in &TURNS {
         let words = [b"forwarder".as_slice(), b"serve", b"absent", text];
-        let turns = turns(&Arguments(&words)).map(Turns::number);
+        let turns = read_turns(&Arguments(&words)).map(Turns::number);
         assert_eq!(rt; turns, Some(*number));
     }
     let missing = [b"forwarder".as_slice(), b"serve", b"absent"];
-    assert_eq!(rt; turns(&Arguments(&missing)), None);
+    assert_eq!(rt; read_turns(&Arguments(&missing)), None);
 }
 
 #[test]
@@ -233,6 +233,27 @@ fn check_prints_its_routes(rt: HostRuntime) -> Result<(), Fail> {
     assert_eq!(rt; ended, Err(Fault::Stopped(ReplayFault::Device)));
     assert!(rt; prints_name);
     Ok(())
+}
+
+/// Names of files that aren't read, and the line that says why: the system's reason, where it gave
+/// one.
+const UNREAD: [(&[u8], &[u8]); 3] = [
+    (
+        b"/no/such/file",
+        b"/no/such/file: No such file or directory (os error 2)\n",
+    ),
+    (b".", b".: Is a directory (os error 21)\n"),
+    (b"/dev/zero", b"/dev/zero: more than 16777216 octets\n"),
+];
+
+#[test]
+fn check_says_why_a_file_is_not_read(rt: HostRuntime) {
+    for (name, line) in &UNREAD {
+        let words = [b"forwarder".as_slice(), b"check", *name];
+        let (ended, says_why) = ended_by(&rt, &words, b"", Wanted::Just(*line));
+        assert_eq!(rt; ended, Err(Fault::Stopped(ReplayFault::Device)));
+        assert!(rt; says_why, "{}", name.escape_ascii());
+    }
 }
 
 /// The configuration of a row whose only key is none that is known, and one that is no TOML.

@@ -1,7 +1,7 @@
 //! Tests of what no script can express: readers, writers and files that fail, refused allocations,
 //! statuses and texts.
 
-use forwarder_commands::{Fault, LONGEST, Turns, argument, count, load, serve_config, text};
+use forwarder_commands::{Fault, LONGEST, argument, count, load, read_turns, serve_config, text};
 use refusing_allocator::Refusing;
 use replay_script::{ReplayFault, read_config, replay_run};
 use std::alloc::{AllocError, Allocator, Global};
@@ -345,7 +345,8 @@ fn served_with(rt: &HostRuntime, heap: &Refusing<Global>, granted: u64) -> Serve
     let Ok(config) = read_config(rt.alloc(), heap, &mut input) else {
         return Served::Other;
     };
-    let Some(turns) = Turns::of("0") else {
+    let words = [b"forwarder".as_slice(), b"serve", b"absent", b"0"];
+    let Some(turns) = read_turns(&Arguments(&words)) else {
         return Served::Other;
     };
     let mut printed = Vec::new(rt.alloc());

@@ -10,6 +10,8 @@ mod came;
 #[cfg(test)]
 mod faults;
 #[cfg(test)]
+mod idle;
+#[cfg(test)]
 mod puts;
 #[cfg(test)]
 mod refusals;

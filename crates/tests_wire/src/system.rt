@@ -10,7 +10,7 @@ use network_model::{Arrival, Wire, serve};
 use plain_values::PlainList;
 use refusing_allocator::Refusing;
 use socket_wire::MioWire;
-use std::alloc::Global;
+use std::alloc::{Allocator, Global};
 use std::cell::Cell;
 use std::io::{ErrorKind, Write};
 use std::mem::forget;
@@ -224,7 +224,9 @@ fn an_ask_is_bound_at_its_port(rt: HostRuntime) -> Result<(), Fail> {
 }
 
 /// Turns until a piece of a client's stream has come: the number of its connection.
-fn client_that_came(wire: &mut MioWire<'_, System<'_>>) -> Option<u64> {
+pub(crate) fn client_that_came<A: Allocator + Copy>(
+    wire: &mut MioWire<'_, System<'_>, A>,
+) -> Option<u64> {
     for _ in 0..TURNS {
         let came = wire.arrival();
         let _moment = wire.moment();

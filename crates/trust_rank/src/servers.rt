@@ -1,8 +1,8 @@
 //! The name servers of the authority section: RFC 2181 5.4.1.
 
-ghost use Rattle.std.specs.Prelude.{◌≡◌, ◌++◌, IfOk, OnOk};
+ghost use Rattle.std.specs.Prelude.{◌≡◌, ◌++◌, IfOk};
 ghost use Rattle.std.specs.List.{list_any};
-ghost use Rattle.trust_rank.specs.Walks.{is_server_for, has_owner, begins_set, servers_with, servers_at, servers_from};
+ghost use Rattle.trust_rank.specs.Walks.{is_server_for, has_owner, begins_set, servers_with, servers_from};
 ghost use Rattle.dns_message.specs.Data.{IsShaped};
 ghost use Rattle.dns_message.specs.Messages.{AreShaped};
 
@@ -27,30 +27,12 @@ pub(crate) fn servers_beside<'a, A: Allocator + Copy>(
     let mut sets = PlainList::new(alloc);
     let mut rest = reply.authority;
     while let Some((first, others)) = rest.split_first() {
-        put_servers(alloc, reply, pieces, &mut sets, first, others)?;
+        if begins_set(reply, pieces, sets.as_slice(), first) {
+            sets.push(servers_with(alloc, reply, first, others)?)?;
+        }
         rest = others;
     }
     Ok(sets)
-}
-
-/// Puts the set that begins with this record last, if the record fits and its owner has no piece
-/// yet.
-fn put_servers<'a, A: Allocator + Copy>(
-    alloc: A,
-    reply: &Reply<'a, A>,
-    pieces: &[Piece<A>],
-    sets: &mut PlainList<Piece<A>, A>,
-    first: &'a Record<A>,
-    others: &'a [Record<A>],
-) -> Result<(), AllocError>
-    requires shaped { IsShaped first.now.kind first.now.rdata }
-    requires others_shaped { AreShaped others.now }
-    ensures { OnOk result (sets.new ≡ sets.old ++ servers_at reply.now (pieces.now ++ sets.old) first.now others.now) }
-{
-    if !begins_set(reply, pieces, sets.as_slice(), first) {
-        return Ok(());
-    }
-    sets.push(servers_with(alloc, reply, first, others)?)
 }
 
 /// The NS record fits, and its owner has no piece yet. The owner is looked for first: of many

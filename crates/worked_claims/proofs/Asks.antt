@@ -1,7 +1,7 @@
 -- Which asks may be listed side by side, and what one has to say, computed: apart in path and
 -- question, no more than may be open, with the identifier and the port of the step's own word, and
 -- to a server of the name's route.
-use Rattle.std.proofs.Common.{◌≡◌, ℕ, ◌≤◌, ◌%◌, List, [], ◌∷◌, get_or, Option, Some, None}
+use Rattle.std.proofs.Common.{◌≡◌, ℕ, ◌≤◌, ◌%◌, true, false, List, [], ◌∷◌, get_or, Option, Some, None}
 use Rattle.std.proofs.Common.{refl, sym, ap, arith}
 use Rattle.std.proofs.lemmas.Bool.{true≢false}
 use Rattle.dns_message.specs.Names.{step as name_step, walk_in, name_within}
@@ -14,10 +14,11 @@ use Rattle.suffix_routes.specs.Values.{Config}
 use Rattle.suffix_routes.specs.Routes.{route_of}
 use Rattle.outstanding.specs.declared.ask.Path.{Path}
 use Rattle.outstanding.specs.declared.ask.Path.TheVariants.{Udp, Tcp}
-use Rattle.step_values.specs.Values.{from_client, ask_udp, Step}
+use Rattle.step_values.specs.Values.{from_client, ask_udp, close_udp, Step}
 use Rattle.cache_laws.proofs.CallerLemmas.{serves_exactly}
 use Rattle.step_history.specs.History.{ShownAsk, listed}
 use Rattle.step_history.specs.Asked.{AreApart, IsDrawn, AsksRight, AsksWell}
+use Rattle.step_history.specs.Draws.{is_busy}
 use Rattle.step_table.proofs.Played.{address, server, config}
 use Rattle.worked_claims.proofs.Texts.{client, step_of}
 
@@ -202,3 +203,16 @@ by_tcp = refl
 
 by_tcp_with_another_number : IsDrawn first [] 8 (Tcp 1) → ⊥
 by_tcp_with_another_number drawn = let number : 0 ≡ 1 = ap port_in drawn in omega (arith, number)
+
+-- a port is busy from its ask until the step that gives it up
+listed_on_the_port : is_busy (Udp 1032) (ask_on (Udp 1032) (at_name 8 97) ∷ []) [] ≡ true
+listed_on_the_port = refl
+
+given_up_in_the_step : is_busy (Udp 1032) (ask_on (Udp 1032) (at_name 8 97) ∷ []) (close_udp 1032 ∷ []) ≡ false
+given_up_in_the_step = refl
+
+another_port_is_given_up : is_busy (Udp 1032) (ask_on (Udp 1032) (at_name 8 97) ∷ []) (close_udp 1040 ∷ []) ≡ true
+another_port_is_given_up = refl
+
+listed_on_another_port : is_busy (Udp 1032) (ask_on (Udp 1040) (at_name 8 97) ∷ []) [] ≡ false
+listed_on_another_port = refl

@@ -29,3 +29,12 @@ mod Inquiries
 mod Transports
 mod Truly
 mod Unused
+mod Touches
+mod Unbelieved
+mod UsedSlots
+mod LookedOn
+mod LookedElsewhere
+mod Justifying
+mod Mirrored
+mod Telling
+mod LookedUp

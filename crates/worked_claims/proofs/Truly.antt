@@ -1,6 +1,6 @@
 -- A history that serves truly, whole: a question, its ask, the reply with its answer, and the same
 -- question answered from cache. And for each field of that claim a neighbour of which all else
--- holds. `Unused` has the neighbours of the claims of use.
+-- holds. `Unbelieved` and `Unused` have the neighbours of the claims of use.
 use Rattle.std.proofs.Common.{◌≡◌, ℕ, ◌≤◌, List, [], ◌∷◌, Bool, true, false, Option, Some, None, Ok, refl, sym, ap, ◌∙◌, subst, inl, inr, arith}
 use Rattle.std.specs.Prelude.{zero, suc, length}
 use Rattle.std.specs.List.{concat, AllByRecursion}
@@ -57,7 +57,7 @@ first more words actions = record {
 abbrev pub word : List ℕ
 word = 524296 ∷ []
 
-abbrev asks_it : List Action
+abbrev pub asks_it : List Action
 asks_it = ask_udp 1032 server (question_text 8 1) ∷ []
 
 -- this many questions may wait
@@ -65,7 +65,7 @@ abbrev with_questions : ℕ → Config
 with_questions questions = record config { limits = record config.limits { questions = questions } }
 
 -- it wants the address
-wants_it : (c : Config) (more : Bool) (words : List ℕ) (actions : List Action) (now : List Step)
+pub wants_it : (c : Config) (more : Bool) (words : List ℕ) (actions : List Action) (now : List Step)
     → InEra (first more words actions ∷ []) now → Wants c now 0 (address a)
 unfolding first_question question_at octets_end name_within walk_in name_step
 wants_it c more words actions now in_era = record {
@@ -123,17 +123,17 @@ asks_right questions more = (
   ),
 )
 
-request_is : (r s : Request) → Some r ≡ Some s → r ≡ s
+pub request_is : (r s : Request) → Some r ≡ Some s → r ≡ s
 request_is r s is = cc
 
 pub not_sent : {r : Request} → ◌≡◌ {A = Option Request} None (Some r) → ⊥
 not_sent is = absurd cc
 
-question_is : (q r : Question) → Some q ≡ Some r → q ≡ r
+pub question_is : (q r : Question) → Some q ≡ Some r → q ≡ r
 question_is q r is = cc
 
 -- before it nothing was carried, so nothing is known
-uses_nothing : (c : Config) (more : Bool) (words : List ℕ) (actions : List Action) (is : List ℕ)
+pub uses_nothing : (c : Config) (more : Bool) (words : List ℕ) (actions : List Action) (is : List ℕ)
     → UsesWhatStands c (first more words actions ∷ []) (is ∷ [])
 unfolding first_question question_at octets_end name_within walk_in name_step
 uses_nothing c more words actions is =
@@ -162,7 +162,7 @@ none_recent c n (suc more) q (inl (o, end)) = end.ready.recent
 none_recent c n (suc more) q (inr (o, name, alias, rest)) = alias.ready.recent
 
 -- a first step that answers nothing uses no slot
-uses_no_slot : (c : Config) (more : Bool) (words : List ℕ) (actions : List Action) (is : List ℕ)
+pub uses_no_slot : (c : Config) (more : Bool) (words : List ℕ) (actions : List Action) (is : List ℕ)
     → ((octets : List ℕ) → Replies actions octets → ⊥)
     → UsesWhatIsRecent c (first more words actions ∷ []) (is ∷ []) ([] ∷ [])
 uses_no_slot c more words actions is silent = (
@@ -175,13 +175,13 @@ uses_no_slot c more words actions is silent = (
 )
 
 -- a query is no answer
-only_asks : (octets : List ℕ) → Replies asks_it octets → ⊥
+pub only_asks : (octets : List ℕ) → Replies asks_it octets → ⊥
 only_asks octets (inl never) = never
 only_asks octets (inr never) = never
 
 -- ---- the whole history: asked, answered, and answered again from cache
 
-abbrev again_text : List ℕ
+abbrev pub again_text : List ℕ
 again_text = answer_with 7 129 128 59
 
 abbrev pub hit : Step
@@ -207,7 +207,7 @@ still_justified = record {
   counts = inl (inl refl, omega arith);
 }
 
-abbrev said : Message
+abbrev pub said : Message
 said = record {
   header = header_in again_text;
   questions = address a ∷ [];
@@ -216,7 +216,7 @@ said = record {
   additional = [];
 }
 
-is_read : message_of again_text ≡ Ok said
+pub is_read : message_of again_text ≡ Ok said
 unfolding message_at header_of counted question_at octets_end record_at data_at octets_within parts_at shape_of
     name_within walk_in name_step
 is_read = refl
@@ -290,7 +290,7 @@ used_at_once : UsesWhatStands config now owners
 used_at_once = (handed_on, λ asker q some asks is room known. at_once asker asks.octets asks.sends)
 
 -- the reply used no slot, and was no question
-recent_so_far : UsesWhatIsRecent config history ((0 ∷ []) ∷ [] ∷ []) ([] ∷ [] ∷ [])
+pub recent_so_far : UsesWhatIsRecent config history ((0 ∷ []) ∷ [] ∷ []) ([] ∷ [] ∷ [])
 recent_so_far = (
   uses_no_slot config false word asks_it [] only_asks,
   λ ts era. (
@@ -572,13 +572,10 @@ but_for_its_ask asks_so = record {
 not_asked_for : ServesTruly config (first false word [] ∷ []) → ⊥
 not_asked_for h = by h.sound.owners h.sound.sound h.waiting
   where
-    unasked : (wanted : List Question)
-        → EachWants config (first false word [] ∷ []) (0 ∷ []) wanted
-        → AllByRecursion
-        (λ q. AnyByRecursion {X = ShownAsk}
-        (λ x. Asks x q) []) wanted → ⊥
-    unasked [] each asked = each
-    unasked (q ∷ wanted) each asked = asked.0
+    unasked : (wanted : List Question) → EachWants config (first false word [] ∷ []) (0 ∷ []) wanted
+        → AllByRecursion (λ q. AnyByRecursion {X = ShownAsk} (λ x. Asks x q) []) wanted → ⊥
+    unasked [] each _ = each
+    unasked (q ∷ wanted) each any = any.0
 
     none_owns : (is : List ℕ) → is ≡ [] → AsksForWaiting config (first false word []) [] (concat (is ∷ [])) → ⊥
     none_owns is none waits =

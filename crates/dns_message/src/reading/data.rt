@@ -14,56 +14,74 @@ use dns_name::Name;
 use plain_values::ShortOctets;
 use std::alloc::{AllocError, Allocator};
 
-/// The data of `len` octets of a record of this type, with its names written out in full, and the
-/// place after.
+/// The data of a record in a message: its type, and its place.
+#[derive(Clone, Copy)]
+pub(crate) struct DataPlace {
+    pub kind: u16,
+    /// The first octet, from the front of the message.
+    pub offset: usize,
+    /// The number of octets.
+    pub len: usize,
+}
+
+/// The data at a place, with its names written out in full, and the place after.
 #[tactic(auto, unfolding(crate::specs::Data::data_at))]
 pub(crate) fn read_data<A: Allocator>(
     alloc: A,
     bytes: &[u8],
     ends: &mut [u16],
-    kind: u16,
-    offset: usize,
-    len: usize,
+    place: DataPlace,
 ) -> Result<(ShortOctets<A>, usize), Fault>
-    requires inside { offset ≤ length bytes.now }
+    requires inside { place.offset ≤ length bytes.now }
     requires known { AreShortcuts bytes.now ends.old }
-    ensures exact { Gives (λ x. x) result (data_at kind bytes.now offset len) }
+    ensures exact { Gives (λ x. x) result (data_at place.kind bytes.now place.offset place.len) }
     ensures known { AreShortcuts bytes.now ends.new }
 {
+    let DataPlace { kind, offset, len } = place;
     if bytes.len() - offset < len {
         return Err(Fault::Short);
     }
+    let stop = offset + len;
     match shape_of(kind) {
         None => Ok((
             ShortOctets::from_slice(alloc, part(bytes, offset, len))?,
-            offset + len,
+            stop,
         )),
         Some(shape) => {
-            let (octets, end) = read_parts(alloc, bytes, ends, offset + len, shape.parts, offset)?;
+            let (octets, end) = read_parts(alloc, bytes, ends, shape.parts, Rest { offset, stop })?;
             Ok((ShortOctets::from_vec(octets), end))
         }
     }
 }
 
-/// The parts from a place on, written out in full in order. They must end at `stop`.
+/// The rest of the data of a record, in octets from the front of the message.
+#[derive(Clone, Copy)]
+struct Rest {
+    /// The next octet.
+    offset: usize,
+    /// The first octet after the data.
+    stop: usize,
+}
+
+/// The parts of the data, written out in full in order. They must end where the data does.
 #[tactic(auto, using(crate::proofs::reading::DataLaws::read_more, crate::proofs::reading::DataLaws::read_done, crate::proofs::reading::DataLaws::read_short))]
 fn read_parts<A: Allocator>(
     alloc: A,
     bytes: &[u8],
     ends: &mut [u16],
-    stop: usize,
     parts: &[Part],
-    offset: usize,
+    rest: Rest,
 ) -> Result<(Vec<u8, A>, usize), Fault>
-    requires inside { stop ≤ length bytes.now }
+    requires inside { rest.stop ≤ length bytes.now }
     requires known { AreShortcuts bytes.now ends.old }
-    ensures exact { Gives (λ x. (x.0.items, x.1)) result (parts_at parts.now bytes.now stop offset) }
+    ensures exact { Gives (λ x. (x.0.items, x.1)) result (parts_at parts.now bytes.now rest.stop rest.offset) }
     ensures known { AreShortcuts bytes.now ends.new }
 {
+    let Rest { offset, stop } = rest;
     let mut octets = Vec::new(alloc);
     let mut at = offset;
     for part in parts {
-        at = read_part(&mut octets, bytes, ends, stop, *part, at)?;
+        at = read_part(&mut octets, bytes, ends, *part, Rest { offset: at, stop })?;
     }
     if at != stop {
         return Err(Fault::Rdata);
@@ -76,19 +94,18 @@ fn read_part<A: Allocator>(
     octets: &mut Vec<u8, A>,
     bytes: &[u8],
     ends: &mut [u16],
-    stop: usize,
     part: Part,
-    offset: usize,
+    rest: Rest,
 ) -> Result<usize, Fault>
-    requires inside { stop ≤ length bytes.now }
+    requires inside { rest.stop ≤ length bytes.now }
     requires known { AreShortcuts bytes.now ends.old }
     ensures exact { Gives (λ e. (octets.new.items, e)) result
-        (prefixed octets.old.items (part_at part bytes.now stop offset)) }
+        (prefixed octets.old.items (part_at part bytes.now rest.stop rest.offset)) }
     ensures known { AreShortcuts bytes.now ends.new }
 {
-    match plain_count(bytes, stop, part, offset)? {
-        None => expand_name(octets, bytes, ends, stop, offset),
-        Some(count) => read_octets(octets, bytes, stop, offset, count),
+    match plain_count(bytes, part, rest)? {
+        None => expand_name(octets, bytes, ends, rest),
+        Some(count) => read_octets(octets, bytes, rest, count),
     }
 }
 
@@ -98,17 +115,16 @@ fn expand_name<A: Allocator>(
     octets: &mut Vec<u8, A>,
     bytes: &[u8],
     ends: &mut [u16],
-    stop: usize,
-    offset: usize,
+    rest: Rest,
 ) -> Result<usize, Fault>
-    requires inside { stop ≤ length bytes.now }
+    requires inside { rest.stop ≤ length bytes.now }
     requires known { AreShortcuts bytes.now ends.old }
     ensures exact { Gives (λ e. (octets.new.items, e)) result
-        (prefixed octets.old.items (written_out (name_within bytes.now (inside stop) offset))) }
+        (prefixed octets.old.items (written_out (name_within bytes.now (inside rest.stop) rest.offset))) }
     ensures known { AreShortcuts bytes.now ends.new }
 {
     let mut name = [0u8; 255];
-    let (used, end) = put_labels(&mut name, bytes, ends, Bound::data(stop), offset)?;
+    let (used, end) = put_labels(&mut name, bytes, ends, Bound::data(rest.stop), rest.offset)?;
     name[used] = 0;
     octets.extend_from_slice(&name[..used + 1])?;
     Ok(end)
@@ -119,59 +135,49 @@ fn expand_name<A: Allocator>(
 fn read_octets<A: Allocator>(
     octets: &mut Vec<u8, A>,
     bytes: &[u8],
-    stop: usize,
-    offset: usize,
+    rest: Rest,
     count: usize,
 ) -> Result<usize, Fault>
-    requires { stop ≤ length bytes.now }
+    requires { rest.stop ≤ length bytes.now }
     ensures { Gives (λ e. (octets.new.items, e)) result (prefixed octets.old.items
-        (octets_within bytes.now stop offset count)) }
+        (octets_within bytes.now rest.stop rest.offset count)) }
 {
-    let end = Bound::data(stop).skip(offset, count)?;
-    octets.extend_from_slice(part(bytes, offset, count))?;
+    let end = Bound::data(rest.stop).skip(rest.offset, count)?;
+    octets.extend_from_slice(part(bytes, rest.offset, count))?;
     Ok(end)
 }
 
-/// The place after the data of `len` octets of a record of this type.
+/// The place after the data at a place.
 #[tactic(auto, unfolding(crate::specs::Data::data_at))]
-pub(crate) fn skip_data(
-    bytes: &[u8],
-    sizes: &mut [u8],
-    kind: u16,
-    offset: usize,
-    len: usize,
-) -> Result<usize, Fault>
-    requires inside { offset ≤ length bytes.now }
+pub(crate) fn skip_data(bytes: &[u8], sizes: &mut [u8], place: DataPlace) -> Result<usize, Fault>
+    requires inside { place.offset ≤ length bytes.now }
     requires known { AreSizes bytes.now sizes.old }
-    ensures exact { result ≡ behind (data_at kind bytes.now offset len) }
+    ensures exact { result ≡ behind (data_at place.kind bytes.now place.offset place.len) }
     ensures known { AreSizes bytes.now sizes.new }
 {
+    let DataPlace { kind, offset, len } = place;
     if bytes.len() - offset < len {
         return Err(Fault::Short);
     }
+    let stop = offset + len;
     match shape_of(kind) {
-        None => Ok(offset + len),
-        Some(shape) => skip_parts(bytes, sizes, offset + len, shape.parts, offset),
+        None => Ok(stop),
+        Some(shape) => skip_parts(bytes, sizes, shape.parts, Rest { offset, stop }),
     }
 }
 
-/// The place after the parts from a place on. They must end at `stop`.
+/// The place after the parts of the data. They must end where the data does.
 #[tactic(auto, using(crate::proofs::reading::DataLaws::skip_more, crate::proofs::reading::DataLaws::skip_fault, crate::proofs::reading::DataLaws::skip_done, crate::proofs::reading::DataLaws::skip_short))]
-fn skip_parts(
-    bytes: &[u8],
-    sizes: &mut [u8],
-    stop: usize,
-    parts: &[Part],
-    offset: usize,
-) -> Result<usize, Fault>
-    requires inside { stop ≤ length bytes.now }
+fn skip_parts(bytes: &[u8], sizes: &mut [u8], parts: &[Part], rest: Rest) -> Result<usize, Fault>
+    requires inside { rest.stop ≤ length bytes.now }
     requires known { AreSizes bytes.now sizes.old }
-    ensures exact { result ≡ behind (parts_at parts.now bytes.now stop offset) }
+    ensures exact { result ≡ behind (parts_at parts.now bytes.now rest.stop rest.offset) }
     ensures known { AreSizes bytes.now sizes.new }
 {
+    let Rest { offset, stop } = rest;
     let mut at = offset;
     for part in parts {
-        at = skip_part(bytes, sizes, stop, *part, at)?;
+        at = skip_part(bytes, sizes, *part, Rest { offset: at, stop })?;
     }
     if stop != at {
         return Err(Fault::Rdata);
@@ -181,40 +187,36 @@ fn skip_parts(
 
 /// The place after a part of the data.
 #[tactic(auto, using(crate::proofs::reading::DataLaws::octets_behind))]
-fn skip_part(
-    bytes: &[u8],
-    sizes: &mut [u8],
-    stop: usize,
-    part: Part,
-    offset: usize,
-) -> Result<usize, Fault>
-    requires inside { stop ≤ length bytes.now }
+fn skip_part(bytes: &[u8], sizes: &mut [u8], part: Part, rest: Rest) -> Result<usize, Fault>
+    requires inside { rest.stop ≤ length bytes.now }
     requires known { AreSizes bytes.now sizes.old }
-    ensures exact { result ≡ behind (part_at part bytes.now stop offset) }
+    ensures exact { result ≡ behind (part_at part bytes.now rest.stop rest.offset) }
     ensures known { AreSizes bytes.now sizes.new }
 {
-    match plain_count(bytes, stop, part, offset)? {
-        None => skip_name(bytes, sizes, Bound::data(stop), offset),
-        Some(count) => Bound::data(stop).skip(offset, count),
+    let bound = Bound::data(rest.stop);
+    match plain_count(bytes, part, rest)? {
+        None => skip_name(bytes, sizes, bound, rest.offset),
+        Some(count) => bound.skip(rest.offset, count),
     }
 }
 
 /// The number of octets of a part of the data; `None` for a name.
 #[tactic(auto, unfolding(crate::specs::Data::text_within))]
-fn plain_count(bytes: &[u8], stop: usize, part: Part, offset: usize) -> Result<Option<usize>, Fault>
-    requires { stop ≤ length bytes.now }
-    ensures { MatchResult result (λ count. part_at part bytes.now stop offset ≡ laid_at count bytes.now stop offset)
-        (λ fault. (fault ≡ Fault.Rdata) × (part_at part bytes.now stop offset ≡ Err fault)) }
+fn plain_count(bytes: &[u8], part: Part, rest: Rest) -> Result<Option<usize>, Fault>
+    requires { rest.stop ≤ length bytes.now }
+    ensures { MatchResult result
+        (λ count. part_at part bytes.now rest.stop rest.offset ≡ laid_at count bytes.now rest.stop rest.offset)
+        (λ fault. (fault ≡ Fault.Rdata) × (part_at part bytes.now rest.stop rest.offset ≡ Err fault)) }
 {
     match part {
         Part::Name => Ok(None),
         Part::Number16 => Ok(Some(2)),
         Part::SoaNumbers => Ok(Some(20)),
         Part::Text => {
-            if offset >= stop {
+            if rest.offset >= rest.stop {
                 return Err(Fault::Rdata);
             }
-            Ok(Some(bytes[offset] as usize + 1))
+            Ok(Some(bytes[rest.offset] as usize + 1))
         }
     }
 }

@@ -1,7 +1,7 @@
 //! The header of a message.
 
-ghost use Rattle.std.specs.Prelude.{◌≡◌, IfSome};
-ghost use Rattle.dns_message.specs.Header.{FitsBits, header_of};
+ghost use Rattle.std.specs.Prelude.{◌≡◌, ◌<◌, ◌≤◌, ◌/◌, ◌%◌, IfSome};
+ghost use Rattle.dns_message.specs.Header.{FitsBits, flag, header_of};
 
 use crate::names::number16;
 
@@ -40,17 +40,17 @@ impl Header {
         if bytes.len() < 12 {
             return None;
         }
-        let (flags, more) = (bytes[2], bytes[3]);
+        let flags = number16(bytes, 2);
         Some(Header {
             id: number16(bytes, 0),
-            qr: flags / 128 % 2 >= 1,
-            opcode: flags / 8 % 16,
-            aa: flags / 4 % 2 >= 1,
-            tc: flags / 2 % 2 >= 1,
-            rd: flags / 1 % 2 >= 1,
-            ra: more / 128 % 2 >= 1,
-            z: more / 16 % 8,
-            rcode: more % 16,
+            qr: is_set(flags, 0x8000),
+            opcode: bits(flags, 0x800, 16),
+            aa: is_set(flags, 0x400),
+            tc: is_set(flags, 0x200),
+            rd: is_set(flags, 0x100),
+            ra: is_set(flags, 0x80),
+            z: bits(flags, 0x10, 8),
+            rcode: bits(flags, 1, 16),
             counts: [
                 number16(bytes, 4),
                 number16(bytes, 6),
@@ -59,4 +59,22 @@ impl Header {
             ],
         })
     }
+}
+
+/// Whether the bit of this weight is set.
+fn is_set(flags: u16, weight: u16) -> bool
+    requires { 0 < weight }
+    ensures { result ≡ flag flags weight }
+{
+    flags / weight % 2 >= 1
+}
+
+/// The number of the bits from this weight on, below a limit of 16 at most.
+fn bits(flags: u16, weight: u16, limit: u16) -> u8
+    requires weight { 0 < weight }
+    requires limit { 0 < limit }
+    requires most { limit ≤ 16 }
+    ensures { result ≡ flags / weight % limit }
+{
+    (flags / weight % limit) as u8
 }

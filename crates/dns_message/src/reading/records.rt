@@ -1,13 +1,14 @@
 //! Questions and records, at a place of a message.
 
-ghost use Rattle.std.specs.Prelude.{◌≡◌, IsOk, Ok};
+ghost use Rattle.std.specs.Prelude.{◌≡◌, ◌+◌, IsOk, Ok, Err, MatchResult};
+ghost use Rattle.dns_message.specs.Numbers.{number16};
 ghost use Rattle.dns_message.specs.Reading.{Gives, behind};
 ghost use Rattle.dns_message.specs.Shortcuts.{AreShortcuts};
 ghost use Rattle.dns_message.specs.Sizes.{AreSizes};
 ghost use Rattle.dns_message.specs.Records.{octets_end, question_at, record_at, counted};
 
 use crate::names::{Bound, Fault, number16, number32, read_name, readable_name_end, skip_name};
-use crate::reading::data::{read_data, skip_data};
+use crate::reading::data::{DataPlace, read_data, skip_data};
 use crate::reading::message::{Question, Rdata, Record};
 use plain_values::PlainList;
 use std::alloc::Allocator;
@@ -63,17 +64,15 @@ pub(crate) fn read_record<A: Allocator + Copy>(
     ensures known { AreShortcuts bytes.now ends.new }
 {
     let (owner, after) = read_name(alloc, bytes, ends, offset)?;
-    let fixed = skip_octets(bytes, after, 10)?;
-    let kind = number16(bytes, after);
+    let place = data_place(bytes, after)?;
     let class = number16(bytes, after + 2);
     let ttl = number32(bytes, after + 4);
-    let len = number16(bytes, after + 8) as usize;
-    let (octets, end) = read_data(alloc, bytes, ends, kind, fixed, len)?;
+    let (octets, end) = read_data(alloc, bytes, ends, place)?;
     let rdata = Rdata::holding(octets);
     Ok((
         Record {
             owner,
-            kind,
+            kind: place.kind,
             class,
             ttl,
             rdata,
@@ -90,10 +89,23 @@ pub(crate) fn skip_record(bytes: &[u8], sizes: &mut [u8], offset: usize) -> Resu
     ensures known { AreSizes bytes.now sizes.new }
 {
     let after = skip_name(bytes, sizes, Bound::whole(bytes), offset)?;
-    let fixed = skip_octets(bytes, after, 10)?;
-    let kind = number16(bytes, after);
-    let len = number16(bytes, after + 8) as usize;
-    skip_data(bytes, sizes, kind, fixed, len)
+    let place = data_place(bytes, after)?;
+    skip_data(bytes, sizes, place)
+}
+
+/// The place of the data of the record whose owner ends before this place, with its type.
+#[tactic(auto, unfolding(crate::specs::Records::octets_end))]
+fn data_place(bytes: &[u8], after: usize) -> Result<DataPlace, Fault>
+    ensures { MatchResult result (λ place. (octets_end bytes.now after 10 ≡ Ok place.offset)
+        × (place.kind ≡ number16 bytes.now after) × (place.len ≡ number16 bytes.now (after + 8)))
+        (λ fault. octets_end bytes.now after 10 ≡ Err fault) }
+{
+    let offset = skip_octets(bytes, after, 10)?;
+    Ok(DataPlace {
+        kind: number16(bytes, after),
+        offset,
+        len: number16(bytes, after + 8) as usize,
+    })
 }
 
 /// The place after the readable record at a place. No pointer is followed.

@@ -3,7 +3,7 @@
 ghost use Rattle.std.specs.Prelude.{◌≡◌, ◌<◌, ◌≤◌, ◌++◌};
 ghost use Rattle.std.specs.List.{flat_map};
 ghost use Rattle.dns_message.specs.Header.{FitsBits};
-ghost use Rattle.dns_message.specs.Writing.{bit, flags_of, header_octets, octets16};
+ghost use Rattle.dns_message.specs.Writing.{bit, flags_of, header_octets, octets16, reply_front};
 
 use crate::reading::Header;
 use byteorder::{BigEndian, ByteOrder};
@@ -18,6 +18,19 @@ impl Header {
     {
         octets_of(self.id, flags_of(self), counts)
     }
+}
+
+/// The first three octets of a reply: identifier, QR, opcode, RD, and the TC of `flags`, the third
+/// octet of another reply (RFC 1035 4.1.1). AA is clear.
+pub fn reply_front(id: u16, opcode: u8, flags: u8, rd: bool) -> [u8; 3]
+    requires { opcode < 16 }
+    ensures { result ≡ reply_front id opcode flags rd }
+{
+    let cut = flags / 2 % 2;
+    let mut front = [0; 3];
+    BigEndian::write_u16(&mut front, id);
+    front[2] = 0x80 + 8 * opcode + 2 * cut + u8::from(rd);
+    front
 }
 
 /// The octets of an identifier, flags and counts.

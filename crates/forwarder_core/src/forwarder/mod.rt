@@ -16,7 +16,6 @@ mod change;
 mod tick;
 
 use crate::deciding::decide;
-use crate::lists::forget_all;
 use outstanding::Inquiries;
 use record_cache::{Cache, LookUpSlot};
 use std::alloc::{AllocError, Allocator, Global};
@@ -175,8 +174,8 @@ impl<H: BuildHasher + Drop, A: Allocator + Copy> Forwarder<H, A> {
         self.act_on(now, words, event)
     }
 
-    /// Decides an event, and puts the decision in place. Out of line: a tick with nothing due needs
-    /// neither the code nor its stack frame.
+    /// Decides an event, and puts the decision in place: first its change, then its part in the
+    /// cache. Out of line: a tick with nothing due needs neither the code nor its stack frame.
     #[inline(never)]
     fn act_on(
         &mut self,
@@ -201,7 +200,14 @@ impl<H: BuildHasher + Drop, A: Allocator + Copy> Forwarder<H, A> {
             self.restart();
             return Ok(self.nothing_done());
         };
-        self.carry_out(moment, actions, &used, change, carried)
+        self.apply(moment, change)?;
+        let unkept = self.keep(&used, carried);
+        let more = self.is_due();
+        Ok(Outcome {
+            actions,
+            unkept,
+            more,
+        })
     }
 
     /// The forwarder at the start of a step, borrowed, with the moment and the words of the step.
@@ -238,6 +244,21 @@ impl<H: BuildHasher + Drop, A: Allocator + Copy> Forwarder<H, A> {
             more: false,
         }
     }
+}
+
+/// Forgets all entries, asks and waiting questions.
+fn forget_all<H: BuildHasher + Drop, A: Allocator + Copy>(
+    cache: &mut Cache<H, A>,
+    inquiries: &mut Inquiries<A>,
+    waiting: &mut WaitingQuestions<A>,
+)
+    ensures entries { cache.new ≡ record cache.old { entries = [] } }
+    ensures asks { inquiries.new ≡ record inquiries.old { asks = [] } }
+    ensures waiting { waiting.new.items ≡ [] }
+{
+    cache.clear();
+    inquiries.clear();
+    waiting.clear();
 }
 
 /// For each route the place of the first server to ask: at the beginning the first of the group.

@@ -31,6 +31,13 @@ impl<H: BuildHasher + Drop, A: Allocator + Copy> Forwarder<H, A> {
         }
     }
 
+    /// Whether more is due at the present moment.
+    pub(crate) fn is_due(&self) -> bool
+        ensures { result ≡ is_due_at self.now.config self.now.state.moment self.now.state }
+    {
+        self.is_due_by(self.kept.moment)
+    }
+
     /// The event is a tick, and nothing is due at this moment.
     pub(crate) fn is_idle_tick(&self, moment: u64, event: &Event<A>) -> bool
         ensures { IsTrue result → (event_of event.now ≡ tick) × (is_due_at self.now.config moment self.now.state

@@ -1,8 +1,9 @@
 //! The actions of a wire.
 
-ghost use Rattle.std.specs.Prelude.{◌≡◌, Err, IfErr, IfOk, OnOk, is_ok};
+ghost use Rattle.std.specs.Prelude.{◌≡◌, IfOk, is_ok};
 ghost use Rattle.stream_connections.specs.Queries.{IsBegunWith};
-ghost use Rattle.socket_wire.specs.Putting.{AnswersOn, ListsPort, ListsThis, MayMakeRoom};
+ghost use Rattle.socket_wire.specs.Asks.{ListsPort};
+ghost use Rattle.socket_wire.specs.Putting.{AnswersOn, MayMakeRoom};
 ghost use Rattle.socket_wire.specs.Putting.{PutsAction, PutsQuery};
 ghost use Rattle.socket_wire.specs.Putting.{with_spent};
 
@@ -10,7 +11,7 @@ use super::Sockets;
 use crate::address::address_of;
 use crate::answers::{kept_if, sent};
 use crate::asks::ask_socket;
-use mio::net::{TcpStream, UdpSocket};
+use mio::net::TcpStream;
 use ready_sockets::Origin;
 use std::alloc::Allocator;
 use std::io;
@@ -50,7 +51,7 @@ impl<R: Net, A: Allocator + Copy> Sockets<'_, R, A> {
                 bytes,
             } => self.ask_tcp(*conn, *server, bytes.as_slice(), now),
             Action::CloseUdp { port } => {
-                let _socket = self.asks.remove(port);
+                self.asks.end(*port);
                 Ok(())
             }
             Action::CloseTcp { conn } => {
@@ -82,26 +83,7 @@ impl<R: Net, A: Allocator + Copy> Sockets<'_, R, A> {
         }
         let socket = opened?;
         let answer = socket.send(query);
-        self.list_ask(port, socket, answer)
-    }
-
-    /// Lists the socket of an ask, by its answer to the sent query: a socket that refused is
-    /// dropped. `Err` if the socket refused, or memory ran out.
-    fn list_ask(
-        &mut self,
-        port: u16,
-        socket: UdpSocket,
-        answer: io::Result<usize>,
-    ) -> io::Result<()>
-        ensures sent { OnOk answer (ListsThis port socket (is_ok result)
-            self.old.asks self.new.asks) }
-        ensures refused { IfErr answer (λ error. (result ≡ Err error) × (self.new ≡ self.old)) }
-        ensures lists { ListsPort port (is_ok result) self.old.asks self.new.asks }
-        ensures rest { self.new ≡ record self.old { asks = self.new.asks } }
-    {
-        sent(answer)?;
-        self.asks.insert(port, socket)?;
-        Ok(())
+        self.asks.list(port, socket, answer)
     }
 
     /// Begins a connection, and sends a query as soon as it is open.

@@ -20,7 +20,7 @@ use std::alloc::{AllocError, Allocator};
 use std::io;
 use std::net::{Net, SocketAddr};
 use step_values::Path;
-use stream_connections::{Heard, Refusal};
+use stream_connections::{Heard, Refusal, ServerHeard};
 use wires::Arrival;
 
 /// The result of trying a socket.
@@ -186,7 +186,7 @@ impl<R: Net, A: Allocator + Copy> Sockets<'_, R, A> {
     fn take_ask(&mut self, port: u16) -> Result<Tried<A>, AllocError>
         ensures { TakesAsk port result self.old self.new }
     {
-        let Some(socket) = self.asks.get(&port) else {
+        let Some(socket) = self.asks.at(port) else {
             return Ok(Tried::Nothing);
         };
         let answer = socket.recv_from(&mut self.buffer[..]);
@@ -226,7 +226,7 @@ impl<R: Net, A: Allocator + Copy> Sockets<'_, R, A> {
         match refusal {
             Refusal::WouldBlock => Tried::Nothing,
             Refusal::Interrupted | Refusal::NoDescriptor | Refusal::Failed => {
-                let _socket = self.asks.remove(&port);
+                self.asks.end(port);
                 let path = Path::Udp(port);
                 Tried::Arrived(Arrival::PathGone { path })
             }
@@ -237,12 +237,16 @@ impl<R: Net, A: Allocator + Copy> Sockets<'_, R, A> {
     fn take_server(&mut self, conn: u64) -> Result<Tried<A>, AllocError>
         ensures { TakesServer conn result self.old self.new }
     {
-        let Some((from, heard)) = self.connections.serve_server(conn, &mut self.buffer[..]) else {
+        let served = self.connections.serve_server(conn, &mut self.buffer[..]);
+        let Some(ServerHeard { server, heard }) = served else {
             return Ok(Tried::Nothing);
         };
         match heard {
             Heard::Octets(count) => match piece(self.alloc, &mut self.spare, &self.buffer, count) {
-                Ok(bytes) => Ok(Tried::Arrived(Arrival::ServerStream { conn, from, bytes })),
+                Ok(bytes) => {
+                    let from = server;
+                    Ok(Tried::Arrived(Arrival::ServerStream { conn, from, bytes }))
+                }
                 Err(refusal) => {
                     self.connections.close_server(conn);
                     Err(refusal)

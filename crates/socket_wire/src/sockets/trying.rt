@@ -92,10 +92,10 @@ impl<R: Net, A: Allocator + Copy> Sockets<'_, R, A> {
     fn try_ask(&mut self) -> bool
         ensures { TriesAsk result self.old self.new }
     {
-        match self.asks.range(self.next_ask..).next() {
-            Some((port, _)) => {
+        match self.asks.from(self.next_ask) {
+            Some(port) => {
                 self.next_ask = port.wrapping_add(1);
-                self.readiness.add(Origin::Ask(*port));
+                self.readiness.add(Origin::Ask(port));
                 true
             }
             None => {

@@ -23,10 +23,10 @@ returns g c = record {
       (with_promoted c.args.used c.args.start.now.state))
       ∙ opened_row c.args.start.now.config c.args.start.now.moment c.args.start.now.words c.args.waiting
       c.args.start.now.state c.args.used c.args.route c.wanted.result.now None _
-      (let count = c.asks_under_way.ensures.count in let limit : c.config.inside.limits.inquiries
+      (let count = c.len.ensures.count ∙ ap (λ (r : StepStart). length r.state.asks) c.start.view_is in let limit : c.config.inside.limits.inquiries
       ≡ c.args.start.now.config.limits.inquiries = (λ i. (c.config.view_is i).limits.inquiries)
       ∙ ap (λ (r : StepStart). r.config.limits.inquiries) c.start.view_is in let test =
-      c.if-asks_under_way-config.false in omega (arith, count, test, limit))
+      c.if-len-config.false in omega (arith, count, test, limit))
       c.requires.on c.wanted.ensures (sym c.in-None.is ∙ c.in_ok-ask.ensures) refl);
 }
 
@@ -36,10 +36,10 @@ returns-in-Some g c = record {
       decides_by c.open.result _ _ _ c.open.ensures.decides (λ rooms.
       opened_row c.args.start.now.config c.args.start.now.moment c.args.start.now.words c.args.waiting
       c.args.start.now.state c.args.used c.args.route c.wanted.result.now (Some c.in-Some.ask) _
-      (let count = c.asks_under_way.ensures.count in let limit : c.config.inside.limits.inquiries
+      (let count = c.len.ensures.count ∙ ap (λ (r : StepStart). length r.state.asks) c.start.view_is in let limit : c.config.inside.limits.inquiries
       ≡ c.args.start.now.config.limits.inquiries = (λ i. (c.config.view_is i).limits.inquiries)
       ∙ ap (λ (r : StepStart). r.config.limits.inquiries) c.start.view_is in let test =
-      c.if-asks_under_way-config.false in omega (arith, count, test, limit))
+      c.if-len-config.false in omega (arith, count, test, limit))
       c.requires.on c.wanted.ensures (sym c.in-Some.is ∙ c.in_ok-ask.ensures) refl);
 }
 
@@ -62,10 +62,10 @@ open-requires-clause-follows g c =
     c.start.invariant.1 c.start.invariant.2
     (subst (λ (q : Question). of_question q c.start.inside.kept.now.inquiries.asks ≡ None) (sym c.wanted.ensures)
     (subst (λ (r : StepStart). of_question c.args.waiting.wanted r.state.asks ≡ None) (sym c.start.view_is) c.requires.new))
-    (let count = c.asks_under_way.ensures.count in let asks : length c.start.inside.kept.now.inquiries.asks
+    (let count = c.len.ensures.count in let asks : length c.start.inside.kept.now.inquiries.asks
     ≡ length c.args.start.now.state.asks = ap (λ (r : StepStart). length r.state.asks) c.start.view_is in let limit :
     c.config.inside.limits.inquiries ≡ c.start.inside.config.now.limits.inquiries = λ i.
-    (c.config.view_is i).limits.inquiries in let test = c.if-asks_under_way-config.false in omega
+    (c.config.view_is i).limits.inquiries in let test = c.if-len-config.false in omega
     (arith, count, asks, test, limit))
     (sym c.in-Some.is ∙ c.in_ok-ask.ensures ∙ ap (λ (r : StepStart). first_ask
     (start r.config r.moment r.words r.state) c.wanted.result.now c.args.route) (sym c.start.view_is)))
@@ -76,14 +76,14 @@ open-requires-clause-same g c =
     (ask_by-some c.args.start.now.moment c.wanted.result.now c.args.route _ 1 _ _ c.in-Some.ask
     (sym (sym c.in-Some.is ∙ c.in_ok-ask.ensures))).question ∙ c.wanted.ensures
 
-pub returns-then-asks_under_way-config : goal.returns-then-asks_under_way-config
-returns-then-asks_under_way-config g c = record {
+pub returns-then-len-config : goal.returns-then-len-config
+returns-then-len-config g c = record {
   decides =
       let full : c.args.start.now.config.limits.inquiries ≤ length c.args.start.now.state.asks =
-      (let count = c.asks_under_way.ensures.count in let limit : c.config.inside.limits.inquiries
+      (let count = c.len.ensures.count ∙ ap (λ (r : StepStart). length r.state.asks) c.start.view_is in let limit : c.config.inside.limits.inquiries
       ≡ c.args.start.now.config.limits.inquiries = (λ i. (c.config.view_is i).limits.inquiries)
       ∙ ap (λ (r : StepStart). r.config.limits.inquiries) c.start.view_is in let test =
-      c.if-asks_under_way-config.true in omega (arith, count, test, limit)) in
+      c.if-len-config.true in omega (arith, count, test, limit)) in
       decides_by c.refuse.result _ _ _ c.refuse.ensures.decides (λ rooms.
       (λ i. reply_step c.args.start.now.moment
       (failed (c.request.ensures.client i) (c.request.ensures.asked i) InquiriesFull)

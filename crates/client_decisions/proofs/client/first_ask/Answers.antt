@@ -3,6 +3,7 @@ use Rattle.std.specs.Prelude.{unwrap_or}
 use Rattle.std.proofs.lemmas.Result.{IfOk-weaker}
 use Rattle.step_table.specs.State.{StepStart, start}
 use Rattle.step_table.specs.Attempts.{ask_by, first_ask, peer_at}
+use Rattle.step_actions.specs.Attempts.{pair_of}
 use Rattle.client_decisions.proofs.Clients.{asked_first}
 use Rattle.client_decisions.proofs.client.first_ask.Goals as goal
 
@@ -23,8 +24,8 @@ returns g c =
       moment = c.start.inside.kept.now.moment;
       tcp_asks = c.start.inside.kept.now.tcp_asks;
     })
-    c.unwrap_or-server.result c.draw.result c.by_udp-drawn.result ask server c.draw.ensures.drawn
+    c.unwrap_or-server.result c.draw.result (pair_of c.by_udp-drawn.result) ask server c.draw.ensures.drawn
     c.by_udp-drawn.ensures
     (is ∙ (λ i. ask_by (sym c.start.view_is i).moment c.args.question.now c.args.route c.unwrap_or-server.result 1
-    (peer_at (sym c.start.view_is i).config c.args.route c.unwrap_or-server.result) c.by_udp-drawn.result))))
+    (peer_at (sym c.start.view_is i).config c.args.route c.unwrap_or-server.result) (pair_of c.by_udp-drawn.result)))))
     c.new_ask.ensures

@@ -12,12 +12,12 @@ returns g c =
     let after = c.run_lines.new.forwarder in
     let new = c.in_ok-forwarder.ensures.new in
     let config = c.in_ok-config.config in
-    let lines = lines_of c.in-Some.events.now in
+    let lines = lines_of c.in-Some.field-0.events.now in
     let runs = subst (λ (f : Running). RunsLines 1 lines f held c.run_lines.result after held') new c.run_lines.ensures in
     let came = subst (λ (f : Running). ComesTo f.config [] f.state) new c.in_ok-forwarder.ensures.new_run in
     inl (record {
-      text = c.in-Some.config.now;
-      events = c.in-Some.events.now;
+      text = c.in-Some.field-0.config.now;
+      events = c.in-Some.field-0.events.now;
       parts = c.in-Some.ensures.some;
       config = config;
       read = c.in_ok-config.ensures.read;

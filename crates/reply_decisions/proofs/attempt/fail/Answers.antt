@@ -78,7 +78,7 @@ retry-requires-in-AskTcp-clause-follows g c =
     ∙ sym c.in-AskTcp.ensures) next
     ((λ i. ask_by (c.start.view_is i).moment c.args.ask.now.question c.args.ask.now.route c.in-AskTcp.server
     (c.args.ask.now.used + 1) (peer_at (c.start.view_is i).config c.args.ask.now.route c.in-AskTcp.server)
-    (sym (c.by_tcp.ensures ∙ ap over_tcp c.draw_connection-drawn.ensures) i)) ∙ is))
+    (sym (c.draw_connection-drawn.ensures) i)) ∙ is))
 
 pub returns-in-GiveUp : goal.returns-in-GiveUp
 returns-in-GiveUp g c = record {
@@ -114,7 +114,7 @@ returns-in-AskTcp g c = record {
       c.args.start.now.state (ask_by c.args.start.now.moment c.args.ask.now.question c.args.ask.now.route
       c.in-AskTcp.server (c.args.ask.now.used + 1) (peer_at c.args.start.now.config c.args.ask.now.route
       c.in-AskTcp.server) d))
-      (c.by_tcp.ensures ∙ ap over_tcp c.draw_connection-drawn.ensures
+      (c.draw_connection-drawn.ensures
       ∙ ap (λ (r : StepStart). over_tcp (drawn_by_tcp r.words r.state.tcp_asks)) c.start.view_is)
       ∙ sym (ap (row_of_next c.args.start.now c.args.ask.now)
       (ap (λ (r : StepStart). after_failure (plan_of r.config c.args.ask.now) c.args.failure) (sym c.start.view_is)

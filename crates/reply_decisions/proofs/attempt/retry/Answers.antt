@@ -1,6 +1,7 @@
 use Rattle.std.proofs.Common.{◌∙◌, ◌+◌, ap, sym}
 use Rattle.step_table.specs.Attempts.{ask_by, peer_at}
 use Rattle.step_table.specs.Failures.{row_of_attempt}
+use Rattle.step_actions.specs.Attempts.{pair_of}
 use Rattle.step_actions.proofs.CallerLemmas.{decides_by}
 use Rattle.reply_decisions.proofs.attempt.retry.Goals as goal
 
@@ -9,7 +10,7 @@ ask_again-requires-clause-follows g c =
     c.requires.follows c.in-Some.next
     (sym (λ i. ask_by c.args.start.now.moment ((c.asked.view_is ∙ c.ask-asked.ensures) i).question ((c.asked.view_is ∙ c.ask-asked.ensures) i).route (c.from.ensures i)
     (((c.asked.view_is ∙ c.ask-asked.ensures) i).used + 1) (peer_at c.args.start.now.config ((c.asked.view_is ∙ c.ask-asked.ensures) i).route (c.from.ensures i))
-    c.args.drawn)
+    (pair_of c.args.drawn))
     ∙ sym c.in_ok-next.ensures ∙ c.in-Some.is)
 
 pub returns-in-Some : goal.returns-in-Some
@@ -20,7 +21,7 @@ returns-in-Some g c = record {
       (sym c.in-Some.is ∙ c.in_ok-next.ensures
       ∙ (λ i. ask_by c.args.start.now.moment ((c.asked.view_is ∙ c.ask-asked.ensures) i).question ((c.asked.view_is ∙ c.ask-asked.ensures) i).route (c.from.ensures i)
       (((c.asked.view_is ∙ c.ask-asked.ensures) i).used + 1) (peer_at c.args.start.now.config ((c.asked.view_is ∙ c.ask-asked.ensures) i).route (c.from.ensures i))
-      c.args.drawn)));
+      (pair_of c.args.drawn))));
 }
 
 pub returns-in-None : goal.returns-in-None
@@ -31,5 +32,5 @@ returns-in-None g c = record {
       (sym c.in-None.is ∙ c.in_ok-next.ensures
       ∙ (λ i. ask_by c.args.start.now.moment ((c.asked.view_is ∙ c.ask-asked.ensures) i).question ((c.asked.view_is ∙ c.ask-asked.ensures) i).route (c.from.ensures i)
       (((c.asked.view_is ∙ c.ask-asked.ensures) i).used + 1) (peer_at c.args.start.now.config ((c.asked.view_is ∙ c.ask-asked.ensures) i).route (c.from.ensures i))
-      c.args.drawn)));
+      (pair_of c.args.drawn))));
 }

@@ -33,7 +33,7 @@ returns g c = record {
         row = λ rooms.
             ap (offering_step c.args.start.now.moment rooms (pieces_of c.args.carried.items))
             (sending_row g.row.A.Denot c.args.start.now.moment c.args.start.now.state c.args.answered.now fate
-            c.args.fates.each c.args.next c.in_ok-onward.used c.in_ok-redirect.redirect _ c.requires.on
+            c.args.fates.each c.args.next c.in_ok-onward.field-0.used c.in_ok-redirect.redirect _ c.requires.on
             become
             (ap (λ (v : Redirect g.row.A.Denot). v.path) c.in_ok-redirect.ensures.ok
             ∙ ap (λ (a : Ask). a.path) (c.ask.view_is ∙ c.ask-ask.ensures))
@@ -56,7 +56,7 @@ returns g c = record {
         fits = record {
           fits = subst (λ (v : Redirect g.row.A.Denot). CanSendOn c.args.start.now.config c.args.start.now.moment
               c.args.start.now.state v.path v.preferred v.onward.items v.ask) (sym c.in_ok-redirect.ensures.ok) (record {
-                those = subst (λ (r : Option Ask). AreForThose r c.in_ok-onward.onward.items
+                those = subst (λ (r : Option Ask). AreForThose r c.in_ok-onward.field-0.onward.items
                     c.args.start.now.state.waiting)
                     (sym on) (ap (λ (os : List (Option Onward)). length os) c.in_ok-onward.ensures.onward
                     ∙ length-map c.args.fates.each onward_of

@@ -6,13 +6,14 @@ use Rattle.outstanding.specs.Values.{Ask}
 use Rattle.suffix_routes.specs.Serving.{serving_route_of}
 use Rattle.step_table.specs.Attempts.{ask_by, first_ask_on, freed_by, over_udp, peer_at}
 use Rattle.step_table.proofs.CallerLemmas.{draws_left}
+use Rattle.step_actions.specs.Attempts.{pair_of}
 use Rattle.reply_decisions.specs.Redirecting.{closing_state}
 use Rattle.reply_decisions.proofs.redirecting.first_ask_then.Goals as goal
 use Rattle.step_table.specs.State.{from_state}
 
 pub returns : goal.returns
 returns g c =
-    let drawn : c.by_udp-drawn.result ≡ over_udp (udp_draw c.args.start.now.words
+    let drawn : pair_of c.by_udp-drawn.result ≡ over_udp (udp_draw c.args.start.now.words
     (without_path c.args.answered.now.path c.args.start.now.state.asks) None) =
     c.by_udp-drawn.ensures
     ∙ ap over_udp

@@ -1,11 +1,44 @@
-use Rattle.std.proofs.Common.{◌∙◌, ℕ, ap, sym, subst}
-use Rattle.std.proofs.lemmas.Result.{IfOk-weaker}
+use Rattle.std.proofs.lemmas.Bool.{false≢true}
+use Rattle.std.proofs.lemmas.Result.{err_from_is_err_and}
+use Rattle.std.proofs.Common.{◌∙◌, ℕ, ap, refl, sym, subst}
+use Rattle.std.specs.List.{AllByRecursion}
+use Rattle.suffix_routes.specs.Values.{Config}
+use Rattle.alias_chains.specs.Offering.{pieces_of}
 use Rattle.step_values.specs.Values.{event_of}
-use Rattle.step_table.specs.Row.{TakesNoMemory}
-use Rattle.step_table.specs.State.{StepStart, start}
-use Rattle.step_actions.specs.Decision.{IsDecided}
-use Rattle.forwarder_core.proofs.CarryingOut.{quiet_at, row_is}
+use Rattle.step_table.specs.Row.{TakesNoMemory, effective, is_due_at}
+use Rattle.step_table.specs.State.{Running, StepStart, start}
+use Rattle.step_actions.specs.Decision.{IsDecided, IsRouted}
+use Rattle.forwarder_core.proofs.CarryingOut.{carried_out, fits_at, quiet_at, row_is}
 use Rattle.forwarder_core.proofs.forwarder.Forwarder.act_on.Goals as goal
+
+pub apply-requires : goal.apply-requires
+apply-requires g c = record {
+  later = c.effective-moment.ensures.later;
+  in_time = c.effective-moment.ensures.in_time;
+  fits = (fits_at c.start.result c.args.self.now.config c.effective-moment.result (effective c.args.now c.args.self.now.state) c.args.words c.args.self.now.state c.in_ok-actions.field-0 c.in-Some.field-0 c.start.ensures c.effective-moment.ensures.value c.in-Some.is c.in_ok-actions.ensures.fits).fits;
+}
+
+pub keep-unkept-requires : goal.keep-unkept-requires
+keep-unkept-requires g c =
+    let fits = fits_at c.start.result c.args.self.now.config c.effective-moment.result (effective c.args.now c.args.self.now.state) c.args.words c.args.self.now.state c.in_ok-actions.field-0 c.in-Some.field-0 c.start.ensures c.effective-moment.ensures.value c.in-Some.is c.in_ok-actions.ensures.fits in
+    record {
+      few = fits.few;
+      routed = subst (λ (k : Config). AllByRecursion (IsRouted k) (pieces_of c.in-Some.field-0.carried.items)) (sym c.in_ok-apply.ensures.config) fits.routed;
+    }
+
+pub returns-in_err-apply : goal.returns-in_err-apply
+returns-in_err-apply g c =
+    let failed = err_from_is_err_and c.from_residual-in_err-apply.result c.from_residual-in_err-apply.ensures.1 in
+    record {
+      row = rw failed.1 tt;
+      config = c.in_err-apply.ensures.config;
+      no_memory = λ none.
+          absurd (false≢true (c.in_err-apply.ensures.quiet (quiet_at c.in_ok-actions.field-0 c.in-Some.field-0 c.in-Some.is
+          (c.in_ok-actions.ensures.no_memory
+          (subst (λ (t : StepStart). TakesNoMemory t.config t.moment t.state (event_of c.args.event.now))
+          (sym c.start.ensures) none))).1));
+      err = rw failed.1 c.in_err-apply.ensures.err;
+    }
 
 pub returns : goal.returns
 returns g c =
@@ -16,16 +49,17 @@ returns g c =
     (sym c.effective-moment.ensures.value))
     c.in_ok-actions.ensures.row in
     record {
-      row = IfOk-weaker c.carry_out.result _ _
-          (λ o done. row_is c.args.self.now.config c.args.self.now.state _ c.args.now c.effective-moment.result
-          c.args.words (event_of c.args.event.now) _ c.in-Some.field-0 o c.effective-moment.ensures.value
-          c.in_ok-actions.ensures.octets decided c.in-Some.is done)
-          c.carry_out.ensures.ok;
-      config = c.carry_out.ensures.config;
-      no_memory = λ none.
-          c.carry_out.ensures.quiet (quiet_at c.in_ok-actions.field-0 c.in-Some.field-0 c.in-Some.is
-          (c.in_ok-actions.ensures.no_memory
-          (subst (λ (t : StepStart). TakesNoMemory t.config t.moment t.state (event_of c.args.event.now))
-          (sym c.start.ensures) none))).1;
-      err = c.carry_out.ensures.err;
+      row = row_is c.args.self.now.config c.args.self.now.state _ c.args.now c.effective-moment.result
+          c.args.words (event_of c.args.event.now) _ c.in-Some.field-0 _ c.effective-moment.ensures.value
+          c.in_ok-actions.ensures.octets decided c.in-Some.is (
+            c.keep-unkept.ensures.0,
+            record {
+              done = carried_out c.effective-moment.result c.keep-unkept.ensures.0 c.args.self.now.state c.in-Some.field-0 c.apply.new.self.state c.keep-unkept.new.self.state c.keep-unkept.result c.in_ok-apply.ensures.ok
+                  (ap (λ (r : Running). r.state) c.keep-unkept.ensures.1) c.keep-unkept.ensures.2;
+              more = c.is_due-more.ensures ∙ ap (λ (k : Config). is_due_at k c.keep-unkept.new.self.state.moment c.keep-unkept.new.self.state) (ap (λ (r : Running). r.config) c.keep-unkept.ensures.1 ∙ c.in_ok-apply.ensures.config);
+            },
+          );
+      config = ap (λ (r : Running). r.config) c.keep-unkept.ensures.1 ∙ c.in_ok-apply.ensures.config;
+      no_memory = λ none. refl;
+      err = tt;
     }

@@ -1,0 +1,491 @@
+-- A history of which the claim of standing pieces alone fails. A denial of a.e's addresses stands,
+-- and the question that it answers is left to wait. No recent piece answers: an alias of a.e is
+-- alive, although it was not believed when it came (RFC 2181 5.4.1), and a denial answers only if
+-- no living alias leads on.
+use Rattle.std.proofs.Common.{◌≡◌, ◌∙◌, ℕ, zero, suc, List, [], ◌∷◌, length, Option, Some, None, Ok}
+use Rattle.std.proofs.Common.{false, refl, sym, ap, subst, ◌⊎◌, inl, inr, arith}
+use Rattle.dns_message.specs.Names.{step as name_step, walk_in, name_within}
+use Rattle.dns_message.specs.Data.{octets_within, parts_at, data_at, name_of_rdata}
+use Rattle.dns_message.specs.Shapes.{shape_of}
+use Rattle.dns_message.specs.Header.{header_of, header_in}
+use Rattle.dns_message.specs.Records.{octets_end, question_at, record_at, counted}
+use Rattle.dns_message.specs.Messages.{message_at, message_of, first_question}
+use Rattle.dns_message.specs.Questions.{one_question}
+use Rattle.dns_message.specs.Values.{Question, Message}
+use Rattle.dns_message.proofs.CallerLemmas.{message_read_is_spelled}
+use Rattle.suffix_routes.specs.Routes.{route_of}
+use Rattle.trust_rank.specs.declared.slot.Slot.{Slot}
+use Rattle.trust_rank.specs.Values.{rows}
+use Rattle.trust_rank.specs.Walks.{walk_from, servers_from}
+use Rattle.record_cache.specs.Values.{Held}
+use Rattle.outstanding.specs.declared.ask.Path.TheVariants.{Udp}
+use Rattle.step_values.specs.declared.event.Client.{Client}
+use Rattle.step_values.specs.Values.{Request, from_client, delivery, Step}
+use Rattle.cache_laws.proofs.CallerLemmas.{keeps_place}
+use Rattle.step_history.specs.History.{InEra, Carries}
+use Rattle.step_history.specs.Carried.{CarriedInEra}
+use Rattle.step_history.specs.Sound.{Sound}
+use Rattle.step_history.specs.Accounting.{TellsMore}
+use Rattle.step_history.specs.Asked.{AsksWell}
+use Rattle.step_history.proofs.CallerLemmas.{walk_accepted}
+use Rattle.step_table.proofs.Played.{a, address, name_data, server, config}
+use Rattle.theorem_use.specs.Asking.{Wants, Asks, AsksForWaiting}
+use Rattle.theorem_use.specs.Recent.{IsBelieved, LeadsNowhere, IsReadyEnd, IsReadyAlias, IsAnsweredByRecent, UsesWhatIsRecent}
+use Rattle.theorem_use.specs.Service.{ServesTruly}
+use Rattle.theorem_use.specs.Touched.{Touched, TouchedInEra, IsLiving}
+use Rattle.theorem_use.specs.Use.{HasRoom, AsksToLookUp, IsKnown, UsesWhatStands}
+use Rattle.worked_claims.proofs.Texts.{question_text, client, step_of}
+use Rattle.worked_claims.proofs.Silent.{nothing_heard}
+use Rattle.worked_claims.proofs.Accepted.{asked, ask, carried_before}
+use Rattle.worked_claims.proofs.ServerDenials.{server_text, says as denies, none_is_read, no_address}
+use Rattle.worked_claims.proofs.Touches.{touched_nothing, touched_these, CameIn, recent_came, the_one_brought}
+use Rattle.worked_claims.proofs.Truly.{word, asked_for, wants_it, asks_it, not_sent, request_is, question_is, uses_no_slot, only_asks}
+use Rattle.worked_claims.proofs.Whole.{it_asks_well}
+
+-- ---- a.e is an alias of b.e
+
+-- a reply with these octets of flags, and the alias with this time to live
+abbrev alias_text : ℕ → ℕ → List ℕ
+alias_text high ttl =
+    0 ∷ 8 ∷ high ∷ 0 ∷ 0 ∷ 1 ∷ 0 ∷ 1 ∷ 0 ∷ 0 ∷ 0 ∷ 0 ∷ 1 ∷ 97 ∷ 1 ∷ 101 ∷ 0 ∷ 0 ∷ 1 ∷ 0 ∷ 1 ∷ 192 ∷ 12 ∷ 0 ∷ 5 ∷ 0 ∷ 1
+    ∷ 0 ∷ 0 ∷ 0 ∷ ttl ∷ 0 ∷ 4 ∷ 1 ∷ 98 ∷ 192 ∷ 14 ∷ []
+
+-- authoritative and for a second; then not authoritative and for a minute
+abbrev short_text : List ℕ
+short_text = alias_text 133 1
+
+abbrev long_text : List ℕ
+long_text = alias_text 129 60
+
+abbrev says : List ℕ → ℕ → Message
+says octets ttl = record {
+  header = header_in octets;
+  questions = address a ∷ [];
+  answers = record { owner = a; kind = 5; class = 1; ttl = ttl; rdata = name_data 98 } ∷ [];
+  authority = [];
+  additional = [];
+}
+
+short_is_read : message_of short_text ≡ Ok (says short_text 1)
+unfolding message_at header_of counted question_at octets_end record_at data_at octets_within parts_at shape_of
+    name_within walk_in name_step
+short_is_read = refl
+
+long_is_read : message_of long_text ≡ Ok (says long_text 60)
+unfolding message_at header_of counted question_at octets_end record_at data_at octets_within parts_at shape_of
+    name_within walk_in name_step
+long_is_read = refl
+
+-- three replies come to one ask: both aliases, and a denial after the first one has expired
+abbrev hears : ℕ → List ℕ → Step
+hears now octets = step_of now [] (delivery (Udp 1032) server octets) []
+
+abbrev heard_short : Step
+heard_short = hears 1020 short_text
+
+abbrev heard_long : Step
+heard_long = hears 1030 long_text
+
+abbrev heard_none : Step
+heard_none = hears 2100 (server_text 0)
+
+-- ---- what they carry
+
+abbrev of_alias : ℕ → ℕ → ℕ → Held
+of_alias moment lifetime rank = record {
+  piece = record {
+    owner = a;
+    slot = record { key = a; class = 1; kind = Some 5 };
+    body = rows (name_data 98 ∷ []);
+    lifetime = lifetime;
+    rank = rank;
+    route = 0;
+  };
+  accepted = moment;
+}
+
+abbrev short : Held
+short = of_alias 1020 1 3
+
+abbrev long : Held
+long = of_alias 1030 60 1
+
+abbrev none : Held
+none = record no_address { accepted = 2100 }
+
+abbrev after_short : List Step
+after_short = heard_short ∷ asked ∷ []
+
+abbrev after_long : List Step
+after_long = heard_long ∷ after_short
+
+abbrev after_none : List Step
+after_none = heard_none ∷ after_long
+
+short_carries : Carries config heard_short (asked ∷ []) (short.piece ∷ [])
+unfolding first_question question_at octets_end name_within walk_in name_step route_of walk_from servers_from
+    name_of_rdata
+short_carries = record {
+  pieces = short.piece ∷ [];
+  servers = [];
+  accepts = walk_accepted config heard_short (asked ∷ []) ask (address a) 0 short_text (says short_text 1) (tt, tt)
+      (record {
+        delivered = refl;
+        is_listed = refl;
+        is_live = omega arith;
+        long_enough = omega arith;
+        not_too_long = omega arith;
+        is_reply = refl;
+        opcode = refl;
+        identifier = refl;
+        ask_reads = refl;
+        question = address a;
+        reads = refl;
+        same_question_as_ask = refl;
+      }) (message_read_is_spelled short_text (says short_text 1) short_is_read) refl (inl refl) refl refl;
+  are = refl;
+}
+
+long_carries : Carries config heard_long after_short (long.piece ∷ [])
+unfolding first_question question_at octets_end name_within walk_in name_step route_of walk_from servers_from
+    name_of_rdata
+long_carries = record {
+  pieces = long.piece ∷ [];
+  servers = [];
+  accepts = walk_accepted config heard_long after_short ask (address a) 0 long_text (says long_text 60) (tt, tt)
+      (record {
+        delivered = refl;
+        is_listed = refl;
+        is_live = omega arith;
+        long_enough = omega arith;
+        not_too_long = omega arith;
+        is_reply = refl;
+        opcode = refl;
+        identifier = refl;
+        ask_reads = refl;
+        question = address a;
+        reads = refl;
+        same_question_as_ask = refl;
+      }) (message_read_is_spelled long_text (says long_text 60) long_is_read) refl (inl refl) refl refl;
+  are = refl;
+}
+
+none_carries : Carries config heard_none after_long (none.piece ∷ [])
+unfolding first_question question_at octets_end name_within walk_in name_step route_of walk_from servers_from
+none_carries = record {
+  pieces = none.piece ∷ [];
+  servers = [];
+  accepts = walk_accepted config heard_none after_long ask (address a) 0 (server_text 0) (denies (server_text 0) 60) (tt, tt)
+      (record {
+        delivered = refl;
+        is_listed = refl;
+        is_live = omega arith;
+        long_enough = omega arith;
+        not_too_long = omega arith;
+        is_reply = refl;
+        opcode = refl;
+        identifier = refl;
+        ask_reads = refl;
+        question = address a;
+        reads = refl;
+        same_question_as_ask = refl;
+      }) (message_read_is_spelled (server_text 0) (denies (server_text 0) 60) none_is_read) refl (inl refl) refl refl;
+  are = refl;
+}
+
+abbrev pieces : List Held
+pieces = none ∷ long ∷ short ∷ []
+
+all_carried : CarriedInEra config after_none pieces
+all_carried = inr (inr (
+  refl,
+  none.piece ∷ [],
+  long ∷ short ∷ [],
+  none_carries,
+  inr (inr (
+    refl,
+    long.piece ∷ [],
+    short ∷ [],
+    long_carries,
+    inr (inr (refl, short.piece ∷ [], [], short_carries, carried_before 4 0, refl)),
+    refl,
+  )),
+  refl,
+))
+
+-- ---- the denial stands, and is not used: the question joins the ask
+
+abbrev joins : Step
+joins = step_of 2200 [] (from_client client (question_text 9 1)) []
+
+abbrev now : List Step
+now = joins ∷ after_none
+
+looks_up : AsksToLookUp config joins client (address a)
+unfolding first_question question_at octets_end name_within walk_in name_step route_of
+looks_up = record {
+  octets = question_text 9 1;
+  sends = refl;
+  taken = refl;
+  opcode = refl;
+  reads = refl;
+  served = refl;
+  route = 0;
+  on_route = refl;
+}
+
+room : HasRoom config after_none pieces
+room = record {
+  slots = record {
+    slots = none.piece.slot ∷ long.piece.slot ∷ [];
+    few = omega arith;
+    each = (inl refl, (inr (inl refl), (inr (inl refl), tt)));
+  };
+  memory = inr (refl, inr (refl, inr (refl, inr (refl, tt))));
+}
+
+known : IsKnown config joins after_none pieces (address a)
+unfolding name_of_rdata name_within walk_in name_step route_of
+known = tt
+
+not_used : ServesTruly config (asked ∷ heard_short ∷ heard_long ∷ heard_none ∷ joins ∷ []) → ⊥
+not_used h = by h.sound.owners h.uses
+  where
+    by : (w : List (List ℕ)) → UsesWhatStands config now w → ⊥
+    by [] uses = uses
+    by (is ∷ w) uses =
+        let once = uses.1 client (address a) pieces looks_up all_carried room known in
+        let one : 0 ≡ 1 = ap length once.actions in
+        omega (arith, one)
+
+-- ---- but no recent piece answers
+
+abbrev touched : List Touched
+touched =
+    record { carried = none ∷ []; used = []; unkept = 0 } ∷ record { carried = long ∷ []; used = []; unkept = 0 }
+    ∷ record { carried = short ∷ []; used = []; unkept = 0 } ∷ record { carried = []; used = []; unkept = 0 } ∷ []
+
+touched_so : (ts : List Touched) → TouchedInEra config after_none ([] ∷ [] ∷ [] ∷ [] ∷ []) ts → ts ≡ touched
+touched_so ts era =
+    let third = touched_these config heard_none after_long (none.piece ∷ []) [] ([] ∷ [] ∷ [] ∷ []) ts (tt, tt) refl none_carries era in
+    let second = touched_these config heard_long after_short (long.piece ∷ []) [] ([] ∷ [] ∷ []) third.before (tt, tt) refl long_carries third.era in
+    let first = touched_these config heard_short (asked ∷ []) (short.piece ∷ []) [] ([] ∷ []) second.before (tt, tt) refl short_carries second.era in
+    let asking = touched_nothing config asked [] [] [] first.before refl (nothing_heard config asked [] refl) first.era in
+    third.is
+    ∙ ap (λ (before : List Touched). record { carried = none ∷ []; used = []; unkept = 0 } ∷ before)
+    (second.is
+    ∙ ap (λ (before : List Touched). record { carried = long ∷ []; used = []; unkept = 0 } ∷ before)
+    (first.is
+    ∙ ap (λ (before : List Touched). record { carried = short ∷ []; used = []; unkept = 0 } ∷ before)
+    (asking.is
+    ∙ ap (λ (before : List Touched). record { carried = []; used = []; unkept = 0 } ∷ before) asking.era)))
+
+-- the second alias was not believed when it came
+not_believed : IsBelieved long (short ∷ []) → ⊥
+not_believed (inl error) = let same : ◌≡◌ {A = Option ℕ} (Some 5) None = error in absurd cc
+not_believed (inr each) =
+    let low = each short (inl refl) (record { name = refl; class = refl; kind = refl }) (omega arith) in
+    omega (arith, low)
+
+came : (o : Held) → CameIn touched o → (none ≡ o) ⊎ (short ≡ o)
+came o (inl brings) = inl (the_one_brought brings).0
+came o (inr (inl brings)) = absurd (not_believed (the_one_brought brings).1)
+came o (inr (inr (inl brings))) = inr (the_one_brought brings).0
+came o (inr (inr (inr (inl brings)))) = absurd brings.believed
+came o (inr (inr (inr (inr never)))) = absurd never
+
+-- the alias is alive all the same
+long_is_living : IsLiving 2200 touched long
+long_is_living = (inr (keeps_place none.piece long.piece refl, inl refl), omega arith)
+
+no_end_short : IsReadyEnd config 2200 touched (address a) short → ⊥
+no_end_short end = let alive = end.ready.alive in omega (arith, alive)
+
+-- so the denial is no answer
+no_end_none : IsReadyEnd config 2200 touched (address a) none → ⊥
+no_end_none end = by end.alone
+  where
+    no_set : (each : List (List ℕ)) → none.piece.body ≡ rows each → ⊥
+    no_set each is = absurd cc
+
+    by : ((each : List (List ℕ)) × (none.piece.body ≡ rows each)) ⊎ LeadsNowhere 2200 touched (address a) → ⊥
+    by (inl (each, is)) = no_set each is
+    by (inr (inl five)) = let same : 1 ≡ 5 = five in omega (arith, same)
+    by (inr (inr leads)) = leads long long_is_living (record { name = refl; class = refl; kind = refl }) _ refl
+
+no_end : (o : Held) → IsReadyEnd config 2200 touched (address a) o → ⊥
+no_end o end = by (came o (recent_came 4096 touched o end.ready.slots end.ready.recent))
+  where
+    by : (none ≡ o) ⊎ (short ≡ o) → ⊥
+    by (inl is) = no_end_none (subst (IsReadyEnd config 2200 touched (address a)) (sym is) end)
+    by (inr is) = no_end_short (subst (IsReadyEnd config 2200 touched (address a)) (sym is) end)
+
+-- and no alias leads to an answer
+no_alias_short : (name : List (List ℕ)) → IsReadyAlias config 2200 touched (address a) short name → ⊥
+no_alias_short name alias = let alive = alias.ready.alive in omega (arith, alive)
+
+no_alias_none : (name : List (List ℕ)) → IsReadyAlias config 2200 touched (address a) none name → ⊥
+no_alias_none name alias = let kinds : ◌≡◌ {A = Option ℕ} (Some 1) (Some 5) = alias.slot.kind in absurd cc
+
+no_alias : (o : Held) (name : List (List ℕ)) → IsReadyAlias config 2200 touched (address a) o name → ⊥
+no_alias o name alias = by (came o (recent_came 4096 touched o alias.ready.slots alias.ready.recent))
+  where
+    by : (none ≡ o) ⊎ (short ≡ o) → ⊥
+    by (inl is) =
+        no_alias_none name (subst (λ (h : Held). IsReadyAlias config 2200 touched (address a) h name) (sym is) alias)
+    by (inr is) =
+        no_alias_short name (subst (λ (h : Held). IsReadyAlias config 2200 touched (address a) h name) (sym is) alias)
+
+none_ready : (more : ℕ) → IsAnsweredByRecent config 2200 touched more (address a) → ⊥
+none_ready zero (o, end) = no_end o end
+none_ready (suc more) (inl (o, end)) = no_end o end
+none_ready (suc more) (inr (o, name, alias, rest)) = no_alias o name alias
+
+asks_for_a : (asker : Client) (q : Question) → AsksToLookUp config joins asker q → address a ≡ q
+unfolding first_question question_at octets_end name_within walk_in name_step
+asks_for_a asker q looks =
+    let own : Request = record { client = client; octets = question_text 9 1 } in
+    let octets : question_text 9 1 ≡ looks.octets = ap (λ (r : Request). r.octets)
+    (request_is own (record { client = asker; octets = looks.octets }) looks.sends) in
+    question_is (address a) q (ap one_question octets ∙ looks.reads)
+
+abbrev no_owners : List (List ℕ)
+no_owners = [] ∷ [] ∷ [] ∷ [] ∷ [] ∷ []
+
+abbrev no_slots : List (List Slot)
+no_slots = [] ∷ [] ∷ [] ∷ [] ∷ [] ∷ []
+
+it_uses_what_is_recent : UsesWhatIsRecent config now no_owners no_slots
+it_uses_what_is_recent = (
+  (
+    (
+      (
+        uses_no_slot config false word asks_it [] only_asks,
+        λ ts era. (
+          inr (inr (record { none = refl; silent = λ q octets from. absurd from.0 })),
+          λ asker q asks recent. absurd (not_sent asks.sends),
+        ),
+      ),
+      λ ts era. (
+        inr (inr (record { none = refl; silent = λ q octets from. absurd from.0 })),
+        λ asker q asks recent. absurd (not_sent asks.sends),
+      ),
+    ),
+    λ ts era. (
+      inr (inr (record { none = refl; silent = λ q octets from. absurd from.0 })),
+      λ asker q asks recent. absurd (not_sent asks.sends),
+    ),
+  ),
+  λ ts era. (
+    inr (inr (record { none = refl; silent = λ q octets from. absurd from.1 })),
+    λ asker q asks recent. absurd (none_ready 8 (subst (λ (z : List Touched × Question). IsAnsweredByRecent config 2200 z.0 8 z.1)
+        (λ i. (touched_so ts era i, sym (asks_for_a asker q asks) i)) recent)),
+  ),
+)
+
+-- ---- and all else holds
+
+sound : Sound config now no_owners
+sound = (
+  (
+    (
+      (
+        (tt, refl, λ q octets hit. tt),
+        refl,
+        λ q octets hit. absurd hit.0,
+      ),
+      refl,
+      λ q octets hit. absurd hit.0,
+    ),
+    refl,
+    λ q octets hit. absurd hit.0,
+  ),
+  refl,
+  λ q octets hit. absurd hit.1,
+)
+
+it_tells : TellsMore config now no_owners
+it_tells = (((((tt, refl), refl), refl), refl), refl)
+
+it_asks_well_on : AsksWell config now
+it_asks_well_on = (
+  (
+    ((it_asks_well.0, (tt, tt), omega arith, tt), (tt, tt), omega arith, tt),
+    (tt, tt),
+    omega arith,
+    tt,
+  ),
+  (tt, tt),
+  omega arith,
+  tt,
+)
+
+wants_first : (later : List Step) → InEra (asked ∷ []) later → Wants config later 0 (address a)
+wants_first later in_era = wants_it config false word asks_it later in_era
+
+asked_for_it : Asks ask (address a)
+unfolding first_question question_at octets_end name_within walk_in name_step
+asked_for_it = record { question = address a; reads = refl; same = refl }
+
+waits_short : AsksForWaiting config heard_short (asked ∷ []) []
+waits_short = record {
+  wanted = address a ∷ [];
+  each = (wants_first after_short (inr (refl, inl refl)), tt);
+  asked = (inl asked_for_it, tt);
+  wanting = (inl asked_for_it, tt);
+  spelled = (inl (inl refl), tt);
+}
+
+waits_long : AsksForWaiting config heard_long after_short []
+waits_long = record {
+  wanted = address a ∷ [];
+  each = (wants_first after_long (inr (refl, inr (refl, inl refl))), tt);
+  asked = (inl asked_for_it, tt);
+  wanting = (inl asked_for_it, tt);
+  spelled = (inl (inl refl), tt);
+}
+
+waits_none : AsksForWaiting config heard_none after_long []
+waits_none = record {
+  wanted = address a ∷ [];
+  each = (wants_first after_none (inr (refl, inr (refl, inr (refl, inl refl)))), tt);
+  asked = (inl asked_for_it, tt);
+  wanting = (inl asked_for_it, tt);
+  spelled = (inl (inl refl), tt);
+}
+
+wants_second : Wants config now 4 (address a)
+unfolding first_question question_at octets_end name_within walk_in name_step
+wants_second = record {
+  asked = joins;
+  before = after_none;
+  in_era = inl refl;
+  number = refl;
+  client = client;
+  request = question_text 9 1;
+  sent = refl;
+  question = address a;
+  reads = refl;
+  aliases = [];
+  leads = record { few = omega arith; follows = refl };
+}
+
+waits_both : AsksForWaiting config joins after_none []
+waits_both = record {
+  wanted = address a ∷ address a ∷ [];
+  each = (wants_first now (inr (refl, inr (refl, inr (refl, inr (refl, inl refl))))), (wants_second, tt));
+  asked = (inl asked_for_it, (inl asked_for_it, tt));
+  wanting = (inl asked_for_it, tt);
+  spelled = (inl (inl refl), tt);
+}
+
+but_for_its_use : UsesWhatStands config now no_owners
+    → ServesTruly config (asked ∷ heard_short ∷ heard_long ∷ heard_none ∷ joins ∷ [])
+but_for_its_use uses = record {
+  sound = record { owners = no_owners; sound = sound; tells = it_tells; few = omega arith };
+  asks = it_asks_well_on;
+  waiting = (((((tt, asked_for config false word), waits_short), waits_long), waits_none), waits_both);
+  uses = uses;
+  used = no_slots;
+  recent = it_uses_what_is_recent;
+}
