@@ -79,7 +79,7 @@ class Follower:
         self.quiet, self.now = 0, 0
         self.events, self.came, self.base, self.history = [], 0, None, None
         self.wanted, self.doubtful, self.guessed, self.accepted = set(), set(), {}, {}
-        self.is_stopped, self.is_told, self.behind = False, False, Behind(note)
+        self.is_stopped, self.is_last, self.is_told, self.behind = False, False, False, Behind(note)
 
     def stop(self, *_):
         self.is_stopped = True
@@ -97,6 +97,13 @@ class Follower:
         if len(self.intake.raw) >= AT_ONCE or self.seen_at - self.done_at > PAUSE:
             self.go_on(False)
             self.behind.look(time.monotonic() - self.seen / 1_000_000)
+
+    def reading(self):
+        """Called before each read. After a signal there is one more: of what was there when it came."""
+        if self.is_stopped:
+            if self.is_last:
+                raise Stopped
+            self.is_last = True
 
     def idle(self):
         """Called while nothing comes."""
@@ -119,8 +126,6 @@ class Follower:
             self.came = 0
         self.done_at = time.monotonic()
         self.look_for_questions()
-        if self.is_stopped and not is_end:
-            raise Stopped
 
     def enter(self, packets, is_end):
         """Puts what packets carry among the events."""
@@ -324,8 +329,8 @@ def files_of(options, follower):
     """The captures, each as a file that grows. Of files those questions are shown that come from now
     on, unless the options say from when on."""
     if options.capture == "-":
-        return [Pipe(opened("-"), follower.idle)]
-    ring = Ring(options.capture, follower.idle, follower.note)
+        return [Pipe(opened("-"), follower)]
+    ring = Ring(options.capture, follower, follower.note)
     options.since = options.since or f"{time.time():.6f}"
     follower.first = ring.queue[0][0] if ring.queue else round(1_000_000 * time.time())
     follower.back = ring.since = span_of(options, follower.first)[0] - BACK

@@ -15,7 +15,8 @@ MOST_HEAD = 512  # octets at the beginning of a file by which it is known
 
 class Growing:
     """What was read and not yet taken. `read` waits for all that it is to give, unless the end has
-    come."""
+    come. `reader.reading` is called before each read of a file, `reader.idle` again and again while
+    there is nothing to read; both may raise what ends the reading."""
 
     def __init__(self):
         self.octets, self.at = b"", 0
@@ -32,16 +33,17 @@ class Growing:
 
 
 class Pipe(Growing):
-    """Standard input. `idle` is called again and again while there is nothing to read."""
+    """Standard input."""
 
-    def __init__(self, file, idle):
+    def __init__(self, file, reader):
         super().__init__()
-        self.number, self.idle = file.fileno(), idle
+        self.number, self.reader = file.fileno(), reader
 
     def more(self):
         """The next octets; none at the end."""
         while not select.select([self.number], [], [], LOOK)[0]:
-            self.idle()
+            self.reader.idle()
+        self.reader.reading()
         return os.read(self.number, AT_ONCE)
 
 
@@ -56,6 +58,7 @@ class RingFile(Growing):
     def more(self):
         """The next octets; none at the end."""
         while True:
+            self.ring.reader.reading()
             octets = self.file.read(AT_ONCE)
             if self.is_another():
                 self.was_rewritten = True
@@ -76,14 +79,14 @@ class RingFile(Growing):
 
 
 class Ring:
-    """The captures of a folder, or one, in the order in which they were begun. `idle` is called
+    """The captures of a folder, or one, in the order in which they were begun. `reader.idle` is called
     again and again while there is nothing to read.
 
     Captures all of which is before `since` are left out. `note` is called with what was lost.
     """
 
-    def __init__(self, path, idle, note):
-        self.path, self.idle, self.note, self.since = path, idle, note, 0
+    def __init__(self, path, reader, note):
+        self.path, self.reader, self.note, self.since = path, reader, note, 0
         self.begun, self.seen, self.queue = {}, {}, deque()
         try:
             os.stat(path)
@@ -123,7 +126,7 @@ class Ring:
         return bool(self.queue)
 
     def wait(self):
-        self.idle()
+        self.reader.idle()
         time.sleep(LOOK)
 
     def captures(self):

@@ -192,6 +192,43 @@ def ended_by_a_signal(program):
     )
 
 
+class Ended(following.Follower):
+    """A signal comes before the first read. The pipe has the packets of a capture by then, and `more`
+    with each read from then on."""
+
+    def __init__(self, program, octets, more):
+        options = command.arguments(["--program", program, "--follow", "office.toml", "-"])
+        settings = configuration.read(CAPTURES / "office.toml", program)
+        super().__init__(options, settings, lambda _: None, lambda *_: None, lambda _: None)
+        (self.came, self.sent), self.more, self.taken = os.pipe(), more, 0
+        os.write(self.sent, octets)
+
+    def reading(self):
+        super().reading()
+        self.stop()
+        os.write(self.sent, self.more)
+
+    def take(self, packet):
+        super().take(packet)
+        self.taken += 1
+
+    def counted(self):
+        """How many packets were taken, and how many questions explained."""
+        with open(self.came, "rb", 0) as file, open(self.sent, "wb", 0):
+            with unittest.mock.patch.object(following, "opened", lambda _: file):
+                summary = following.follow(self.options, self.settings, self)
+        return self.taken, summary.tally.questions
+
+
+def ended_before_the_first_packet(program):
+    """All that was in the pipe as the signal came is explained. Of a pipe that never becomes empty two
+    reads are taken."""
+    octets = capture_of("failures")
+    packets = packets_of(octets)[1]
+    yield "a pipe", Ended(program, octets, b"").counted(), (len(packets), 6)
+    yield "without an end", Ended(program, octets, packets[-1]).counted(), (len(packets) + 2, 6)
+
+
 def without_an_answer(program):
     """The answer to a question is missing. That is said at 5,000 ms, two seconds after the deadline,
     since the service goes on; what is asked at 8,000 ms shows that it is later."""
@@ -344,6 +381,7 @@ ALL = [
     in_a_folder,
     a_file_written_anew,
     ended_by_a_signal,
+    ended_before_the_first_packet,
     without_an_answer,
     reason_among_many,
     how_far_behind,
