@@ -193,8 +193,8 @@ def ended_by_a_signal(program):
 
 
 class Ended(following.Follower):
-    """A signal comes before the first read. The pipe has the packets of a capture by then, and `more`
-    with each read from then on."""
+    """A signal comes before the first read. The pipe has the packets of a capture by then, and gets
+    `more` for each packet that is taken."""
 
     def __init__(self, program, octets, more):
         options = command.arguments(["--program", program, "--follow", "office.toml", "-"])
@@ -206,11 +206,11 @@ class Ended(following.Follower):
     def reading(self):
         super().reading()
         self.stop()
-        os.write(self.sent, self.more)
 
     def take(self, packet):
         super().take(packet)
         self.taken += 1
+        os.write(self.sent, self.more)
 
     def counted(self):
         """How many packets were taken, and how many questions explained."""
@@ -221,12 +221,12 @@ class Ended(following.Follower):
 
 
 def ended_before_the_first_packet(program):
-    """All that was in the pipe as the signal came is explained. Of a pipe that never becomes empty two
-    reads are taken."""
+    """All that was in the pipe as the signal came is explained. A pipe that never becomes empty is read
+    once more."""
     octets = capture_of("failures")
     packets = packets_of(octets)[1]
     yield "a pipe", Ended(program, octets, b"").counted(), (len(packets), 6)
-    yield "without an end", Ended(program, octets, packets[-1]).counted(), (len(packets) + 2, 6)
+    yield "without an end", Ended(program, octets, packets[-1]).counted(), (2 * len(packets), 6)
 
 
 def without_an_answer(program):
