@@ -23,11 +23,15 @@ mod Eras
 mod Carried
 mod ServerDenials
 mod Use
+mod SecondReply
 mod StaleChains
+mod StaleLimits
 mod Tries
 mod Inquiries
 mod Transports
+mod FirstStep
 mod Truly
+mod NotTruly
 mod Unused
 mod Touches
 mod Unbelieved
