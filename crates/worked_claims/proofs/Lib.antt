@@ -42,3 +42,7 @@ mod Justifying
 mod Mirrored
 mod Telling
 mod LookedUp
+mod Neighbours
+mod AtOneName
+mod LameReplies
+mod ServersBeside
