@@ -44,5 +44,6 @@ mod Telling
 mod LookedUp
 mod Neighbours
 mod AtOneName
+mod NoData
 mod LameReplies
 mod ServersBeside
