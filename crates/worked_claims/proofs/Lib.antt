@@ -47,3 +47,4 @@ mod AtOneName
 mod NoData
 mod LameReplies
 mod ServersBeside
+mod EightAliases
