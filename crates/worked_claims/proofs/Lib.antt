@@ -48,3 +48,4 @@ mod NoData
 mod LameReplies
 mod ServersBeside
 mod EightAliases
+mod EarlierTries
