@@ -22,7 +22,7 @@ use Rattle.worked_claims.proofs.Texts.{question_text, client, step_of}
 use Rattle.worked_claims.proofs.Silent.{nothing_heard}
 use Rattle.worked_claims.proofs.Accepted.{asked, answered, ask, reply_text, says, reply_is_read, piece, held, carried_now}
 use Rattle.worked_claims.proofs.Carried.{one_era}
-use Rattle.worked_claims.proofs.StaleChains.{c, heard_again, five_seconds, second_carries}
+use Rattle.worked_claims.proofs.SecondReply.{c, heard_again, five_seconds, second_carries}
 use Rattle.worked_claims.proofs.Whole.{history}
 
 -- ---- a client asks at this moment, after these steps, and is answered at once

@@ -23,11 +23,15 @@ mod Eras
 mod Carried
 mod ServerDenials
 mod Use
+mod SecondReply
 mod StaleChains
+mod StaleLimits
 mod Tries
 mod Inquiries
 mod Transports
+mod FirstStep
 mod Truly
+mod NotTruly
 mod Unused
 mod Touches
 mod Unbelieved
@@ -38,3 +42,10 @@ mod Justifying
 mod Mirrored
 mod Telling
 mod LookedUp
+mod Neighbours
+mod AtOneName
+mod NoData
+mod LameReplies
+mod ServersBeside
+mod EightAliases
+mod EarlierTries

@@ -43,7 +43,8 @@ use Rattle.worked_claims.proofs.Silent.{nothing_heard}
 use Rattle.worked_claims.proofs.Accepted.{asked, answered, piece, held, carries, carried_now}
 use Rattle.worked_claims.proofs.Carried.{one_era}
 use Rattle.worked_claims.proofs.Touches.{touched_nothing, touched_these, CameIn, recent_came, the_one_brought}
-use Rattle.worked_claims.proofs.Truly.{handed_on, recent_so_far, word, asked_for, not_sent, request_is, question_is}
+use Rattle.worked_claims.proofs.Truly.{handed_on, recent_so_far}
+use Rattle.worked_claims.proofs.FirstStep.{word, asked_for, not_sent, request_is, question_is}
 use Rattle.worked_claims.proofs.Whole.{history, it_is_sound, it_asks_well, it_tells_that_nothing_is_due}
 
 -- ---- the address of b.e is asked for

@@ -29,7 +29,7 @@ use Rattle.worked_claims.proofs.Silent.{nothing_followed}
 use Rattle.worked_claims.proofs.Accepted.{asked}
 use Rattle.worked_claims.proofs.Aliases.{alias, loop, loops, no_alias_asked}
 use Rattle.worked_claims.proofs.Reasons.{denies_a}
-use Rattle.worked_claims.proofs.Truly.{request_is, question_is}
+use Rattle.worked_claims.proofs.FirstStep.{request_is, question_is}
 
 -- ---- messages that are looked up
 

@@ -1,6 +1,5 @@
--- Expired chains, computed: along an alias that has expired, and after one that is held; eight
--- aliases in all, and not nine; and a set that another one replaced is not sent.
-use Rattle.std.proofs.Common.{◌≡◌, ℕ, ◌+◌, ◌<◌, ◌≤◌, ◌++◌, zero, suc, List, [], ◌∷◌, Some, Ok, refl, sym, ap, ◌∙◌, subst}
+-- Expired chains, computed: along an alias that has expired, and after one that is held.
+use Rattle.std.proofs.Common.{◌≡◌, ℕ, List, [], ◌∷◌, Some, Ok, refl, sym, ap, ◌∙◌, subst}
 use Rattle.std.proofs.Common.{inl, inr, arith}
 use Rattle.std.proofs.lemmas.Bool.{false≢true}
 use Rattle.dns_message.specs.Names.{step as name_step, walk_in, name_within}
@@ -13,32 +12,27 @@ use Rattle.dns_message.specs.Values.{Question, Message}
 use Rattle.dns_message.specs.Fields.{first_field, fields_of}
 use Rattle.dns_message.specs.Writing.{◌▹◌, each, name_text, data_text, with_length, written}
 use Rattle.dns_message.proofs.CallerLemmas.{message_read_is_spelled}
-use Rattle.suffix_routes.specs.Values.{Config}
 use Rattle.suffix_routes.specs.Routes.{route_of}
-use Rattle.trust_rank.specs.Values.{rows, Piece}
+use Rattle.trust_rank.specs.Values.{rows}
 use Rattle.trust_rank.specs.Walks.{walk_from, servers_from}
 use Rattle.record_cache.specs.Values.{Held}
 use Rattle.outstanding.specs.declared.ask.Path.TheVariants.{Udp}
 use Rattle.step_values.specs.declared.action.Why.TheVariants.{Answered, Stale}
 use Rattle.step_values.specs.Values.{from_client, delivery, tick, send_reply, ask_udp, close_udp, Step}
-use Rattle.step_history.specs.History.{Look, ShownAsk, listed, on_path, moment_at, Carries}
-use Rattle.step_history.specs.Carried.{CarriedInEra, NotReplaced, Justified}
+use Rattle.step_history.specs.History.{Look, ShownAsk, Carries}
+use Rattle.step_history.specs.Carried.{CarriedInEra, Justified}
 use Rattle.step_history.specs.Answers.{IsOf, FollowsAliases}
 use Rattle.step_history.proofs.CallerLemmas.{walk_accepted, alias_to, target_is}
-use Rattle.cache_laws.proofs.CallerLemmas.{serves_exactly, replaces_exactly, keeps_place, slot_test}
+use Rattle.cache_laws.proofs.CallerLemmas.{serves_exactly, keeps_place, slot_test}
 use Rattle.step_history.specs.Causes.{AllTriesFailed, ClosesAsk}
 use Rattle.step_history.specs.Stale.{JustifiedStale, FollowsStale, StaleChain, StaleAnswers}
 use Rattle.step_history.specs.Sound.{RightReply}
 use Rattle.step_table.proofs.Played.{a, b, address, name_data, server}
 use Rattle.worked_claims.proofs.Texts.{question_text, client, step_of}
 use Rattle.worked_claims.proofs.Silent.{nothing_heard}
-use Rattle.worked_claims.proofs.Carried.{one_era}
-use Rattle.worked_claims.proofs.Accepted.{asked, ask, answered, answer_with, held, with_limits, carried_before, carried_now}
+use Rattle.worked_claims.proofs.Accepted.{asked, ask, carried_before}
 use Rattle.worked_claims.proofs.Aliases as aliases
-
--- one try, and a window of 600 seconds
-abbrev pub c : Config
-c = with_limits 1 600
+use Rattle.worked_claims.proofs.SecondReply.{c}
 
 -- ---- a.e is an alias of b.e for 200 seconds, and that has an address for 60
 
@@ -185,7 +179,14 @@ along_an_alias : StaleChain seen [] (address a) (alias ∷ []) set
 unfolding name_of_rdata name_within walk_in name_step
 along_an_alias = record {
   last = address b;
-  follows = (aliases.no_alias_asked, alias_past_its_end, record { name = refl; class = refl; kind = refl }, b, alias_to alias.piece b refl, refl);
+  follows = (
+    aliases.no_alias_asked,
+    alias_past_its_end,
+    record { name = refl; class = refl; kind = refl },
+    b,
+    alias_to alias.piece b refl,
+    refl,
+  );
   few = omega arith;
   justified = set_past_its_end;
   slot = record { name = refl; class = refl; kind = refl };
@@ -297,7 +298,14 @@ alias_lives = record {
 
 follows_it : FollowsAliases seen_sooner (address a) (alias ∷ []) (address b)
 unfolding name_of_rdata name_within walk_in name_step
-follows_it = (aliases.no_alias_asked, alias_lives, record { name = refl; class = refl; kind = refl }, b, alias_to alias.piece b refl, refl)
+follows_it = (
+  aliases.no_alias_asked,
+  alias_lives,
+  record { name = refl; class = refl; kind = refl },
+  b,
+  alias_to alias.piece b refl,
+  refl,
+)
 
 set_has_ended : JustifiedStale seen_sooner b set
 unfolding route_of
@@ -352,7 +360,13 @@ unfolding written ◌▹◌ each name_text data_text with_length fields_of first
 held_answers = record {
   found = [];
   end = set;
-  chain = record { last = address b; follows = refl; few = omega arith; justified = set_has_ended; slot = record { name = refl; class = refl; kind = refl } };
+  chain = record {
+    last = address b;
+    follows = refl;
+    few = omega arith;
+    justified = set_has_ended;
+    slot = record { name = refl; class = refl; kind = refl };
+  };
   text = refl;
   fits = tt;
   message = says held_text 129 30;
@@ -363,228 +377,3 @@ an_answer_behind_a_held_alias : RightReply seen_sooner client (question_text 7 1
 unfolding tries_behind
 an_answer_behind_a_held_alias =
     record { opcode = refl; tries = tries_behind; served = refl; window = omega arith; answers = held_answers }
-
--- ---- a second reply, to an ask on the port 1040 with the identifier 16: the address for 5 seconds
-
-abbrev pub second_text : List ℕ
-second_text = answer_with 16 133 0 5
-
-abbrev says_again : Message
-says_again = record {
-  header = header_in second_text;
-  questions = address a ∷ [];
-  answers = record { owner = a; kind = 1; class = 1; ttl = 5; rdata = 198 ∷ 51 ∷ 100 ∷ 5 ∷ [] } ∷ [];
-  authority = [];
-  additional = [];
-}
-
-second_is_read : message_of second_text ≡ Ok says_again
-unfolding message_at header_of counted question_at octets_end record_at data_at octets_within parts_at shape_of
-    name_within walk_in name_step
-second_is_read = refl
-
-abbrev pub heard_again : ℕ → Step
-heard_again now = step_of now [] (delivery (Udp 1040) server second_text)
-    (close_udp 1040 ∷ send_reply client (answer_with 7 129 128 5) Answered ∷ [])
-
-abbrev pub five_seconds : Piece
-five_seconds = record held.piece { lifetime = 5 }
-
-abbrev newer : ℕ → Held
-newer now = record { piece = five_seconds; accepted = now }
-
--- it carried that, to whatever step's ask on that port, as long as it was open
-pub second_carries : (now asked_at : ℕ) (before : List Step)
-    → on_path (Udp 1040) (listed before)
-    ≡ Some (record { path = Udp 1040; server = server; octets = question_text 16 1; moment = asked_at })
-    → moment_at (heard_again now ∷ before) < asked_at + 1500
-    → Carries c (heard_again now) before (five_seconds ∷ [])
-unfolding first_question question_at octets_end name_within walk_in name_step route_of walk_from servers_from
-second_carries now asked_at before on live = record {
-  pieces = five_seconds ∷ [];
-  servers = [];
-  accepts = walk_accepted c (heard_again now) before (record { path = Udp 1040; server = server; octets = question_text 16 1; moment = asked_at }) (address a) 0 second_text says_again (tt, tt) (record {
-    delivered = refl;
-    is_listed = on;
-    is_live = live;
-    long_enough = omega arith;
-    not_too_long = omega arith;
-    is_reply = refl;
-    opcode = refl;
-    identifier = refl;
-    ask_reads = refl;
-    question = address a;
-    reads = refl;
-    same_question_as_ask = refl;
-  }) (message_read_is_spelled second_text says_again second_is_read) refl (inl refl) refl refl;
-  are = refl;
-}
-
--- ---- eight aliases in all
-
--- a.e was an alias of itself, and then has an address
-abbrev looped : List Step
-looped = heard_again 1040 ∷ aliases.redirected ∷ asked ∷ []
-
-loops_carried : CarriedInEra c (aliases.redirected ∷ asked ∷ []) (aliases.loops 8)
-loops_carried = inr (inr (
-  refl,
-  aliases.alias ∷ aliases.alias ∷ aliases.alias ∷ aliases.alias ∷ aliases.alias ∷ aliases.alias ∷ aliases.alias
-      ∷ aliases.alias ∷ [],
-  [],
-  aliases.carries 1 600,
-  carried_before 1 600,
-  refl,
-))
-
-looped_carried : CarriedInEra c looped (newer 1040 ∷ aliases.loops 8)
-looped_carried = inr (inr (
-  refl,
-  five_seconds ∷ [],
-  aliases.loops 8,
-  second_carries 1040 1020 (aliases.redirected ∷ asked ∷ []) refl (omega arith),
-  loops_carried,
-  refl,
-))
-
--- then time passes
-abbrev waits : Step
-waits = step_of 70000 [] tick []
-
-abbrev seen_looped : Look
-seen_looped = record { config = c; asked = asked; before = []; now = waits ∷ looped }
-
-looped_until_now : CarriedInEra c (waits ∷ looped) (newer 1040 ∷ aliases.loops 8)
-looped_until_now = inr (inl (refl, nothing_heard c waits looped refl, looped_carried))
-
-loop_past_its_end : JustifiedStale seen_looped a aliases.loop
-unfolding route_of
-loop_past_its_end = record {
-  old = newer 1040 ∷ aliases.loops 8;
-  new = [];
-  carried_before = looped_carried;
-  carried_now = looped_until_now;
-  came_before = inr (inl refl);
-  not_replaced = inr (keeps_place five_seconds aliases.alias refl, inl refl);
-  on_route = serves_exactly.only c a 0 refl;
-  is_set = tt;
-  has_lifetime = omega arith;
-  within = omega arith;
-}
-
-address_past_its_end : JustifiedStale seen_looped a (newer 1040)
-unfolding route_of
-address_past_its_end = record {
-  old = newer 1040 ∷ aliases.loops 8;
-  new = [];
-  carried_before = looped_carried;
-  carried_now = looped_until_now;
-  came_before = inl refl;
-  not_replaced = inl refl;
-  on_route = serves_exactly.only c a 0 refl;
-  is_set = tt;
-  has_lifetime = omega arith;
-  within = omega arith;
-}
-
-one_more : (os : List Held) → FollowsStale seen_looped (address a) os (address a)
-    → FollowsStale seen_looped (address a) (aliases.loop ∷ os) (address a)
-unfolding name_of_rdata name_within walk_in name_step
-one_more os rest = (aliases.no_alias_asked, loop_past_its_end, record { name = refl; class = refl; kind = refl }, a, alias_to aliases.alias a refl, rest)
-
-so_many : (n : ℕ) → FollowsStale seen_looped (address a) (aliases.loops n) (address a)
-so_many zero = refl
-so_many (suc n) = one_more (aliases.loops n) (so_many n)
-
-eight_past_their_ends : StaleChain seen_looped [] (address a) (aliases.loops 8) (newer 1040)
-eight_past_their_ends = record {
-  last = address a;
-  follows = so_many 8;
-  few = omega arith;
-  justified = address_past_its_end;
-  slot = record { name = refl; class = refl; kind = refl };
-}
-
-five_behind_three_that_are_held : StaleChain seen_looped (aliases.loops 3) (address a) (aliases.loops 5) (newer 1040)
-five_behind_three_that_are_held = record {
-  last = address a;
-  follows = so_many 5;
-  few = omega arith;
-  justified = address_past_its_end;
-  slot = record { name = refl; class = refl; kind = refl };
-}
-
-nine_past_their_ends : (l : Look) (q : Question) (o : Held) → StaleChain l [] q (aliases.loops 9) o → ⊥
-nine_past_their_ends l q o h = let few : 9 ≤ 8 = h.few in omega (arith, few)
-
-five_behind_four_that_are_held : (l : Look) (q : Question) (o : Held)
-    → StaleChain l (aliases.loops 4) q (aliases.loops 5) o → ⊥
-five_behind_four_that_are_held l q o h = let few : 9 ≤ 8 = h.few in omega (arith, few)
-
--- ---- a set that another one replaced
-
--- the address expired, and came again for 5 seconds; then all tries fail
-abbrev renews : Step
-renews = step_of 62000 (1048592 ∷ []) (from_client client (question_text 7 1))
-    (ask_udp 1040 server (question_text 16 1) ∷ [])
-
-abbrev renewed : List Step
-renewed = heard_again 62020 ∷ renews ∷ answered ∷ asked ∷ []
-
-abbrev seen_renewed : Look
-seen_renewed = record { config = c; asked = renews; before = answered ∷ asked ∷ []; now = waits ∷ renewed }
-
-abbrev two_sets : List Held
-two_sets = newer 62020 ∷ held ∷ []
-
-renewed_carried : CarriedInEra c renewed two_sets
-renewed_carried = inr (inr (
-  refl,
-  five_seconds ∷ [],
-  held ∷ [],
-  second_carries 62020 62000 (renews ∷ answered ∷ asked ∷ []) refl (omega arith),
-  inr (inl (refl, nothing_heard c renews (answered ∷ asked ∷ []) refl, carried_now 1 600)),
-  refl,
-))
-
-renewed_until_now : CarriedInEra c (waits ∷ renewed) two_sets
-renewed_until_now = inr (inl (refl, nothing_heard c waits renewed refl, renewed_carried))
-
-the_newer_set : JustifiedStale seen_renewed a (newer 62020)
-unfolding route_of
-the_newer_set = record {
-  old = two_sets;
-  new = [];
-  carried_before = renewed_carried;
-  carried_now = renewed_until_now;
-  came_before = inl refl;
-  not_replaced = inl refl;
-  on_route = serves_exactly.only c a 0 refl;
-  is_set = tt;
-  has_lifetime = omega arith;
-  within = omega arith;
-}
-
--- of the older one all holds, but that it was replaced
-not_the_older_set : JustifiedStale seen_renewed a held → ⊥
-not_the_older_set j = by (subst (NotReplaced held)
-    (one_era c (waits ∷ renewed) (j.new ++ j.old) two_sets (tt, tt) j.carried_now renewed_until_now) j.not_replaced)
-  where
-    by : NotReplaced held two_sets → ⊥
-    by (inl same) = let moments : 62020 ≡ 1020 = ap (λ (o : Held). o.accepted) same in omega (arith, moments)
-    by (inr behind) = behind.0 (replaces_exactly.only five_seconds held.piece refl)
-
-but_for_its_place : NotReplaced held two_sets → JustifiedStale seen_renewed a held
-unfolding route_of
-but_for_its_place not_replaced = record {
-  old = two_sets;
-  new = [];
-  carried_before = renewed_carried;
-  carried_now = renewed_until_now;
-  came_before = inr (inl refl);
-  not_replaced = not_replaced;
-  on_route = serves_exactly.only c a 0 refl;
-  is_set = tt;
-  has_lifetime = omega arith;
-  within = omega arith;
-}

@@ -17,7 +17,7 @@ use Rattle.worked_claims.proofs.Texts.{question_text, client, step_of}
 use Rattle.worked_claims.proofs.Silent.{nothing_heard}
 use Rattle.worked_claims.proofs.Accepted.{asked, ask}
 use Rattle.worked_claims.proofs.Failures.{the_first_closes_none}
-use Rattle.worked_claims.proofs.StaleChains.{c, heard_again, five_seconds, second_carries}
+use Rattle.worked_claims.proofs.SecondReply.{c, heard_again, five_seconds, second_carries}
 
 -- ---- two asks of a.e failed
 

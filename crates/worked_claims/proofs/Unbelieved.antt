@@ -39,7 +39,7 @@ use Rattle.worked_claims.proofs.Silent.{nothing_heard}
 use Rattle.worked_claims.proofs.Accepted.{asked, ask, carried_before}
 use Rattle.worked_claims.proofs.ServerDenials.{server_text, says as denies, none_is_read, no_address}
 use Rattle.worked_claims.proofs.Touches.{touched_nothing, touched_these, CameIn, recent_came, the_one_brought}
-use Rattle.worked_claims.proofs.Truly.{word, asked_for, wants_it, asks_it, not_sent, request_is, question_is, uses_no_slot, only_asks}
+use Rattle.worked_claims.proofs.FirstStep.{word, asked_for, wants_it, asks_it, not_sent, request_is, question_is, uses_no_slot, only_asks}
 use Rattle.worked_claims.proofs.Whole.{it_asks_well}
 
 -- ---- a.e is an alias of b.e

@@ -28,7 +28,8 @@ use Rattle.worked_claims.proofs.Silent.{nothing_heard}
 use Rattle.worked_claims.proofs.Accepted.{asked, answered, piece, carries, held, carried_now}
 use Rattle.worked_claims.proofs.OnlyThis.{leads_nowhere}
 use Rattle.worked_claims.proofs.Whole.{history, it_is_sound, it_asks_well, it_tells_that_nothing_is_due}
-use Rattle.worked_claims.proofs.Truly.{first, word, asked_for, not_sent, handed_on}
+use Rattle.worked_claims.proofs.FirstStep.{first, word, asked_for, not_sent}
+use Rattle.worked_claims.proofs.Truly.{handed_on}
 
 -- ---- what stands, and is recent, is not used: the question is asked again
 

@@ -44,8 +44,9 @@ use Rattle.worked_claims.proofs.Silent.{nothing_heard}
 use Rattle.worked_claims.proofs.Accepted.{asked, ask, reply_text, says, reply_is_read, piece, held, carried_before}
 use Rattle.worked_claims.proofs.ServerDenials.{server_text, says as denies, error_is_read, name_error}
 use Rattle.worked_claims.proofs.Touches.{touched_these}
-use Rattle.worked_claims.proofs.Truly.{word, asked_for, wants_it, asks_it, not_sent, request_is, question_is, uses_nothing}
-use Rattle.worked_claims.proofs.Truly.{uses_no_slot, only_asks, again_text, said, is_read}
+use Rattle.worked_claims.proofs.FirstStep.{word, asked_for, wants_it, asks_it, not_sent, request_is, question_is, uses_nothing}
+use Rattle.worked_claims.proofs.FirstStep.{uses_no_slot, only_asks}
+use Rattle.worked_claims.proofs.Truly.{again_text, said, is_read}
 use Rattle.worked_claims.proofs.Whole.{it_asks_well}
 
 -- ---- two replies come to one ask: the address, then the name error

@@ -1,0 +1,3 @@
+mod Neighbours
+mod Turns
+mod Services
