@@ -14,7 +14,7 @@ use Rattle.step_values.specs.Values.{Action}
 use Rattle.step_values.specs.declared.action.Why.TheVariants.{Answered, ChainLong, NoRoute}
 use Rattle.waiting_questions.specs.Values.{Waiting}
 use Rattle.step_table.specs.Steps.{gets, waits, gives_up, denied_locally, sends, transport_of}
-use Rattle.step_table.specs.Clients.{fate_missed, fate_at, waits_with}
+use Rattle.step_table.specs.Clients.{fate_missed, fate_at, fate_of, waits_with}
 
 -- ---- what the configuration says of a key it says of the name
 
@@ -50,29 +50,36 @@ module _ (c : Config) (n : ℕ) (x : Waiting) (l : LookUp) where
   long_fate too_long is = refl
   long_fate missed is = absurd (cc)
 
-  pub missed_fate : (m : LookUpEnd) → kind_of m ≡ Missed
-      → fate_missed c n x l (serving_route_of c l.wanted.name) ≡ fate_at c n x l m
-  missed_fate (ends e) is = absurd (cc)
-  missed_fate too_long is = absurd (cc)
-  missed_fate missed is = refl
+  -- only after a look-up that missed does it wait
+  pub waits_missed : (y : Waiting) → waits y ≡ fate_of c n x l → l.met ≡ missed
+  waits_missed y is = by l.met is
+    where
+      by : (m : LookUpEnd) → waits y ≡ fate_at c n x l m → m ≡ missed
+      by (ends e) is = absurd (cc)
+      by too_long is = absurd (cc)
+      by missed is = refl
 
   -- ---- a question whose look-up missed, by the route of the name that it wants
 
+  by_route : (route : Option ℕ) → l.met ≡ missed → route ≡ serving_route_of c l.wanted.name
+      → fate_missed c n x l route ≡ fate_of c n x l
+  by_route route met is = ap (fate_missed c n x l) is ∙ ap (fate_at c n x l) (sym met)
+
   -- a route serves the name: it waits
-  pub served_fate : (route : ℕ) → Some route ≡ serving_route_of c l.wanted.name
-      → waits (waits_with x l) ≡ fate_missed c n x l (serving_route_of c l.wanted.name)
-  served_fate route served = ap (fate_missed c n x l) served
+  pub served_fate : (route : ℕ) → l.met ≡ missed → Some route ≡ serving_route_of c l.wanted.name
+      → waits (waits_with x l) ≡ fate_of c n x l
+  served_fate route met served = by_route (Some route) met served
 
   -- the configuration denies the name
-  pub denied_fate : None ≡ serving_route_of c l.wanted.name → true ≡ is_local c l.wanted.name
-      → gets (denied_locally n x l.held) ≡ fate_missed c n x l (serving_route_of c l.wanted.name)
-  denied_fate none denied =
+  pub denied_fate : l.met ≡ missed → None ≡ serving_route_of c l.wanted.name → true ≡ is_local c l.wanted.name
+      → gets (denied_locally n x l.held) ≡ fate_of c n x l
+  denied_fate met none denied =
       ap (λ (a : Action). gets a) (sym (cond-true (is_local c l.wanted.name) _ _ (sym denied)))
-      ∙ ap (fate_missed c n x l) none
+      ∙ by_route None met none
 
   -- the name has no route
-  pub unrouted_fate : None ≡ serving_route_of c l.wanted.name → false ≡ is_local c l.wanted.name
-      → gets (gives_up NoRoute x) ≡ fate_missed c n x l (serving_route_of c l.wanted.name)
-  unrouted_fate none not_denied =
+  pub unrouted_fate : l.met ≡ missed → None ≡ serving_route_of c l.wanted.name → false ≡ is_local c l.wanted.name
+      → gets (gives_up NoRoute x) ≡ fate_of c n x l
+  unrouted_fate met none not_denied =
       ap (λ (a : Action). gets a) (sym (cond-false (is_local c l.wanted.name) _ _ (sym not_denied)))
-      ∙ ap (fate_missed c n x l) none
+      ∙ by_route None met none

@@ -2,13 +2,10 @@
 
 ghost use Rattle.std.specs.Prelude.{◌≡◌, IfOk};
 ghost use Rattle.std.specs.List.{AllByRecursion};
-ghost use Rattle.suffix_routes.specs.Serving.{serving_route_of};
-ghost use Rattle.plain_values.specs.Borrowed.{lent};
 ghost use Rattle.answer_builder.specs.Answers.{IsEarlier};
 ghost use Rattle.alias_chains.specs.LookingUp.{missed};
 ghost use Rattle.alias_chains.specs.Looked.{chain_of};
-ghost use Rattle.step_table.specs.Clients.{fate_missed, fate_of};
-ghost use Rattle.step_actions.specs.Fates.{fate_in, IfWaits};
+ghost use Rattle.step_actions.specs.Fates.{IsFate};
 
 use crate::step_start::StepStartRef;
 use alias_chains::{LookUp, LookUpEnd, copies};
@@ -36,9 +33,7 @@ pub fn fate_of<H: BuildHasher + Drop, A: Allocator + Copy>(
     looked: &LookUp<'_, '_, A>,
 ) -> Result<Fate<A>, AllocError>
     requires earlier { AllByRecursion (IsEarlier start.now.moment) (chain_of looked.now) }
-    ensures fate { IfOk result (λ fate. fate_in request.now looked.now fate
-        ≡ fate_of start.now.config start.now.moment request.now looked.now) }
-    ensures waits { IfOk result (IfWaits start.now.config looked.now) }
+    ensures { IfOk result (IsFate start.now request.now looked.now) }
 {
     match looked.met() {
         LookUpEnd::Ends => {
@@ -62,10 +57,7 @@ fn missed<H: BuildHasher + Drop, A: Allocator + Copy>(
 ) -> Result<Fate<A>, AllocError>
     requires earlier { AllByRecursion (IsEarlier start.now.moment) (chain_of looked.now) }
     requires missed { looked.now.met ≡ missed }
-    ensures fate { IfOk result (λ fate. fate_in request.now looked.now fate
-        ≡ fate_missed start.now.config start.now.moment request.now looked.now
-        (serving_route_of start.now.config looked.now.wanted.name)) }
-    ensures waits { IfOk result (IfWaits start.now.config looked.now) }
+    ensures { IfOk result (IsFate start.now request.now looked.now) }
 {
     let wanted = looked.wanted();
     match start.config.routing_of_key(&wanted.key()) {

@@ -7,9 +7,10 @@ use Rattle.alias_chains.specs.Looked.{chain_of}
 use Rattle.alias_chains.proofs.CallerLemmas.{look_up_holds, held_holds}
 use Rattle.waiting_questions.specs.Values.{Waiting}
 use Rattle.step_table.specs.State.{StepStart}
+use Rattle.step_table.specs.Clients.{fate_of, waits_with}
 use Rattle.step_table.specs.Progress.{IsOnRoute}
-use Rattle.step_actions.specs.Fates.{fate_in, IfWaits}
-use Rattle.step_actions.proofs.CallerLemmas.{decides_by, later_entries}
+use Rattle.step_actions.specs.Fates.{IsFate}
+use Rattle.step_actions.proofs.CallerLemmas.{decides_by, later_entries, waits_missed}
 use Rattle.client_decisions.proofs.Hits.{fate_row, own_waits}
 use Rattle.client_decisions.proofs.client.look.Goals as goal
 
@@ -31,11 +32,14 @@ fate_of-requires g c =
 
 pub wait-requires-clause-missed : goal.wait-requires-clause-missed
 wait-requires-clause-missed g c =
-    (subst (IfWaits c.args.start.now.config c.in_ok-looked.looked) c.in-Waits.is c.in_ok-fate.ensures.waits).0
+    let t = c.args.start.now in
+    let x = c.args.request.now in
+    let l = c.in_ok-looked.looked in
+    waits_missed t.config t.moment x l (waits_with x l) (subst (IsFate t x l) c.in-Waits.is c.in_ok-fate.ensures).0
 
 pub wait-requires-clause-on : goal.wait-requires-clause-on
 wait-requires-clause-on g c =
-    (subst (IfWaits c.args.start.now.config c.in_ok-looked.looked) c.in-Waits.is c.in_ok-fate.ensures.waits).1
+    (subst (IsFate c.args.start.now c.args.request.now c.in_ok-looked.looked) c.in-Waits.is c.in_ok-fate.ensures).1
 
 pub wait-requires-clause-own : goal.wait-requires-clause-own
 wait-requires-clause-own g c =
@@ -76,8 +80,8 @@ returns-in-Reply g c = record {
       (subst (λ (r : StepStart). AllByRecursion (IsOnRoute r.config) r.state.cache.entries) c.start.view_is
       c.start.invariant.0.cache.on_routes)
       (c.into_slots.ensures ∙ ap (λ (l : LookUp). l.used) exact)
-      (ap (fate_in c.args.request.now c.in_ok-looked.looked) (sym c.in-Reply.is) ∙ c.in_ok-fate.ensures.fate
-      ∙ ap (λ (l : LookUp). Rattle.step_table.specs.Clients.fate_of t.config t.moment c.args.request.now l) exact));
+      (subst (IsFate t c.args.request.now c.in_ok-looked.looked) c.in-Reply.is c.in_ok-fate.ensures
+      ∙ ap (λ (l : LookUp). fate_of t.config t.moment c.args.request.now l) exact));
 }
 
 pub returns-in-Waits : goal.returns-in-Waits
@@ -93,6 +97,6 @@ returns-in-Waits g c = record {
       (subst (λ (r : StepStart). AllByRecursion (IsOnRoute r.config) r.state.cache.entries) c.start.view_is
       c.start.invariant.0.cache.on_routes)
       (ap (λ (l : LookUp). l.used) exact)
-      (ap (fate_in c.args.request.now c.in_ok-looked.looked) (sym c.in-Waits.is) ∙ c.in_ok-fate.ensures.fate
-      ∙ ap (λ (l : LookUp). Rattle.step_table.specs.Clients.fate_of t.config t.moment c.args.request.now l) exact));
+      ((subst (IsFate t c.args.request.now c.in_ok-looked.looked) c.in-Waits.is c.in_ok-fate.ensures).0
+      ∙ ap (λ (l : LookUp). fate_of t.config t.moment c.args.request.now l) exact));
 }

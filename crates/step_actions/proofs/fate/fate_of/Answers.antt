@@ -1,6 +1,5 @@
 use Rattle.std.proofs.Common.{◌∙◌, List, sym, ap, subst}
 use Rattle.std.specs.List.{AllByRecursion}
-use Rattle.std.proofs.lemmas.Result.{IfOk-weaker}
 use Rattle.answer_builder.specs.Answers.{IsEarlier}
 use Rattle.answer_builder.specs.Transports.{answer_of}
 use Rattle.plain_values.specs.Borrowed.{lent}
@@ -9,7 +8,7 @@ use Rattle.step_values.specs.Values.{Action}
 use Rattle.step_values.specs.declared.action.Why.TheVariants.{Answered}
 use Rattle.step_table.specs.State.{StepStart}
 use Rattle.step_table.specs.Steps.{gets, sends, transport_of}
-use Rattle.step_actions.proofs.Fates.{it_missed, ended_fate, long_fate, missed_fate}
+use Rattle.step_actions.proofs.Fates.{it_missed, ended_fate, long_fate}
 use Rattle.step_actions.proofs.fate.fate_of.Goals as goal
 
 pub answer-requires : goal.answer-requires
@@ -19,16 +18,16 @@ answer-requires g c = record {
       (subst (AllByRecursion (IsEarlier c.args.start.now.moment)) (sym c.chain.ensures.chain) c.requires.earlier);
 }
 
-pub returns-in_ok-action-in-Ends-clause-fate : goal.returns-in_ok-action-in-Ends-clause-fate
-returns-in_ok-action-in-Ends-clause-fate g c =
+pub returns-in_ok-action-in-Ends : goal.returns-in_ok-action-in-Ends
+returns-in_ok-action-in-Ends g c =
     let x = c.args.request.now in
     let l = c.args.looked.now in
     ap (λ (a : Action). gets a) (c.in_ok-action-in-Ends.ensures ∙ (λ i. sends Answered x
     (answer_of x.asked (c.chain.ensures.chain i) (c.start.view_is i).moment (transport_of x.client))))
     ∙ ended_fate c.args.start.now.config c.args.start.now.moment x l l.met (sym c.met.ensures ∙ c.in-Ends.is)
 
-pub returns-in_ok-action-in-TooLong-clause-fate : goal.returns-in_ok-action-in-TooLong-clause-fate
-returns-in_ok-action-in-TooLong-clause-fate g c =
+pub returns-in_ok-action-in-TooLong : goal.returns-in_ok-action-in-TooLong
+returns-in_ok-action-in-TooLong g c =
     let l = c.args.looked.now in
     ap (λ (a : Action). gets a) c.in_ok-action-in-TooLong.ensures
     ∙ long_fate c.args.start.now.config c.args.start.now.moment c.args.request.now l l.met
@@ -38,10 +37,3 @@ pub missed-requires-clause-missed : goal.missed-requires-clause-missed
 missed-requires-clause-missed g c =
     let l = c.args.looked.now in
     it_missed l.met (sym c.met.ensures ∙ c.in-Missed.is)
-
-pub returns-in-Missed-clause-fate : goal.returns-in-Missed-clause-fate
-returns-in-Missed-clause-fate g c =
-    let l = c.args.looked.now in
-    IfOk-weaker c.missed.result _ _ (λ fate e.
-    e ∙ missed_fate c.args.start.now.config c.args.start.now.moment c.args.request.now l l.met
-    (sym c.met.ensures ∙ c.in-Missed.is)) c.missed.ensures.fate
