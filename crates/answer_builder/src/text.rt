@@ -1,8 +1,6 @@
 //! The octets of answers.
 
 ghost use Rattle.std.specs.Prelude.{◌≡◌, ◌≤◌, ◌<◌, ◌∷◌, [], false, if◌then◌else◌, length, Some, None, IfOk, OnOk};
-ghost use Rattle.std.specs.Option.{IfSome};
-ghost use Rattle.dns_name.specs.Labels.{IsName};
 ghost use Rattle.dns_message.specs.Header.{FitsBits};
 ghost use Rattle.dns_message.specs.Writing.{written};
 ghost use Rattle.answer_builder.specs.Answers.{answer_header};
@@ -21,15 +19,10 @@ pub const UDP_LIMIT: usize = 512;
 /// The most octets of a message over TCP (RFC 1035 4.2.2).
 const TCP_LIMIT: usize = 65_535;
 
-/// The header of an answer. Its counts are those of the sections written after it. The clause
-/// `named` repeats the facts about each name.
+/// The header of an answer. Its counts are those of the sections written after it.
 pub(crate) fn header_of(asked: &AskedRef<'_>, rcode: u8) -> Header
-    ensures header { result ≡ answer_header asked.now false rcode (0 ∷ 0 ∷ 0 ∷ 0 ∷ []) }
-    ensures named { IfSome asked.now.question (λ q. IsName q.name) }
+    ensures { result ≡ answer_header asked.now false rcode (0 ∷ 0 ∷ 0 ∷ 0 ∷ []) }
 {
-    if let Some(question) = &asked.question {
-        let _name = question.name();
-    }
     Header {
         id: asked.id,
         qr: true,

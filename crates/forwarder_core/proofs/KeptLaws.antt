@@ -105,7 +105,7 @@ cache_is e m n is same = subst (λ (k : ℕ). e ≡ record { capacity = k; entri
 abbrev running : Config → State → Running
 running c s = record { config = c; state = s }
 
--- the same state under the same configuration
+-- if an error leaves the state, it leaves this configuration and the state
 pub same_state : (result : Result (Unit {0}) AllocError) (c : Config) (s s' : State) → OnErr result (s' ≡ s) → OnErr result (running c s' ≡ running c s)
 same_state (Ok done) c s s' is = tt
 same_state (Err refused) c s s' is = λ i. record { config = c; state = is i }

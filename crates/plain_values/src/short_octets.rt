@@ -26,28 +26,6 @@ impl Model for Few {
     ghost invariant = { λ few. few.len ≤ 30 };
 }
 
-impl Few {
-    /// A copy of these octets.
-    fn copied(octets: &[u8]) -> Few
-        requires { length octets.now ≤ 30 }
-        ensures { result ≡ octets.now }
-    {
-        let mut all = [0u8; FEW];
-        all[..octets.len()].copy_from_slice(octets);
-        Few {
-            len: octets.len() as u8,
-            octets: all,
-        }
-    }
-
-    /// The octets, borrowed.
-    fn as_slice(&self) -> &[u8]
-        ensures { result.now ≡ self.now }
-    {
-        &self.octets[..usize::from(self.len)]
-    }
-}
-
 /// The storage of the octets.
 #[derive(Drop)]
 enum Place<A: Allocator> {
@@ -117,5 +95,27 @@ impl<A: Allocator> ShortOctets<A> {
             Place::Here(few) => few.as_slice(),
             Place::Heap(octets) => octets.as_slice(),
         }
+    }
+}
+
+impl Few {
+    /// A copy of these octets.
+    fn copied(octets: &[u8]) -> Few
+        requires { length octets.now ≤ 30 }
+        ensures { result ≡ octets.now }
+    {
+        let mut all = [0u8; FEW];
+        all[..octets.len()].copy_from_slice(octets);
+        Few {
+            len: octets.len() as u8,
+            octets: all,
+        }
+    }
+
+    /// The octets, borrowed.
+    fn as_slice(&self) -> &[u8]
+        ensures { result.now ≡ self.now }
+    {
+        &self.octets[..usize::from(self.len)]
     }
 }

@@ -33,25 +33,6 @@ pub(crate) enum Sender {
     FromServer(u64, Peer),
 }
 
-impl Sender {
-    /// Returns the event of a message.
-    fn event<A: Allocator>(self, bytes: Octets<A>) -> Event<A>
-        ensures { event_of result ≡ message_from self bytes }
-    {
-        match self {
-            Sender::FromClient(conn) => Event::Client {
-                client: Client::Tcp(conn),
-                bytes,
-            },
-            Sender::FromServer(conn, from) => Event::Delivery {
-                path: Path::Tcp(conn),
-                from,
-                bytes,
-            },
-        }
-    }
-}
-
 /// A piece of a stream.
 #[derive(Drop)]
 pub(crate) struct Piece<A: Allocator> {
@@ -117,5 +98,24 @@ impl<H: BuildHasher + Drop, A: Allocator + Copy, W: Wire<A>> Loop<'_, '_, H, A, 
             self.hand_on(&sender.event(message));
         }
         Ok(())
+    }
+}
+
+impl Sender {
+    /// Returns the event of a message.
+    fn event<A: Allocator>(self, bytes: Octets<A>) -> Event<A>
+        ensures { event_of result ≡ message_from self bytes }
+    {
+        match self {
+            Sender::FromClient(conn) => Event::Client {
+                client: Client::Tcp(conn),
+                bytes,
+            },
+            Sender::FromServer(conn, from) => Event::Delivery {
+                path: Path::Tcp(conn),
+                from,
+                bytes,
+            },
+        }
     }
 }

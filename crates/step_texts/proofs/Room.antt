@@ -1,15 +1,27 @@
 -- The text of a query has room.
-use Rattle.std.proofs.Common.{◌≡◌, ℕ, List, [], length, sym, ◌∙◌, Some}
+use Rattle.std.proofs.Common.{◌≡◌, ℕ, List, [], length, sym, ap, subst, ◌∙◌, Some}
 use Rattle.std.specs.Prelude.{nat_lt, Ok, Err}
 use Rattle.std.proofs.lemmas.Bool.{cond-false, le-ltb}
+use mir.Syntax.{erased}
+use mir.Val.{Val}
+use denote.Laws.{Is}
 use Rattle.dns_name.specs.Labels.{IsName}
 use Rattle.dns_message.specs.Borrowed.{message_of}
 use Rattle.dns_message.specs.declared.names.fault.Fault.TheVariants.{TooLarge}
 use Rattle.dns_message.specs.declared.reading.header.Header.{Header}
 use Rattle.dns_message.specs.Values.{Question, Message}
+use Rattle.dns_message.specs.contracts.reading.question_ref.QuestionRef.{the_row as question_row}
 use Rattle.dns_message.specs.Writing.{written, written_within}
 use Rattle.dns_message.proofs.CallerLemmas.{bare_message_is_short}
 use Rattle.outstanding.specs.Draws.{ask_message}
+
+-- what owning a `QuestionRef` of this question says of its machine values
+abbrev pub IsQuestion : Question → List Val → Type 0
+IsQuestion = Is (question_row (record { mir = erased; lft = [] }))
+
+-- so its name is a name
+pub question_is_named : (q : Question) (values : List Val) → IsQuestion q values → IsName q.name
+question_is_named q values owned = subst IsName (ap (λ (x : Question). x.name) owned.0.1.0) owned.0.1.1.name
 
 abbrev asking : Header → Question → Message
 asking h q = message_of h (Some q) [] []

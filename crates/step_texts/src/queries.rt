@@ -40,7 +40,6 @@ fn query_text<A: Allocator + Copy>(alloc: A, ask: &Ask<A>) -> Result<Octets<A>, 
     ensures { IfOk result (λ text. text ≡ written (ask_message ask.now.id ask.now.question)) }
 {
     let question = QuestionRef::of(&ask.question);
-    let _name = question.name();
     let message = MessageParts {
         header: query_header(ask.id),
         question: Some(question),
