@@ -283,15 +283,26 @@ def taken_by_the_system(reader):
         return taken
 
 
+def count_to_the_end(client):
+    """How many octets a client can still read of a connection that is closed."""
+    count = 0
+    try:
+        while more := client.recv(65536):
+            count += len(more)
+    except ConnectionResetError:
+        pass
+    return count
+
+
 @case
 def clients_that_read_late_or_not_at_all(program):
     """Of answers of 60,000 octets the wire keeps some 800,000 that the system doesn't take. Who
-    reads nothing is gone; who reads them in small pieces, for longer than a client may take
-    nothing, gets them all."""
-    octets = 60000
+    reads nothing is gone, and finds only what the system took; who reads them in small pieces, for
+    longer than a client may take nothing, gets them all."""
+    octets, limits = 60000, "ask_ms = 10000\ndeadline_ms = 20000\n"
     server = Server(by_udp=lambda query: long_reply_to(query, octets))
     count = taken_by_the_system(small_reader) // octets + 14
-    with (Forwarder(program, [server.port]) as forwarder, small_reader(forwarder.port) as deaf,
+    with (Forwarder(program, [server.port], limits=limits) as forwarder, small_reader(forwarder.port) as deaf,
           small_reader(forwarder.port) as slow):
         asked = [question(f"n{n:03}.example", UNKNOWN, n) for n in range(count)]
         for client in (deaf, slow):
@@ -300,11 +311,13 @@ def clients_that_read_late_or_not_at_all(program):
         while time.monotonic() < began + 13:
             stream += exactly(slow, 2000)
             time.sleep(0.05)
-        stream += exactly(slow, count * (2 + len(long_reply_to(asked[0], octets))) - len(stream))
-        for _ in asked:
-            size = struct.unpack(">H", stream[:2])[0]
-            message, stream = stream[2:2 + size], stream[2 + size:]
+        size = len(framed(long_reply_to(asked[0], octets)))
+        stream += exactly(slow, count * size - len(stream))
+        for n in range(count):
+            message = stream[n * size + 2:(n + 1) * size]
             is_long_answer(message, asked[struct.unpack(">H", message[:2])[0]], octets)
+        if count_to_the_end(deaf) > (count - 7) * size:
+            raise AssertionError("what was kept for a client that reads nothing reached it")
         other = question("other.example", UNKNOWN)
         is_long_answer(forwarder.ask_tcp(other), other, octets)
 
