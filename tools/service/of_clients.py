@@ -139,13 +139,13 @@ def a_client_that_ended_its_sending_beside_many_others(program):
 
 @case
 def small_replies_are_not_held_back(program):
-    """Two replies on a connection, 5 ms apart, arrive so, as a rule. The client delays its
-    acknowledgement of the first, for which a sender might wait before it sends the second (RFC 1122
-    4.2.3.2 and 4.2.3.4)."""
+    """Two replies on a connection, 5 ms apart, arrive less than 20 ms apart, a quarter of the times at
+    least on a busy machine. The client delays its acknowledgement of the first by 40 ms, for which a
+    sender might wait before it sends the second (RFC 1122 4.2.3.2 and 4.2.3.4)."""
     server = Server(by_udp=lambda query: time.sleep(0.005) or reply_to(query) if b"late" in query else reply_to(query))
     with Forwarder(program, [server.port]) as forwarder, forwarder.tcp() as client:
         apart = []
-        for n in range(15):
+        for n in range(30):
             client.setsockopt(socket.IPPROTO_TCP, socket.TCP_QUICKACK, 0)
             asked = [question(f"n{n}.example", identifier=1), question(f"late{n}.example", identifier=2)]
             client.sendall(b"".join(map(framed, asked)))
@@ -155,8 +155,8 @@ def small_replies_are_not_held_back(program):
             apart.append(time.monotonic() - first)
             for reply, message in zip(sorted(replies), asked):
                 is_answer(reply, message)
-        if statistics.median(apart) > 0.02:
-            raise AssertionError(f"{1000 * statistics.median(apart):.0f} ms apart")
+        if sorted(apart)[7] > 0.02:
+            raise AssertionError(f"{', '.join(f'{1000 * each:.0f}' for each in apart)} ms apart")
 
 
 @case
