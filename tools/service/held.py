@@ -24,6 +24,7 @@ NOT_HELD = {
     "memory_of_datagrams_and_connections_is_used_again": "explaining 22,000 questions takes longer than all else",
     "memory_of_queries_and_their_replies_is_used_again": "explaining so many queries takes longer than all else",
     "memory_of_replies_that_were_taken_is_free_again": "it has more than 50 MB of replies",
+    "more_clients_in_turn_than_16_bits_count": "explaining so many connections takes longer than all else",
 }
 
 

@@ -139,13 +139,13 @@ def a_client_that_ended_its_sending_beside_many_others(program):
 
 @case
 def small_replies_are_not_held_back(program):
-    """Two replies on a connection, 5 ms apart, arrive so, as a rule. The client delays its
-    acknowledgement of the first, for which a sender might wait before it sends the second (RFC 1122
-    4.2.3.2 and 4.2.3.4)."""
+    """Two replies on a connection, 5 ms apart, arrive less than 20 ms apart, a quarter of the times at
+    least on a busy machine. The client delays its acknowledgement of the first by 40 ms, for which a
+    sender might wait before it sends the second (RFC 1122 4.2.3.2 and 4.2.3.4)."""
     server = Server(by_udp=lambda query: time.sleep(0.005) or reply_to(query) if b"late" in query else reply_to(query))
     with Forwarder(program, [server.port]) as forwarder, forwarder.tcp() as client:
         apart = []
-        for n in range(15):
+        for n in range(30):
             client.setsockopt(socket.IPPROTO_TCP, socket.TCP_QUICKACK, 0)
             asked = [question(f"n{n}.example", identifier=1), question(f"late{n}.example", identifier=2)]
             client.sendall(b"".join(map(framed, asked)))
@@ -155,8 +155,8 @@ def small_replies_are_not_held_back(program):
             apart.append(time.monotonic() - first)
             for reply, message in zip(sorted(replies), asked):
                 is_answer(reply, message)
-        if statistics.median(apart) > 0.02:
-            raise AssertionError(f"{1000 * statistics.median(apart):.0f} ms apart")
+        if sorted(apart)[7] > 0.02:
+            raise AssertionError(f"{', '.join(f'{1000 * each:.0f}' for each in apart)} ms apart")
 
 
 @case
@@ -283,15 +283,26 @@ def taken_by_the_system(reader):
         return taken
 
 
+def count_to_the_end(client):
+    """How many octets a client can still read of a connection that is closed."""
+    count = 0
+    try:
+        while more := client.recv(65536):
+            count += len(more)
+    except ConnectionResetError:
+        pass
+    return count
+
+
 @case
 def clients_that_read_late_or_not_at_all(program):
     """Of answers of 60,000 octets the wire keeps some 800,000 that the system doesn't take. Who
-    reads nothing is gone; who reads them in small pieces, for longer than a client may take
-    nothing, gets them all."""
-    octets = 60000
+    reads nothing is gone, and finds only what the system took; who reads them in small pieces, for
+    longer than a client may take nothing, gets them all."""
+    octets, limits = 60000, "ask_ms = 10000\ndeadline_ms = 20000\n"
     server = Server(by_udp=lambda query: long_reply_to(query, octets))
     count = taken_by_the_system(small_reader) // octets + 14
-    with (Forwarder(program, [server.port]) as forwarder, small_reader(forwarder.port) as deaf,
+    with (Forwarder(program, [server.port], limits=limits) as forwarder, small_reader(forwarder.port) as deaf,
           small_reader(forwarder.port) as slow):
         asked = [question(f"n{n:03}.example", UNKNOWN, n) for n in range(count)]
         for client in (deaf, slow):
@@ -300,11 +311,13 @@ def clients_that_read_late_or_not_at_all(program):
         while time.monotonic() < began + 13:
             stream += exactly(slow, 2000)
             time.sleep(0.05)
-        stream += exactly(slow, count * (2 + len(long_reply_to(asked[0], octets))) - len(stream))
-        for _ in asked:
-            size = struct.unpack(">H", stream[:2])[0]
-            message, stream = stream[2:2 + size], stream[2 + size:]
+        size = len(framed(long_reply_to(asked[0], octets)))
+        stream += exactly(slow, count * size - len(stream))
+        for n in range(count):
+            message = stream[n * size + 2:(n + 1) * size]
             is_long_answer(message, asked[struct.unpack(">H", message[:2])[0]], octets)
+        if count_to_the_end(deaf) > (count - 7) * size:
+            raise AssertionError("what was kept for a client that reads nothing reached it")
         other = question("other.example", UNKNOWN)
         is_long_answer(forwarder.ask_tcp(other), other, octets)
 

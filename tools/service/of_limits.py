@@ -11,7 +11,10 @@ from repository.packing import framed
 
 from .messages import (
     REFUSED, SERVFAIL, UNKNOWN, code, cut_reply_to, expect, is_answer, long_reply_to, question, reply_to, take_frame)
-from .running import Forwarder, Server, case, descriptors, free_port, in_a_network_of_its_own, resident, spent, waits
+from .running import (
+    Forwarder, Server, case, descriptors, free_port, in_a_network_of_its_own, refusing, resident, spent, waits)
+
+RESETS = struct.pack("ii", 1, 0)  # a socket with this option is closed at once (socket(7))
 
 
 @case
@@ -121,6 +124,38 @@ def clients_that_ask_and_close_leave_nothing(program):
         are_free_again(pid, before)
 
 
+@case
+def sockets_that_the_system_refuses_are_closed(program):
+    """Of each row the system refuses a call for sixty queries or sixty clients: to send a query, to report on its
+    socket, to report on its connection after a cut reply; to report on a client's connection, to send on it without
+    delay. No descriptor more is open afterwards."""
+    server, cut = Server(), Server(by_udp=cut_reply_to)
+
+    def fails(forwarder, asked):
+        expect(code(forwarder.ask_udp(asked)), SERVFAIL)
+
+    def is_closed(forwarder, _):
+        with forwarder.tcp() as client:
+            expect(client.recv(1), b"")
+
+    rows = [
+        ("sendto:error=EPERM:when=1+2", server, 1, fails),  # each second call is the client's reply
+        ("epoll_ctl:error=ENOMEM", server, 1, fails),
+        ("epoll_ctl:error=ENOMEM:when=2+2", cut, 2, fails),
+        ("epoll_ctl:error=ENOMEM", server, 1, is_closed),
+        ("setsockopt:error=ENOMEM", server, 1, is_closed),
+    ]
+    for calls, asked_server, tries, is_refused in rows:
+        with Forwarder(program, [asked_server.port], limits=f"tries = {tries}\n") as forwarder:
+            pid = forwarder.process.pid
+            forwarder.is_well()
+            are_free_again(pid, 3 + 3)
+            with refusing(pid, calls):
+                for n in range(60):
+                    is_refused(forwarder, question(f"n{n}.example"))
+            are_free_again(pid, 3 + 3)
+
+
 def rests(forwarder):
     """A client that has been idle for more than a second: it is closed if no descriptor is left."""
     client = forwarder.tcp()
@@ -154,7 +189,7 @@ def a_client_that_rests_while_no_network_is_there(program):
             expect(code(forwarder.ask_udp(question("away.test"))), SERVFAIL)
             is_served(client)
 
-    in_a_network_of_its_own("", body)
+    in_a_network_of_its_own(body)
 
 
 @case
@@ -245,23 +280,25 @@ def memory_of_datagrams_and_connections_is_used_again(program):
 
 @case
 def memory_of_queries_and_their_replies_is_used_again(program):
-    """After 1,000 questions that are asked of a server, by UDP and then over TCP, at most 1 MiB more is in use than
-    after the first 200, which fill the cache. Each reply has 4,000 octets, so that what is kept of each shows."""
+    """After 6,000 questions that are asked of a server, by UDP and then over TCP, at most 1 MiB more is in use than
+    after the first 200, which fill the cache. Each name has some 250 octets, and each reply 4,000, so that what is kept
+    of each shows."""
     def answers(stream, query):
         stream.sendall(framed(long_reply_to(query, 4000, seconds=300)))
 
+    above = ".".join([*(letter * 63 for letter in "abc"), "d" * 40, "example"])
     by_udp = Server(by_udp=lambda query: long_reply_to(query, 4000, seconds=300))
     over_tcp = Server(by_udp=cut_reply_to, over_tcp=answers)
     for server in (by_udp, over_tcp):
         with Forwarder(program, [server.port], limits="cache = 64\n") as forwarder, forwarder.udp() as client:
-            for n in range(1000):
+            for n in range(6200):
                 if n == 200:
                     before = resident(forwarder.process.pid)
-                client.send(question(f"n{n}.example", UNKNOWN))
+                client.send(question(f"n{n}.{above}", UNKNOWN))
                 client.recv(65535)
             more = resident(forwarder.process.pid) - before
             if more > 1 << 20:
-                raise AssertionError(f"{more} octets more after 800 questions")
+                raise AssertionError(f"{more} octets more after 6,000 questions")
 
 
 @case
@@ -281,6 +318,19 @@ def cached_answers_come_at_once(program):
         share = (spent(forwarder.process.pid) - before) / (time.monotonic() - began)
         if statistics.median(took) > 0.002 or share > 0.03:
             raise AssertionError(f"{1000 * statistics.median(took):.1f} ms, {100 * share:.1f} % of a processor")
+
+
+@case
+def more_clients_in_turn_than_16_bits_count(program):
+    """After 66,000 that connected and reset, each thousandth time too, questions are answered."""
+    server = Server()
+    with Forwarder(program, [server.port]) as forwarder:
+        for _ in range(66):
+            for _ in range(1000):
+                with socket.socket() as client:
+                    client.setsockopt(socket.SOL_SOCKET, socket.SO_LINGER, RESETS)
+                    client.connect((forwarder.address, forwarder.port))
+            forwarder.is_well()
 
 
 @case

@@ -98,6 +98,26 @@ def a_server_that_never_answers(program):
 
 
 @case
+def strangers_that_reply_first(program):
+    """They reply to the port of the query, one from the server's port at another address, one from another port at its
+    address. Only the server's reply, which comes later, answers the question."""
+    strangers = [socket.socket(socket.AF_INET, socket.SOCK_DGRAM) for _ in range(2)]
+
+    def by_udp(query):
+        for stranger in strangers:
+            stranger.sendto(reply_to(query, address=b"\xc0\0\2\1"), ("127.0.0.1", server.asked_from[-1]))
+        time.sleep(0.05)
+        return reply_to(query)
+
+    server = Server(by_udp=by_udp)
+    for stranger, at in zip(strangers, (("127.0.0.6", server.port), ("127.0.0.1", free_port()))):
+        stranger.bind(at)
+    with Forwarder(program, [server.port]) as forwarder:
+        forwarder.is_well()
+    expect(len(server.asked), 2)
+
+
+@case
 def many_asks_at_once(program):
     server = Server(by_udp=lambda query: time.sleep(0.0005) or reply_to(query))
     limits = "ask_ms = 5000\ndeadline_ms = 20000\n"
@@ -192,7 +212,7 @@ def a_query_that_the_system_refuses_to_send(program):
         expect(first.asked, [])
 
     chain = "add table ip own; add chain ip own sent { type filter hook output priority 0; }"
-    in_a_network_of_its_own(f"{chain}; add rule ip own sent udp dport {refused} drop", body)
+    in_a_network_of_its_own(body, f"{chain}; add rule ip own sent udp dport {refused} drop")
 
 
 @case

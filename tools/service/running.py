@@ -1,9 +1,11 @@
 """The program and the name servers that it is run with, on ports that are free."""
+import contextlib
 import ctypes
 import os
 import pathlib
 import resource
 import shutil
+import signal
 import socket
 import subprocess
 import tempfile
@@ -32,13 +34,13 @@ class NotHere(Exception):
 
 
 def free_port():
-    """A port that is free by UDP and TCP, below those that the system gives out by itself; each is
-    given once."""
+    """A port that is free by UDP and TCP at all addresses of this machine, below those that the
+    system gives out by itself; each is given once."""
     for port in PORTS:
         with socket.socket(socket.AF_INET, socket.SOCK_DGRAM) as by_udp, socket.socket() as over_tcp:
             try:
-                by_udp.bind(("127.0.0.1", port))
-                over_tcp.bind(("127.0.0.1", port))
+                by_udp.bind(("0.0.0.0", port))
+                over_tcp.bind(("0.0.0.0", port))
                 return port
             except OSError:
                 continue
@@ -165,6 +167,33 @@ class Forwarder:
         expect(self.process.poll(), None)
 
 
+@contextlib.contextmanager
+def stopped(forwarder):
+    """The forwarder is stopped, and goes on afterwards."""
+    forwarder.process.send_signal(signal.SIGSTOP)
+    try:
+        yield
+    finally:
+        forwarder.process.send_signal(signal.SIGCONT)
+
+
+@contextlib.contextmanager
+def refusing(pid, calls):
+    """The system refuses such calls of this process, said as strace(1) says it."""
+    if not shutil.which("strace"):
+        raise NotHere("it wants strace")
+    tracing = ["strace", "-o", os.devnull, "-e", f"inject={calls}", "-p", str(pid)]
+    strace = subprocess.Popen(tracing, stderr=subprocess.PIPE, text=True)
+    try:
+        said = strace.stderr.readline().strip()
+        if not said.endswith("attached"):
+            raise NotHere(said)
+        yield
+    finally:
+        strace.terminate()
+        strace.communicate()
+
+
 def run_of(program, *words, given=b"", out=subprocess.PIPE, errors=subprocess.PIPE, closed=None, memory=None):
     """A run's standard output and standard error, and its status.
 
@@ -222,11 +251,12 @@ def sockets_of(pid):
 CLONE_NEWNET = 0x40000000
 
 
-def in_a_network_of_its_own(rules, body):
-    """Runs the body in a network that has a loopback alone, under these rules for nft(8). Only root
-    may make one."""
-    if not shutil.which("nft") or not shutil.which("ip"):
-        raise NotHere("it wants nft and ip")
+def in_a_network_of_its_own(body, rules=None):
+    """Runs the body in a network that has a loopback alone, under these rules for nft(8), if any.
+    Only root may make one."""
+    missing = [tool for tool in (["ip", "nft"] if rules else ["ip"]) if not shutil.which(tool)]
+    if missing:
+        raise NotHere(f"it wants {' and '.join(missing)}")
     faults = []
 
     def run():
@@ -234,7 +264,8 @@ def in_a_network_of_its_own(rules, body):
             if ctypes.CDLL(None, use_errno=True).unshare(CLONE_NEWNET) != 0:
                 raise NotHere(f"a network of its own: {os.strerror(ctypes.get_errno())}")
             subprocess.run(["ip", "link", "set", "lo", "up"], check=True)
-            subprocess.run(["nft", rules], check=True)
+            if rules:
+                subprocess.run(["nft", rules], check=True)
             body()
         except Exception as fault:  # it is raised again where the case runs
             faults.append(fault)
