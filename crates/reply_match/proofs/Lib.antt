@@ -1,2 +1,3 @@
+pub mod PeerLaws
 pub mod VerdictLaws
 pub mod CallerLemmas

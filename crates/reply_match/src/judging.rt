@@ -3,7 +3,6 @@
 ghost use Rattle.std.specs.Prelude.{◌≡◌, true, false, MatchOption};
 ghost use Rattle.dns_message.specs.Header.{header_in};
 ghost use Rattle.dns_message.specs.Messages.{message_of};
-ghost use Rattle.reply_match.specs.Peers.{same_peer};
 ghost use Rattle.dns_message.specs.Questions.{one_question};
 ghost use Rattle.reply_match.specs.Judged.{IsViewOf, verdict_of};
 ghost use Rattle.reply_match.specs.Questions.{asks_this};
@@ -52,15 +51,8 @@ fn reply_header<A: Allocator>(ask: &Ask<A>, from: Peer, bytes: &[u8]) -> Option<
         && header.qr
         && header.opcode == 0
         && header.id == ask.id
-        && is_same_peer(from, ask.peer);
+        && from == ask.peer;
     if is_reply { Some(header) } else { None }
-}
-
-/// Equal addresses and equal ports.
-fn is_same_peer(a: Peer, b: Peer) -> bool
-    ensures { result ≡ same_peer a b }
-{
-    a == b
 }
 
 /// The message has a single question, equal to `question`.
