@@ -54,7 +54,7 @@ class History:
         self.answered, self.foreign, self.uncalled = set(), set(), {}
         self.first_asked = {}  # by route which server it preferred when the capture began
         self.late_tries = []  # when the time of a try was over, and when the next one left long after
-        self.awaited = set()  # replies that call for an answer over UDP at once
+        self.awaited = {}  # replies that call for an answer over UDP at once, and the first one
         self.needless = set()  # questions that what is kept answers, and for which a query left
         self.unheard = []  # questions that call for an answer or a query at once, and get none
         self.eras = Eras()
@@ -234,8 +234,9 @@ class History:
         self.close(query, now, verdict)
         if verdict == "answered":
             waiting = (question for question in self.wanting[asked.of()] if question not in self.answered)
-            if any(question.answer and not question.connection for question in waiting):
-                self.awaited.add(reply)
+            answers = [each.answer for each in waiting if each.answer and not each.connection]
+            if answers:
+                self.awaited[reply] = min(answers, key=lambda answer: answer.moment)
             if reply.is_lost:
                 self.rests_on.update((question, comparing.LOST) for question in self.wanting[asked.of()])
             self.preferred[self.configuration.route_of(asked.key)] = query.server

@@ -46,7 +46,23 @@ class Lateness:
         for line, event in self.first.items():
             moved = self.window.maker.moment(event) - self.outcome.moments[line.number - 1]
             if moved > SOON and not line.note and not self.was_asked_on(line, event):
-                yield line, event
+                if not self.stood_still_over(line, event):
+                    yield line, event
+
+    def stood_still_over(self, line, event):
+        """Whether the service read something, or saw that time had passed, and stood still before what follows
+        had left. It sees all that is due at one moment."""
+        place = bisect.bisect_right(self.window.stalls, event.moment, key=lambda stall: stall.until) - 1
+        if place < 0:
+            return False
+        stall, seen = self.window.stalls[place], self.window.maker.micros(line.moment)
+        is_first = event.moment == stall.until or line.kind == "tick" and event.moment - stall.until < 1000 * SOON
+        return is_first and 0 <= stall.since - seen < 1000 * SOON
+
+    def is_shown(self, line):
+        """Whether the capture shows when time passed: what a tick made leave left at about its moment."""
+        event = self.first.get(line) if line.kind == "tick" else None
+        return event is not None and abs(self.window.maker.moment(event) - line.moment) <= SOON
 
     def was_asked_on(self, line, event):
         """Whether another query for what a reply is for left between it and an event."""

@@ -47,7 +47,7 @@ class Maker:
 
     def add(self, moment, kind, event=None, order=None, **more):
         self.count += 1
-        line = Line((order if order is not None else event.moment, self.count), moment, kind, event, **more)
+        line = Line((order if order is not None else event.place(), self.count), moment, kind, event, **more)
         self.lines.append(line)
         return line
 

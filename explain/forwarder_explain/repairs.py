@@ -5,7 +5,6 @@ and a query that could not be sent is in no capture. Each change moves something
 milliseconds, or ends a try earlier. None of them changes an octet, nor can it hide an answer that
 is past its end, of another route or of another question.
 """
-import bisect
 from collections import defaultdict
 
 from .carried import MOST_ALIASES
@@ -18,6 +17,7 @@ from .stalls import at
 SLACK = 40  # milliseconds by which the service's clock and the capture's may part
 HORIZON = 2_000_000  # microseconds after the first change of a run in which others are made
 STALE = 30  # seconds in the TTL of expired data
+A_LITTLE = 300  # milliseconds by which time may be seen late with no stop of the service
 STEPS = (3, 10, 30)  # milliseconds by which a line is moved, one after another
 
 
@@ -29,7 +29,6 @@ class Repairs:
         self.tried = defaultdict(int)
         self.changed, self.touched = False, set()
         self.lateness = Lateness(window, self.may)
-        self.came = sorted(event.moment for event in window.questions + window.replies + window.endings)
 
     def after(self, outcome, pairing, answers, moved):
         """The changes that a run calls for, in the order of time.
@@ -146,13 +145,9 @@ class Repairs:
         return due if stall is None else stall.until // 1000 - self.window.maker.first + FIRST_MOMENT
 
     def order_of(self, due):
-        """The place of a tick: after a stall once the first thing that came in it is taken."""
+        """The place of a tick: after a stall once the first thing is read."""
         stall = self.stall_at(due)
-        if stall is None:
-            return self.window.maker.micros(due), 0
-        place = bisect.bisect_left(self.came, stall.since)
-        first = self.came[place] if place < len(self.came) else stall.until
-        return (first if first < stall.until else stall.since), 1e9
+        return (self.window.maker.micros(due), 0) if stall is None else (stall.until - 1, 1e9)
 
     def is_late(self, due, line):
         """Whether something that was due happened long after, or not before the end; after a stall also
@@ -162,7 +157,9 @@ class Repairs:
             return False
         if line is not None and self.stall_at(due) is not None and line.order > self.order_of(due):
             return self.may((due, "due"), 2)
-        return seen <= last and (line is None or self.outcome.moments[line.number - 1] > seen + SOON)
+        if line is None:
+            return seen <= last
+        return self.outcome.moments[line.number - 1] > seen + (A_LITTLE if self.lateness.is_shown(line) else SOON)
 
     def is_meant(self, line):
         each = self.outcome.by_line.get(line.target)
@@ -244,7 +241,7 @@ class Repairs:
         line = self.window.maker.line_of.get(question)
         if line is None or line.order < (query.moment,) or not self.may((question, "back"), 2):
             return False
-        line.order, line.moment = (question.moment, 0), self.window.maker.moment(question)
+        line.order, line.moment = (question.place(), 0), self.window.maker.moment(question)
         return True
 
     def may_be_late(self, found):
@@ -279,9 +276,9 @@ class Repairs:
             or question.answer.moment < query.moment
         ):
             return False
-        near = self.arrivals_near(of, question.moment, query.moment)
+        near = self.arrivals_near(of, question.place(), query.moment)
         if near and near[-1].query is not query and self.may((question, "after"), 1):
-            line.order, line.moment = (near[-1].moment, 1e9), max(line.moment, self.window.maker.moment(near[-1]))
+            line.order, line.moment = (near[-1].place(), 1e9), max(line.moment, self.window.maker.moment(near[-1]))
             return True
         if self.take_after(question, line, found[0], query):
             return True
@@ -357,20 +354,20 @@ class Repairs:
 
     def asking(self, of, since, until):
         """Questions that wanted this, taken in some span of time."""
-        return [question for question in self.window.wanting.get(of, ()) if since <= question.moment <= until]
+        return [question for question in self.window.wanting.get(of, ()) if since <= question.place() <= until]
 
     def arrivals_near(self, of, since, until):
         """Replies and failures of queries for this in some span of time."""
-        return [event for event in self.window.arrivals_of.get(of, ()) if since <= event.moment <= until]
+        return [event for event in self.window.arrivals_of.get(of, ()) if since <= event.place() <= until]
 
     def reorder(self, question, of):
         """A question that was taken before a reply that the capture has just before it: it joined
         what was open."""
-        near = self.arrivals_near(of, question.moment - 20_000, question.moment)
+        near = self.arrivals_near(of, question.place() - 20_000, question.place())
         line = self.window.maker.line_of.get(question)
         if not near or line is None or not self.may((question, "before"), 1):
             return False
-        line.order = (near[0].moment, -1)
+        line.order = (near[0].place(), -1)
         line.moment = self.window.maker.moment(near[0])
         return True
 

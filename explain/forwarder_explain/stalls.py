@@ -22,20 +22,21 @@ class Stall(NamedTuple):
     until: int
 
 
-def found_in(history, events, limits):
-    """The stalls that a history shows."""
+def found_in(history, events, limits, effects):
+    """The stalls that a history shows. `effects` says when the first effect of what came left: until then it
+    has not been read."""
     came, stalls, last = [], [], 0
     for event in events:
         if isinstance(event, (Question, Reply, Ending)):
             came.append(event)
         elif is_output(event, history.foreign):
-            before = [each for each in came if event.moment - each.moment > STILL]
-            calls = [each.moment for each in before if calls_for(history, each, event, limits)]
+            before = [each for each in came if event.moment - max(each.moment, last) > STILL]
+            calls = [max(each.moment, last) for each in before if calls_for(history, each, event, limits)]
             late = (due for due, left in history.late_tries if last < due and left - NEAR < event.moment <= left)
             calls += [due - CLOCKS for due in late]
             if calls:
                 stalls.append(Stall(min(calls), event.moment))
-            came, last = [], event.moment
+            came, last = [each for each in came if effects.get(each, 0) > event.moment], event.moment
     return stalls
 
 
@@ -99,16 +100,6 @@ def ends_try(waited, limits):
     """
     whole = 1000 * limits["ask_ms"]
     return whole - NEAR < waited and waited % whole < NEAR and waited // whole <= limits["tries"]
-
-
-def mark(events, stalls):
-    """Notes for what came in a stall that it was read at its end."""
-    ends = [stall.until for stall in stalls]
-    for event in events:
-        if isinstance(event, (Question, Reply, Ending)):
-            place = bisect.bisect_right(ends, event.moment)
-            is_within = place < len(stalls) and stalls[place].since <= event.moment
-            event.read = stalls[place].until if is_within else event.moment
 
 
 def at(stalls, moment):

@@ -89,7 +89,7 @@ class Teller:
             said += ": it asks " + self.tries(question, result)
         found = self.history.found.get(question)
         if found and found.expired:
-            ago = (question.moment // 1000 - found.expired.end()) / 1000
+            ago = (question.read // 1000 - found.expired.end()) / 1000
             said += f"; what was kept had expired {ago:,.1f} s before"
         return said
 

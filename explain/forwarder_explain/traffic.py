@@ -29,12 +29,17 @@ UNREACHABLE = {
 
 
 class Event:
-    """What was seen at a moment, in microseconds since 1970; `read` is when the service read it."""
+    """What was seen at a moment, in microseconds since 1970; `read` is when the service read it. `taken` gives it
+    a place among what was read and what left, if that is not its moment."""
 
-    __slots__ = ("moment", "read")
+    __slots__ = ("moment", "read", "taken")
 
     def __init__(self, moment):
         self.moment = self.read = moment
+        self.taken = None
+
+    def place(self):
+        return self.moment if self.taken is None else self.taken
 
     def enter(self, answering):
         """Takes part in the pairing of questions and answers."""

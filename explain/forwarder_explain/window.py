@@ -5,6 +5,7 @@ from typing import NamedTuple
 
 from . import comparing
 from .answering import exchange
+from .best import Best
 from .lines import FIRST_MOMENT, Maker
 from .messages import question_in
 from .pairing import Pairing
@@ -69,7 +70,7 @@ class Window:
         self.maker = Maker(history, history.first)
         preferred = self.put_preferred(before[1])
         places = [(held.accepted * 1000, 0, place, held) for place, held in enumerate(before[0])]
-        places += [(event.moment, 1, place, event) for place, event in enumerate(events)]
+        places += [(event.place(), 1, place, event) for place, event in enumerate(events)]
         for _, is_event, _, each in sorted(places):
             if is_event:
                 self.maker.take(each)
@@ -149,7 +150,13 @@ class Window:
         self.lines.remove(self.maker.line_of.pop(question))
 
     def settle(self):
-        """Runs the script until neither pairs nor lines change."""
+        """Runs the script until neither pairs nor lines change, and takes the best run."""
+        best = Best()
+        self.run_on(best)
+        best.put_back(self)
+
+    def run_on(self, best):
+        """Runs the script, each time with other pairs or lines, as long as there are any."""
         repairs, seen = Repairs(self), Counter()
         while True:
             self.lines.sort(key=lambda line: line.order)
@@ -160,6 +167,7 @@ class Window:
             made = [each for each in self.outcome.asked if each.line.note != "before"]
             self.pairing = Pairing(self.queries, made, self.latest, self.maker.moment)
             self.answers = comparing.replies_of(self.questions, self.outcome, self.maker.line_of)
+            best.offer(self)
             moved = {query: line for query, line in self.pairing.line_of.items() if self.pairs.get(query) is not line}
             self.pairs.update(moved)
             if self.runs >= MOST_RUNS or max(seen.values()) > MOST_EQUAL:

@@ -8,13 +8,15 @@ from collections import Counter, defaultdict
 
 from . import messages, near
 from .cached import slots_of
+from .effects import Effects
 from .eras import first_output, is_output
 from .kept import History
 from .leaps import set_forward
 from .losses import Losses
 from .messages import CNAME
+from .reading import mark
 from .replay import MOST_LINES, MOST_OCTETS
-from .stalls import found_in, mark, united
+from .stalls import found_in, united
 from .traffic import Answer, Query, Question, Refusal, Reply
 from .window import Window
 from .wording import counted, moment_text
@@ -52,16 +54,13 @@ class Cutter:
             found = self.follow()
             if self.exchange(self.history.other_order):
                 continue
-            stalls = united(self.stalls, found_in(self.history, self.events, configuration.limits))
-            if found <= self.restarts and not self.history.lost and stalls == self.stalls:
-                return
             # With what was lost there may be fewer stalls, and with both fewer new beginnings.
             if self.history.lost:
                 self.put_in(self.history.lost)
-                self.stand_still([])
-            elif stalls != self.stalls:
-                self.stand_still(stalls)
-            else:
+                self.stand_still([], Effects(self.history, []))
+            elif not self.stood_still():
+                if found <= self.restarts:
+                    return
                 self.restarts |= found
         self.follow()
 
@@ -71,10 +70,17 @@ class Cutter:
         self.exchanged.update(new)
         return any([near.exchange_two(self.events, *pair) for pair in dict.fromkeys(new)])
 
-    def stand_still(self, stalls):
-        """Takes it that the service stood still in these spans."""
+    def stood_still(self):
+        """Takes it that the service stood still where the history shows it; gives whether that is new."""
+        effects = Effects(self.history, self.events)
+        found = found_in(self.history, self.events, self.configuration.limits, effects.first)
+        return self.stand_still(united(self.stalls, found), effects)
+
+    def stand_still(self, stalls, effects):
+        """Takes it that the service stood still in these spans; gives whether what came was read at other moments
+        than thought before."""
         self.stalls = stalls
-        mark(self.events, stalls)
+        return mark(self.events, stalls, effects)
 
     def put_in(self, lost):
         """Puts events among the others that the capture lost."""

@@ -27,13 +27,17 @@ SINGLE = {
     "stood_still_a_little",
 }
 # Captures in which a loss next to what they show is not told apart: of two messages without a question nothing says
-# which one is missing, and a service that stands still past a deadline and a lost query look like another service.
+# which one is missing, and a service that stands still past a deadline, or twice, and a lost query look like another
+# service.
 NOT_TOLD = {
     "one_identifier_without_a_question",
     "stood_still_past_the_deadline",
     "stood_still_and_asked_anew",
     "stood_still_as_a_try_ends",
     "asked_as_tries_end",
+    "read_before_the_next_stop",
+    "tried_before_the_next_stop",
+    "failed_before_its_reply",
 }
 # Of captures with a fault the packets without which nothing shows it: the question, its answer, and what was used.
 FAULTS = {
@@ -48,6 +52,7 @@ FAULTS = {
     "forged_reply_used": {0, 2, 3},
     "forged_next_to_losses": set(),
     "failed_and_told": {3, 4, 5},
+    "past_its_end_after_the_next_stop": {0, 1, 2, 5, 8, 9},
 }
 
 

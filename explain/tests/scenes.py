@@ -6,6 +6,7 @@ import lossy
 import orders
 import outages
 import restarts
+import stops
 from making import COOKED_2, DENIAL, asked, octets
 from office import ACK, CORPORATE, FIN, FIRST, FORWARDER, ONE, OTHER, PLAIN, QUERY, REPLY, RST, SECOND, SYN, Scene
 from repository.packing import ANY, CNAME, MX, TXT, address, framed, message, name, record
@@ -329,6 +330,7 @@ ALL = [
     gaps,
     *restarts.ALL,
     *outages.ALL,
+    *stops.ALL,
     *hostile.ALL,
     *losses.ALL,
     *lossy.ALL,
