@@ -1,13 +1,14 @@
 //! Sockets that may be ready, and the next to try.
 
-ghost use Rattle.std.specs.Prelude.{◌≡◌, ◌≤◌, ◌+◌, ◌*◌, ◌%◌, [], true, IsTrue, IfOk, OnErr};
+ghost use Rattle.std.specs.Prelude.{◌≡◌, ◌≤◌, ◌+◌, ◌*◌, ◌%◌, [], true, IsTrue, IfOk, OnErr, OnOk};
 ghost use Rattle.std.specs.Prelude.{IsSomeAnd, ◌↔◌};
 ghost use Rattle.std.specs.Duration.{as_nanos};
-ghost use Rattle.mio.specs.Events.{capacity as events_capacity};
+ghost use Rattle.mio.specs.Events.{capacity as events_capacity, items};
 ghost use Rattle.mio.specs.Interest.{is_readable, is_writable};
 ghost use Rattle.std.specs.BTreeSet.{btree_set_len};
 ghost use Rattle.ready_sockets.specs.Trying.{Dropped, Finds, Gives, GivesOnTurn, HasDatagramsAlone};
-ghost use Rattle.ready_sockets.specs.Trying.{IsBegun, IsNothing, Noted, NotedStay, NotesEvent};
+ghost use Rattle.ready_sockets.specs.Trying.{IsBegun, IsNothing, Noted, NotedStay, NotesEach};
+ghost use Rattle.ready_sockets.specs.Trying.{NotesEvent};
 
 use crate::origin::Origin;
 use mio::event::{Event, Source};
@@ -23,8 +24,8 @@ use std::time::Duration;
 const EVENTS: usize = 64;
 
 /// The sockets that may be ready: reported by the system, or to be tried all the same. Each socket
-/// stays until a call would have blocked. Contracts see which sockets may be ready, and the last
-/// turn.
+/// stays until a call would have blocked. Contracts see which sockets may be ready, the last turn,
+/// and the events of the last poll.
 #[derive(Drop)]
 pub struct Readiness<A: Allocator> {
     poll: Poll,
@@ -34,11 +35,12 @@ pub struct Readiness<A: Allocator> {
 }
 
 impl<A: Allocator> Model for Readiness<A> {
+    ghost use Rattle.mio.specs.Events.{items};
     ghost use Rattle.ready_sockets.specs.Seen.{SeenReadiness};
 
     ghost Value = { SeenReadiness A };
 
-    ghost view = { λ r. record { ready = r.ready; turn = r.turn } };
+    ghost view = { λ r. record { ready = r.ready; turn = r.turn; events = items r.events } };
 }
 
 impl<A: Allocator + Copy> Readiness<A> {
@@ -74,6 +76,7 @@ impl<A: Allocator + Copy> Readiness<A> {
     /// reported by the system. Noted sockets stay noted.
     pub fn wait(&mut self, pause: u64)
         requires { pause ≤ 5 }
+        ensures each { NotesEach self.new.events self.old.ready self.new.ready }
         ensures stay { NotedStay self.old.ready self.new.ready }
         ensures turn { self.new.turn ≡ self.old.turn }
     {
@@ -83,9 +86,11 @@ impl<A: Allocator + Copy> Readiness<A> {
 
     /// Notes the sockets reported by the events, unless the poll failed.
     fn note_events(&mut self, polled: io::Result<()>)
-        ensures stay { NotedStay self.old.ready self.new.ready }
+        ensures ok { OnOk polled (NotesEach self.old.events self.old.ready self.new.ready) }
         ensures err { OnErr polled (self.new.ready ≡ self.old.ready) }
+        ensures stay { NotedStay self.old.ready self.new.ready }
         ensures turn { self.new.turn ≡ self.old.turn }
+        ensures rest { self.new ≡ record self.old { ready = self.new.ready } }
     {
         if polled.is_ok() {
             self.ready.note_each(&self.events);
@@ -198,7 +203,8 @@ impl<A: Allocator + Copy> Ready<A> {
 
     /// Notes the sockets that the events report.
     fn note_each(&mut self, events: &Events<A>)
-        ensures { NotedStay self.old self.new }
+        ensures each { NotesEach (items events.now) self.old self.new }
+        ensures stay { NotedStay self.old self.new }
     {
         for event in events {
             self.note(event);
