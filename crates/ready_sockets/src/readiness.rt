@@ -1,11 +1,12 @@
 //! Sockets that may be ready, and the next to try.
 
-ghost use Rattle.std.specs.Prelude.{◌≡◌, ◌≤◌, ◌+◌, ◌*◌, ◌%◌, [], true, IsTrue, IfOk, OnErr, OnOk};
-ghost use Rattle.std.specs.Prelude.{IsSomeAnd, ◌↔◌};
+ghost use Rattle.std.specs.Prelude.{◌≡◌, ◌≤◌, ◌+◌, ◌*◌, ◌%◌, [], false, true, IsTrue, IfOk, OnErr};
+ghost use Rattle.std.specs.Prelude.{OnOk, IsSomeAnd, ◌↔◌};
 ghost use Rattle.std.specs.Duration.{as_nanos};
 ghost use Rattle.mio.specs.Events.{capacity as events_capacity, items};
-ghost use Rattle.mio.specs.Interest.{is_readable, is_writable};
+ghost use Rattle.mio.specs.Interest.{is_priority, is_readable, is_writable};
 ghost use Rattle.std.specs.BTreeSet.{btree_set_len};
+ghost use Rattle.ready_sockets.specs.Tokens.{is_written, token_of};
 ghost use Rattle.ready_sockets.specs.Trying.{Dropped, Finds, Gives, GivesOnTurn, HasDatagramsAlone};
 ghost use Rattle.ready_sockets.specs.Trying.{IsBegun, IsNothing, Noted, NotedStay, NotesEach};
 ghost use Rattle.ready_sockets.specs.Trying.{NotesEvent};
@@ -60,16 +61,11 @@ impl<A: Allocator + Copy> Readiness<A> {
         })
     }
 
-    /// Has the system report when the socket can be read. `Err` if the system refuses.
-    pub fn watch_reads<S: Source>(&self, socket: &mut S, origin: Origin) -> io::Result<()> {
-        let registry = self.poll.registry();
-        registry.register(socket, origin.token(), Interest::READABLE)
-    }
-
-    /// Has the system report when the socket can be read or written. `Err` if the system refuses.
+    /// Has the system report when the socket is ready, as `registered` says. `Err` if the system
+    /// refuses.
     pub fn watch<S: Source>(&self, socket: &mut S, origin: Origin) -> io::Result<()> {
-        let registry = self.poll.registry();
-        registry.register(socket, origin.token(), both_ways())
+        let (token, interest) = registered(origin);
+        self.poll.registry().register(socket, token, interest)
     }
 
     /// Waits until a socket is ready, for `pause` milliseconds at most, and notes the sockets
@@ -278,12 +274,19 @@ fn room_for_events<A: Allocator + Copy>(alloc: A) -> Result<Events<A>, AllocErro
     Events::with_capacity(alloc, EVENTS)
 }
 
-/// A socket that is read from and written to.
-fn both_ways() -> Interest
-    ensures reads { is_readable result ≡ true }
-    ensures writes { is_writable result ≡ true }
+/// The token of a socket, and what the system reports of it: each is read, and streams are written
+/// in parts.
+fn registered(origin: Origin) -> (Token, Interest)
+    ensures token { result.0.0 ≡ token_of origin }
+    ensures reads { is_readable result.1 ≡ true }
+    ensures writes { is_writable result.1 ≡ is_written origin }
+    ensures no_other { is_priority result.1 ≡ false }
 {
-    Interest::READABLE | Interest::WRITABLE
+    let interest = match origin {
+        Origin::Client(_) | Origin::Server(_) => Interest::READABLE | Interest::WRITABLE,
+        Origin::Datagrams | Origin::Connections | Origin::Ask(_) => Interest::READABLE,
+    };
+    (origin.token(), interest)
 }
 
 /// The pause of a poll, of `millis` milliseconds.
