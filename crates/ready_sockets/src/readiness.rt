@@ -1,7 +1,7 @@
 //! Sockets that may be ready, and the next to try.
 
 ghost use Rattle.std.specs.Prelude.{◌≡◌, ◌≤◌, ◌+◌, ◌*◌, ◌%◌, [], false, true, IsTrue, IfOk, OnErr};
-ghost use Rattle.std.specs.Prelude.{OnOk, IsSomeAnd, ◌↔◌};
+ghost use Rattle.std.specs.Prelude.{OnOk, IsSomeAnd, ◌↔◌, ◌∷◌, ◌++◌};
 ghost use Rattle.std.specs.Duration.{as_nanos};
 ghost use Rattle.mio.specs.Events.{capacity as events_capacity, items};
 ghost use Rattle.mio.specs.Interest.{is_priority, is_readable, is_writable};
@@ -12,6 +12,7 @@ ghost use Rattle.ready_sockets.specs.Trying.{IsBegun, IsNothing, Noted, NotedSta
 ghost use Rattle.ready_sockets.specs.Trying.{NotesEvent};
 
 use crate::origin::Origin;
+use call_log::CallLog;
 use mio::event::{Event, Source};
 use mio::{Events, Interest, Poll, Token};
 use std::alloc::{AllocError, Allocator};
@@ -26,13 +27,15 @@ const EVENTS: usize = 64;
 
 /// The sockets that may be ready: reported by the system, or to be tried all the same. Each socket
 /// stays until a call would have blocked. Contracts see which sockets may be ready, the last turn,
-/// and the events of the last poll.
+/// the events of the last poll, and the pauses of all polls.
 #[derive(Drop)]
 pub struct Readiness<A: Allocator> {
     poll: Poll,
     events: Events<A>,
     ready: Ready<A>,
     turn: u8,
+    /// The pauses of the polls, for proofs alone.
+    pauses: CallLog<u64, ()>,
 }
 
 impl<A: Allocator> Model for Readiness<A> {
@@ -41,7 +44,12 @@ impl<A: Allocator> Model for Readiness<A> {
 
     ghost Value = { SeenReadiness A };
 
-    ghost view = { λ r. record { ready = r.ready; turn = r.turn; events = items r.events } };
+    ghost view = { λ r. record {
+      ready = r.ready;
+      turn = r.turn;
+      events = items r.events;
+      pauses = r.pauses.calls;
+    } };
 }
 
 impl<A: Allocator + Copy> Readiness<A> {
@@ -58,6 +66,7 @@ impl<A: Allocator + Copy> Readiness<A> {
                 servers: Tokens::new(alloc),
             },
             turn: 0,
+            pauses: CallLog::new(),
         })
     }
 
@@ -75,7 +84,9 @@ impl<A: Allocator + Copy> Readiness<A> {
         ensures each { NotesEach self.new.events self.old.ready self.new.ready }
         ensures stay { NotedStay self.old.ready self.new.ready }
         ensures turn { self.new.turn ≡ self.old.turn }
+        ensures pause { self.new.pauses ≡ self.old.pauses ++ (pause, tt) ∷ [] }
     {
+        self.pauses = self.pauses.and(&pause, &());
         let polled = self.poll.poll(&mut self.events, pause_of(pause));
         self.note_events(polled);
     }
