@@ -1,8 +1,12 @@
 -- Sockets that may be ready, as contracts see them.
-use Rattle.std.specs.Prelude.{ℕ}
+use Rattle.std.specs.Prelude.{ℕ, List}
+use Rattle.mio.specs.declared.event.event.Event.{Event}
 use Rattle.ready_sockets.specs.declared.readiness.Ready.{Ready}
 
--- The sockets that may be ready, and the last turn: 1 to 4, and 0 before the first.
+-- The sockets that may be ready; the last turn: 1 to 4, and 0 before the first; the events of the
+-- last poll; and how long each poll might take, in ms, as noted for proofs alone.
 pub record SeenReadiness (A : Type 0) : Type 0 where
   pub ready : Ready A
   pub turn : ℕ
+  pub events : List Event
+  pub pauses : List (ℕ × Unit {0})

@@ -1,5 +1,5 @@
 -- Tokens of sockets: the kind in the lowest three bits, above them the number or the port.
-use Rattle.std.specs.Prelude.{ℕ, ◌+◌, ◌*◌, ◌%◌, ◌^◌, ◌<◌}
+use Rattle.std.specs.Prelude.{ℕ, ◌+◌, ◌*◌, ◌%◌, ◌^◌, ◌<◌, Bool, true, false}
 use Rattle.ready_sockets.specs.declared.origin.Origin.{Origin}
 use Rattle.ready_sockets.specs.declared.origin.Origin.TheVariants.{Datagrams, Connections, Client}
 use Rattle.ready_sockets.specs.declared.origin.Origin.TheVariants.{Ask, Server}
@@ -19,3 +19,11 @@ HasToken Connections = Unit {0}
 HasToken (Client conn) = conn < 2 ^ 61
 HasToken (Ask port) = port < 2 ^ 16
 HasToken (Server conn) = conn < 2 ^ 61
+
+-- whether the system reports when the socket can be written, too: the streams are written in parts
+abbrev pub is_written : Origin → Bool
+is_written Datagrams = false
+is_written Connections = false
+is_written (Client conn) = true
+is_written (Ask port) = false
+is_written (Server conn) = true

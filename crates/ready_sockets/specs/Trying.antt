@@ -106,6 +106,12 @@ pub record NotesEvent {A : Type 0} (event : Event) (before after : Ready A) : Ty
       → Noted origin before after
   pub stay : NotedStay before after
 
+-- Each socket that these events report is noted, in their order.
+abbrev pub NotesEach : {A : Type 0} → List Event → Ready A → Ready A → Type 0
+NotesEach [] before after = after ≡ before
+NotesEach {A} (event ∷ later) before after =
+    (between : Ready A) × NotesEvent event before between × NotesEach later between after
+
 -- The socket is noted no longer.
 abbrev pub Dropped : {A : Type 0} → Origin → Ready A → Ready A → Type 0
 Dropped Datagrams before after = after ≡ record before { datagrams = false }

@@ -1,15 +1,18 @@
 //! Sockets that may be ready, and the next to try.
 
-ghost use Rattle.std.specs.Prelude.{◌≡◌, ◌≤◌, ◌+◌, ◌*◌, ◌%◌, [], true, IsTrue, IfOk, OnErr};
-ghost use Rattle.std.specs.Prelude.{IsSomeAnd, ◌↔◌};
+ghost use Rattle.std.specs.Prelude.{◌≡◌, ◌≤◌, ◌+◌, ◌*◌, ◌%◌, [], false, true, IsTrue, IfOk, OnErr};
+ghost use Rattle.std.specs.Prelude.{OnOk, IsSomeAnd, ◌↔◌, ◌∷◌, ◌++◌};
 ghost use Rattle.std.specs.Duration.{as_nanos};
-ghost use Rattle.mio.specs.Events.{capacity as events_capacity};
-ghost use Rattle.mio.specs.Interest.{is_readable, is_writable};
+ghost use Rattle.mio.specs.Events.{capacity as events_capacity, items};
+ghost use Rattle.mio.specs.Interest.{is_priority, is_readable, is_writable};
 ghost use Rattle.std.specs.BTreeSet.{btree_set_len};
+ghost use Rattle.ready_sockets.specs.Tokens.{is_written, token_of};
 ghost use Rattle.ready_sockets.specs.Trying.{Dropped, Finds, Gives, GivesOnTurn, HasDatagramsAlone};
-ghost use Rattle.ready_sockets.specs.Trying.{IsBegun, IsNothing, Noted, NotedStay, NotesEvent};
+ghost use Rattle.ready_sockets.specs.Trying.{IsBegun, IsNothing, Noted, NotedStay, NotesEach};
+ghost use Rattle.ready_sockets.specs.Trying.{NotesEvent};
 
 use crate::origin::Origin;
+use call_log::CallLog;
 use mio::event::{Event, Source};
 use mio::{Events, Interest, Poll, Token};
 use std::alloc::{AllocError, Allocator};
@@ -23,22 +26,30 @@ use std::time::Duration;
 const EVENTS: usize = 64;
 
 /// The sockets that may be ready: reported by the system, or to be tried all the same. Each socket
-/// stays until a call would have blocked. Contracts see which sockets may be ready, and the last
-/// turn.
+/// stays until a call would have blocked. Contracts see which sockets may be ready, the last turn,
+/// the events of the last poll, and the pauses of all polls.
 #[derive(Drop)]
 pub struct Readiness<A: Allocator> {
     poll: Poll,
     events: Events<A>,
     ready: Ready<A>,
     turn: u8,
+    /// The pauses of the polls, for proofs alone.
+    pauses: CallLog<u64, ()>,
 }
 
 impl<A: Allocator> Model for Readiness<A> {
+    ghost use Rattle.mio.specs.Events.{items};
     ghost use Rattle.ready_sockets.specs.Seen.{SeenReadiness};
 
     ghost Value = { SeenReadiness A };
 
-    ghost view = { λ r. record { ready = r.ready; turn = r.turn } };
+    ghost view = { λ r. record {
+      ready = r.ready;
+      turn = r.turn;
+      events = items r.events;
+      pauses = r.pauses.calls;
+    } };
 }
 
 impl<A: Allocator + Copy> Readiness<A> {
@@ -55,37 +66,38 @@ impl<A: Allocator + Copy> Readiness<A> {
                 servers: Tokens::new(alloc),
             },
             turn: 0,
+            pauses: CallLog::new(),
         })
     }
 
-    /// Has the system report when the socket can be read. `Err` if the system refuses.
-    pub fn watch_reads<S: Source>(&self, socket: &mut S, origin: Origin) -> io::Result<()> {
-        let registry = self.poll.registry();
-        registry.register(socket, origin.token(), Interest::READABLE)
-    }
-
-    /// Has the system report when the socket can be read or written. `Err` if the system refuses.
+    /// Has the system report when the socket is ready, as `registered` says. `Err` if the system
+    /// refuses.
     pub fn watch<S: Source>(&self, socket: &mut S, origin: Origin) -> io::Result<()> {
-        let registry = self.poll.registry();
-        registry.register(socket, origin.token(), both_ways())
+        let (token, interest) = registered(origin);
+        self.poll.registry().register(socket, token, interest)
     }
 
     /// Waits until a socket is ready, for `pause` milliseconds at most, and notes the sockets
     /// reported by the system. Noted sockets stay noted.
     pub fn wait(&mut self, pause: u64)
         requires { pause ≤ 5 }
+        ensures each { NotesEach self.new.events self.old.ready self.new.ready }
         ensures stay { NotedStay self.old.ready self.new.ready }
         ensures turn { self.new.turn ≡ self.old.turn }
+        ensures pause { self.new.pauses ≡ self.old.pauses ++ (pause, tt) ∷ [] }
     {
+        self.pauses = self.pauses.and(&pause, &());
         let polled = self.poll.poll(&mut self.events, pause_of(pause));
         self.note_events(polled);
     }
 
     /// Notes the sockets reported by the events, unless the poll failed.
     fn note_events(&mut self, polled: io::Result<()>)
-        ensures stay { NotedStay self.old.ready self.new.ready }
+        ensures ok { OnOk polled (NotesEach self.old.events self.old.ready self.new.ready) }
         ensures err { OnErr polled (self.new.ready ≡ self.old.ready) }
+        ensures stay { NotedStay self.old.ready self.new.ready }
         ensures turn { self.new.turn ≡ self.old.turn }
+        ensures rest { self.new ≡ record self.old { ready = self.new.ready } }
     {
         if polled.is_ok() {
             self.ready.note_each(&self.events);
@@ -198,7 +210,8 @@ impl<A: Allocator + Copy> Ready<A> {
 
     /// Notes the sockets that the events report.
     fn note_each(&mut self, events: &Events<A>)
-        ensures { NotedStay self.old self.new }
+        ensures each { NotesEach (items events.now) self.old self.new }
+        ensures stay { NotedStay self.old self.new }
     {
         for event in events {
             self.note(event);
@@ -272,12 +285,19 @@ fn room_for_events<A: Allocator + Copy>(alloc: A) -> Result<Events<A>, AllocErro
     Events::with_capacity(alloc, EVENTS)
 }
 
-/// A socket that is read from and written to.
-fn both_ways() -> Interest
-    ensures reads { is_readable result ≡ true }
-    ensures writes { is_writable result ≡ true }
+/// The token of a socket, and what the system reports of it: each is read, and streams are written
+/// in parts.
+fn registered(origin: Origin) -> (Token, Interest)
+    ensures token { result.0.0 ≡ token_of origin }
+    ensures reads { is_readable result.1 ≡ true }
+    ensures writes { is_writable result.1 ≡ is_written origin }
+    ensures no_other { is_priority result.1 ≡ false }
 {
-    Interest::READABLE | Interest::WRITABLE
+    let interest = match origin {
+        Origin::Client(_) | Origin::Server(_) => Interest::READABLE | Interest::WRITABLE,
+        Origin::Datagrams | Origin::Connections | Origin::Ask(_) => Interest::READABLE,
+    };
+    (origin.token(), interest)
 }
 
 /// The pause of a poll, of `millis` milliseconds.

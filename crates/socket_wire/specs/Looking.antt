@@ -1,24 +1,27 @@
 -- A turn's look at the sockets that are ready.
 use Rattle.std.specs.Prelude.{◌≡◌, ℕ, ◌-◌, ◌<◌, ◌≤◌, ◌||◌, Bool, true, false, length, nat_lt}
-use Rattle.std.specs.Prelude.{Option, Some, None, Result, Ok, Err}
+use Rattle.std.specs.Prelude.{[], ◌∷◌, ◌++◌, Option, Some, None, Result, Ok, Err}
 use Rattle.std.specs.declared.alloc.AllocError.{AllocError}
 use Rattle.std.specs.BTreeSet.{btree_set_len}
 use Rattle.wires.specs.declared.wire.Arrival.{Arrival}
 use Rattle.wires.specs.declared.wire.Arrival.TheVariants.{Nothing}
 use Rattle.socket_wire.specs.Seen.{SeenSockets}
 use Rattle.socket_wire.specs.Attempting.{TriesReady}
-use Rattle.ready_sockets.specs.Trying.{IsNothing, NotedStay}
+use Rattle.ready_sockets.specs.Trying.{IsNothing, NotedStay, NotesEach}
 use Rattle.socket_wire.specs.Trying.{TriesOthers}
 
--- Events are taken: more may be ready, and nothing else has changed, nor whose turn it is.
-pub record TakesEvents {A : Type 0} (before after : SeenSockets A) : Type 0 where
+-- Events are taken by one poll, which waits for `pause` ms at most: the sockets reported by each
+-- event are noted, more may be ready, and nothing else has changed, nor whose turn it is.
+pub record TakesEvents {A : Type 0} (pause : ℕ) (before after : SeenSockets A) : Type 0 where
+  pub polls : after.readiness.pauses ≡ before.readiness.pauses ++ (pause, tt) ∷ []
+  pub each : NotesEach after.readiness.events before.readiness.ready after.readiness.ready
   pub stay : NotedStay before.readiness.ready after.readiness.ready
   pub turn : after.readiness.turn ≡ before.readiness.turn
   pub rest : after ≡ record before { readiness = after.readiness }
 
--- They are taken where something may be ready; otherwise nothing has changed.
+-- They are taken at once where something may be ready; otherwise nothing has changed.
 pub record TakesEventsIfReady {A : Type 0} (before after : SeenSockets A) : Type 0 where
-  pub some : (IsNothing before.readiness.ready → ⊥) → TakesEvents before after
+  pub some : (IsNothing before.readiness.ready → ⊥) → TakesEvents 0 before after
   pub none : IsNothing before.readiness.ready → after ≡ before
 
 -- A sweep of unreported sockets is due: they are tried after the reported ones.
@@ -32,10 +35,11 @@ abbrev pub has_asks : {A : Type 0} → SeenSockets A → Bool
 has_asks sockets = nat_lt 0 (length sockets.asks.listed)
     || nat_lt 0 (length sockets.connections.servers)
 
--- If something may be ready, events are taken only if asks are open and none of them may be ready.
+-- If something may be ready, events are taken, at once, only if asks are open and none of them may
+-- be ready.
 pub record LooksForAsks {A : Type 0} (before after : SeenSockets A) : Type 0 where
   pub asks : btree_set_len before.readiness.ready.servers.tokens ≡ 0 → has_asks before ≡ true
-      → TakesEvents before after
+      → TakesEvents 0 before after
   pub no_asks : has_asks before ≡ false → after ≡ before
   pub ready : 0 < btree_set_len before.readiness.ready.servers.tokens → after ≡ before
 
@@ -47,10 +51,11 @@ pub record Looks {A : Type 0} (now : ℕ) (before after : SeenSockets A) : Type 
   pub goes_on : now - before.tried < 5 → (IsNothing before.readiness.ready → ⊥)
       → LooksForAsks before after
 
--- The end of a turn without an arrival: the wire waits if nothing may be ready any more.
+-- The end of a turn without an arrival: the wire waits, for 5 ms at most, if nothing may be ready
+-- any more.
 pub record EndsTurn {A : Type 0} (before after : SeenSockets A) : Type 0 where
   pub more : (IsNothing before.readiness.ready → ⊥) → after ≡ before
-  pub none : IsNothing before.readiness.ready → TakesEvents before after
+  pub none : IsNothing before.readiness.ready → TakesEvents 5 before after
 
 -- A turn gives its arrival or refusal, or ends without an arrival.
 abbrev pub GivesOrEnds : {A : Type 0} → (came : Result (Option (Arrival A)) AllocError)

@@ -3,6 +3,9 @@ use Rattle.std.specs.Prelude.{◌≡◌, ℕ, ◌⊎◌, Bool, true, false, not,
 use Rattle.std.specs.Prelude.{Ok, Err}
 use Rattle.std.specs.Prelude.{if◌then◌else◌}
 use Rattle.suffix_routes.specs.declared.peer.Peer.{Peer}
+use Rattle.ready_sockets.specs.declared.origin.Origin.TheVariants.{Server}
+use Rattle.ready_sockets.specs.declared.readiness.Ready.{Ready}
+use Rattle.ready_sockets.specs.Trying.{Noted}
 use Rattle.step_values.specs.declared.action.Action.{Action}
 use Rattle.step_values.specs.declared.action.Action.TheVariants.{AskUdp, AskTcp, CloseUdp, CloseTcp}
 use Rattle.step_values.specs.declared.action.Action.TheVariants.{Reply}
@@ -83,11 +86,26 @@ Puts (Reply (Udp _) _ _) now is_done asks asks' before after = (asks' ≡ asks) 
 Puts (Reply (Tcp conn) reply _) now is_done asks asks' before after =
     (asks' ≡ asks) × AnswersOn conn reply now is_done before after
 
+-- The sockets noted as ready by a query over TCP: its connection, once listed.
+abbrev pub NotesServer : {A : Type 0} → (conn : ℕ) → (is_done : Bool) → (before after : Ready A)
+    → Type 0
+NotesServer conn true before after = Noted (Server conn) before after
+NotesServer conn false before after = after ≡ before
+
+-- The sockets noted as ready by an action: none but the connection of a query over TCP.
+abbrev pub NotesBy : {A : Type 0} → Action A → (is_done : Bool) → (before after : Ready A) → Type 0
+NotesBy (AskUdp _ _ _) is_done before after = after ≡ before
+NotesBy (AskTcp conn _ _) is_done before after = NotesServer conn is_done before after
+NotesBy (CloseUdp _) is_done before after = after ≡ before
+NotesBy (CloseTcp _) is_done before after = after ≡ before
+NotesBy (Reply _ _ _) is_done before after = after ≡ before
+
 -- Putting an action.
 pub record PutsAction {A : Type 0} (action : Action A) (now : ℕ) (is_done : Bool)
     (before after : SeenSockets A) : Type 0 where
   pub puts : Puts action now is_done before.asks after.asks before.connections
       after.connections
+  pub notes : NotesBy action is_done before.readiness.ready after.readiness.ready
   pub rest : after ≡ record before {
     asks = after.asks;
     connections = after.connections;
@@ -98,6 +116,7 @@ pub record PutsAction {A : Type 0} (action : Action A) (now : ℕ) (is_done : Bo
 pub record PutsQuery {A : Type 0} (conn : ℕ) (server : Peer) (query : List ℕ) (now : ℕ)
     (is_done : Bool) (before after : SeenSockets A) : Type 0 where
   pub lists : ListsServer conn server query now is_done before.connections after.connections
+  pub notes : NotesServer conn is_done before.readiness.ready after.readiness.ready
   pub rest : after ≡ record before {
     connections = after.connections;
     readiness = record before.readiness { ready = after.readiness.ready };

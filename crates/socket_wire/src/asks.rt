@@ -103,6 +103,6 @@ pub(crate) fn ask_socket<R: Net, A: Allocator + Copy>(
     let socket = UdpSocket::bind(rt, ends.own)?;
     let connected = socket.connect(ends.server);
     let mut socket = kept_if(socket, connected)?;
-    let watched = readiness.watch_reads(&mut socket, Origin::Ask(port));
+    let watched = readiness.watch(&mut socket, Origin::Ask(port));
     kept_if(socket, watched)
 }

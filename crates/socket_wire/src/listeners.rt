@@ -16,7 +16,7 @@ pub(crate) fn datagrams_at<A: Allocator + Copy>(
 ) -> io::Result<UdpSocket> {
     let mut socket = UdpSocket::bind(net, at)?;
     widen(&socket);
-    let watched = readiness.watch_reads(&mut socket, Origin::Datagrams);
+    let watched = readiness.watch(&mut socket, Origin::Datagrams);
     kept_if(socket, watched)
 }
 
@@ -27,6 +27,6 @@ pub(crate) fn connections_at<A: Allocator + Copy>(
     at: SocketAddr,
 ) -> io::Result<TcpListener> {
     let mut listener = TcpListener::bind(net, at)?;
-    let watched = readiness.watch_reads(&mut listener, Origin::Connections);
+    let watched = readiness.watch(&mut listener, Origin::Connections);
     kept_if(listener, watched)
 }
