@@ -11,7 +11,7 @@ from repository.packing import CNAME, address, framed, name, record, reply
 from .messages import (
     REFUSED, SERVFAIL, UNKNOWN, alias_reply_to, code, exactly, expect, is_answer, is_long_answer,
     long_reply_to, question, reply_to, take_frame)
-from .running import Forwarder, Server, case, resident
+from .running import Forwarder, Server, case, descriptors, resident
 
 
 @case
@@ -316,6 +316,9 @@ def clients_that_read_late_or_not_at_all(program):
         for n in range(count):
             message = stream[n * size + 2:(n + 1) * size]
             is_long_answer(message, asked[struct.unpack(">H", message[:2])[0]], octets)
+        until = time.monotonic() + 10
+        while descriptors(forwarder.process.pid) > 3 + 3 and time.monotonic() < until:
+            time.sleep(0.01)
         if count_to_the_end(deaf) > (count - 7) * size:
             raise AssertionError("what was kept for a client that reads nothing reached it")
         other = question("other.example", UNKNOWN)
