@@ -1,0 +1,143 @@
+//! What comes from clients, and to them, without a sweep: cases of `watched`.
+
+use crate::came::{Came, came_next, came_now, client_that_sends, here, is_sent, reply_to, settle};
+use crate::system::{System, expected, send};
+use crate::worked::QUESTION;
+use mio::net::{TcpStream, UdpSocket};
+use network_model::Wire;
+use socket_wire::MioWire;
+use std::io::Read;
+use std::test::Fail;
+
+/// The octets of a large reply, and of its frame.
+const LARGE: usize = 60_000;
+
+const FRAMED: usize = LARGE + 2;
+
+/// The most turns in which a client takes all replies that wait for it.
+const MANY_TURNS: u32 = 2_000;
+
+pub(crate) fn datagram_comes(
+    system: &System<'_>,
+    wire: &mut MioWire<'_, System<'_>>,
+    port: u16,
+) -> Result<bool, Fail> {
+    let client = UdpSocket::bind(system.host, here(0))?;
+    Ok(is_sent(&client, &QUESTION, port) && came_next(wire) == Came::Datagram(27))
+}
+
+pub(crate) fn pieces_come(
+    system: &System<'_>,
+    wire: &mut MioWire<'_, System<'_>>,
+    port: u16,
+) -> Result<bool, Fail> {
+    let mut client = client_that_sends(system, port, b"\x00\x1b\x12")?;
+    let first = came_next(wire);
+    settle(wire);
+    send(&mut client, &QUESTION[1..])?;
+    let second = came_next(wire);
+    match first {
+        Came::Piece(conn, 3) => Ok(second == Came::Piece(conn, 26)),
+        _ => Ok(false),
+    }
+}
+
+pub(crate) fn question_comes_again(
+    system: &System<'_>,
+    wire: &mut MioWire<'_, System<'_>>,
+    port: u16,
+) -> Result<bool, Fail> {
+    let mut client = client_that_sends(system, port, b"\x00\x01\x12")?;
+    let Came::Piece(conn, 3) = came_next(wire) else {
+        return Ok(false);
+    };
+    let is_replied = wire.put(&reply_to(system.host.alloc(), conn, 12)?).is_ok();
+    let later = system.time.get().saturating_add(Duration::from_millis(10));
+    system.time.set(later);
+    settle(wire);
+    send(&mut client, b"\x00\x01\x34")?;
+    Ok(is_replied && came_next(wire) == Came::Piece(conn, 3))
+}
+
+/// The number of large replies that a new client is sent, or owed, before it is closed since too
+/// many are left for it. It takes none.
+fn most_replies(
+    system: &System<'_>,
+    wire: &mut MioWire<'_, System<'_>>,
+    port: u16,
+) -> Result<usize, Fail> {
+    let _client = client_that_sends(system, port, b"\x00")?;
+    let Came::Piece(conn, 1) = came_next(wire) else {
+        return Ok(0);
+    };
+    let reply = reply_to(system.host.alloc(), conn, LARGE)?;
+    for count in 0..1_000usize {
+        if wire.put(&reply).is_err() {
+            return Ok(count);
+        }
+    }
+    Ok(0)
+}
+
+/// Whether the client gets this number of octets.
+fn gets(
+    wire: &mut MioWire<'_, System<'_>>,
+    client: &mut TcpStream,
+    room: &mut [u8],
+    count: usize,
+) -> bool {
+    let mut left = count;
+    for _ in 0..MANY_TURNS {
+        left = left.saturating_sub(client.read(room).unwrap_or(0));
+        if left == 0 {
+            return true;
+        }
+        let _came = came_now(wire);
+    }
+    false
+}
+
+/// Of 17 replies that may wait for a client, some nine do: the system takes more or fewer of them at
+/// another time.
+pub(crate) fn rest_comes(
+    system: &System<'_>,
+    wire: &mut MioWire<'_, System<'_>>,
+    port: u16,
+) -> Result<bool, Fail> {
+    let count = most_replies(system, wire, port)?.saturating_sub(8);
+    let mut room = Vec::from_elem(system.host.alloc(), 0u8, LARGE)?;
+    let mut client = client_that_sends(system, port, b"\x00")?;
+    let Came::Piece(conn, 1) = came_next(wire) else {
+        return Ok(false);
+    };
+    let reply = reply_to(system.host.alloc(), conn, LARGE)?;
+    for _ in 0..count {
+        expected(wire.put(&reply).is_ok(), "a reply that was refused")?;
+    }
+    settle(wire);
+    Ok(count > 0 && gets(wire, &mut client, &mut room, count.saturating_mul(FRAMED)))
+}
+
+/// The number of arrivals of clients among the next four.
+fn number_of_clients(wire: &mut MioWire<'_, System<'_>>) -> u32 {
+    let mut count = 0u32;
+    for _ in 0..4u8 {
+        if matches!(came_next(wire), Came::Datagram(27) | Came::Piece(_, 1)) {
+            count = count.saturating_add(1);
+        }
+    }
+    count
+}
+
+pub(crate) fn many_come(
+    system: &System<'_>,
+    wire: &mut MioWire<'_, System<'_>>,
+    port: u16,
+) -> Result<bool, Fail> {
+    let by_udp = UdpSocket::bind(system.host, here(0))?;
+    let is_sent = is_sent(&by_udp, &QUESTION, port);
+    let _first = client_that_sends(system, port, b"\x00")?;
+    let _second = client_that_sends(system, port, b"\x00")?;
+    let _third = client_that_sends(system, port, b"\x00")?;
+    Ok(is_sent && number_of_clients(wire) == 4)
+}
