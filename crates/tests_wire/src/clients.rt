@@ -8,6 +8,7 @@ use network_model::Wire;
 use socket_wire::MioWire;
 use std::io::Read;
 use std::test::Fail;
+use std::time::Duration;
 
 /// The octets of a large reply, and of its frame.
 const LARGE: usize = 60_000;
@@ -52,8 +53,7 @@ pub(crate) fn question_comes_again(
         return Ok(false);
     };
     let is_replied = wire.put(&reply_to(system.host.alloc(), conn, 12)?).is_ok();
-    let later = system.time.get().saturating_add(Duration::from_millis(10));
-    system.time.set(later);
+    system.pass(Duration::from_millis(10));
     settle(wire);
     send(&mut client, b"\x00\x01\x34")?;
     Ok(is_replied && came_next(wire) == Came::Piece(conn, 3))
