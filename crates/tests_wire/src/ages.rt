@@ -1,7 +1,7 @@
 //! Moments and random words at each age of a wire, and what comes of a stall. Ports 15388 to 15393,
 //! 15397 and 15401 have to be free. A wire is forgotten, as in `sockets`.
 
-use crate::came::{Came, came_next, client_that_sends, here, is_sent, reply_to, settle};
+use crate::came::{Came, came_next, clients_that_came, here, is_sent, reply_to, settle};
 use crate::system::{System, TURNS, expected, local, moment_in_turn, send};
 use crate::watched::AGES;
 use crate::worked::QUESTION;
@@ -260,13 +260,7 @@ fn three_clients(
     system: &System<'_>,
     wire: &mut MioWire<'_, System<'_>>,
 ) -> Result<Vec<TcpStream>, Fail> {
-    let mut clients = Vec::new(system.host.alloc());
-    for _ in 0..3u8 {
-        clients.push(client_that_sends(system, 15393, b"\x00\x1b\x12")?)?;
-        let came = came_next(wire);
-        expected(matches!(came, Came::Piece(_, 3)), "no client came")?;
-    }
-    settle(wire);
+    let mut clients = clients_that_came(system, wire, 15393, b"\x00\x1b\x12", 3)?;
     for place in 0..2usize {
         if let Some(client) = clients.get_mut(place) {
             send(client, &QUESTION[1..])?;

@@ -1,6 +1,9 @@
 //! What comes from clients, and to them, without a sweep: cases of `watched`.
 
-use crate::came::{Came, came_next, came_now, client_that_sends, here, is_sent, reply_to, settle};
+use crate::came::{
+    Came, came_next, came_now, client_that_sends, clients_that_came, here, is_sent, make_turns,
+    reply_to, settle,
+};
 use crate::system::{System, expected, send};
 use crate::worked::QUESTION;
 use mio::net::{TcpStream, UdpSocket};
@@ -14,6 +17,12 @@ use std::time::Duration;
 const LARGE: usize = 60_000;
 
 const FRAMED: usize = LARGE + 2;
+
+/// The clients of which each sends a piece before one turn: as many as a poll takes events. Each of
+/// them ends in two turns.
+const CROWD: u32 = 64;
+
+const ENDS: u32 = 2 * CROWD;
 
 /// The most turns in which a client takes all replies that wait for it.
 const MANY_TURNS: u32 = 2_000;
@@ -118,15 +127,14 @@ pub(crate) fn rest_comes(
     Ok(count > 0 && gets(wire, &mut client, &mut room, count.saturating_mul(FRAMED)))
 }
 
-/// The number of arrivals of clients among the next four.
-fn number_of_clients(wire: &mut MioWire<'_, System<'_>>) -> u32 {
-    let mut count = 0u32;
-    for _ in 0..4u8 {
-        if matches!(came_next(wire), Came::Datagram(27) | Came::Piece(_, 1)) {
-            count = count.saturating_add(1);
+/// Whether so many arrivals of clients come next.
+fn clients_come(wire: &mut MioWire<'_, System<'_>>, count: u32) -> bool {
+    for _ in 0..count {
+        if !matches!(came_next(wire), Came::Datagram(27) | Came::Piece(_, 1)) {
+            return false;
         }
     }
-    count
+    true
 }
 
 pub(crate) fn many_come(
@@ -139,5 +147,21 @@ pub(crate) fn many_come(
     let _first = client_that_sends(system, port, b"\x00")?;
     let _second = client_that_sends(system, port, b"\x00")?;
     let _third = client_that_sends(system, port, b"\x00")?;
-    Ok(is_sent && number_of_clients(wire) == 4)
+    Ok(is_sent && clients_come(wire, 4))
+}
+
+/// Afterwards the turns are made in which these clients end.
+pub(crate) fn crowd_comes(
+    system: &System<'_>,
+    wire: &mut MioWire<'_, System<'_>>,
+    port: u16,
+) -> Result<bool, Fail> {
+    let mut clients = clients_that_came(system, wire, port, b"\x00", CROWD)?;
+    for client in &mut clients {
+        send(client, b"\x1b")?;
+    }
+    let have_come = clients_come(wire, CROWD);
+    drop(clients);
+    make_turns(wire, ENDS);
+    Ok(have_come)
 }

@@ -1,6 +1,6 @@
 //! What comes from servers, and to them, without a sweep: cases of `watched`.
 
-use crate::came::{Came, came_next, came_now, here, is_sent, settle};
+use crate::came::{Came, came_next, came_now, here, is_sent, make_turns, settle};
 use crate::system::{System, TURNS, expected, local};
 use crate::worked::{QUERY, QUESTION, REPLY};
 use mio::net::{TcpListener, TcpStream, UdpSocket};
@@ -175,8 +175,6 @@ pub(crate) fn reply_comes_among_datagrams(
     socket.send_to(REPLY, from)?;
     let is_soon = comes_soon(wire, Came::Reply(own, 43));
     let is_closed = wire.put(&Action::CloseUdp { port: own }).is_ok();
-    for _ in 0..WITHOUT_PAUSE {
-        let _came = came_now(wire);
-    }
+    make_turns(wire, WITHOUT_PAUSE);
     Ok(first == Came::Datagram(27) && is_soon && is_closed)
 }

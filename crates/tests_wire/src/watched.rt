@@ -1,10 +1,12 @@
 //! Sockets that are found by their events alone: while the clock stands, no socket is tried that no
 //! event reported. So is each kind at each age of a wire, and after a million faults. `clients` and
-//! `servers` have what comes from each. Ports 15373 to 15387 and 15394 to 15396 have to be free. A
-//! wire is forgotten, as in `sockets`.
+//! `servers` have what comes from each. Ports 15373 to 15387, 15394 to 15396 and 15402 have to be
+//! free. A wire is forgotten, as in `sockets`.
 
 use crate::came::{reply_to, settle};
-use crate::clients::{datagram_comes, many_come, pieces_come, question_comes_again, rest_comes};
+use crate::clients::{
+    crowd_comes, datagram_comes, many_come, pieces_come, question_comes_again, rest_comes,
+};
 use crate::servers::{
     query_comes_later, reply_comes_among_datagrams, reply_comes_by_udp, reply_comes_over_tcp,
 };
@@ -47,12 +49,14 @@ enum Case {
     Rest,
     /// A datagram and three new clients, all before one turn.
     Many,
+    /// A piece from each of 64 clients, all before one turn.
+    Crowd,
     /// The reply to a query by UDP, among datagrams that come without a pause.
     Among,
 }
 
 /// All of them.
-const CASES: [Case; 9] = [
+const CASES: [Case; 10] = [
     Case::Datagram,
     Case::Pieces,
     Case::ByUdp,
@@ -61,6 +65,7 @@ const CASES: [Case; 9] = [
     Case::Again,
     Case::Rest,
     Case::Many,
+    Case::Crowd,
     Case::Among,
 ];
 
@@ -77,6 +82,7 @@ impl Case {
             Case::Many => 15382,
             Case::Among => 15383,
             Case::Opens => 15386,
+            Case::Crowd => 15402,
         }
     }
 }
@@ -99,6 +105,7 @@ fn passes(
         Case::Again => question_comes_again(system, wire, port),
         Case::Rest => rest_comes(system, wire, port),
         Case::Many => many_come(system, wire, port),
+        Case::Crowd => crowd_comes(system, wire, port),
         Case::Among => reply_comes_among_datagrams(system, wire, port),
     }
 }
@@ -215,6 +222,12 @@ fn a_client_gets_the_rest_of_its_replies(rt: HostRuntime) -> Result<(), Fail> {
 #[test]
 fn what_comes_at_once_comes_all(rt: HostRuntime) -> Result<(), Fail> {
     assert_eq!(rt; ages_passed_anew(&rt, Case::Many)?, AGES.len());
+    Ok(())
+}
+
+#[test]
+fn pieces_of_64_clients_at_once_come_all(rt: HostRuntime) -> Result<(), Fail> {
+    assert_eq!(rt; ages_passed_anew(&rt, Case::Crowd)?, AGES.len());
     Ok(())
 }
 
