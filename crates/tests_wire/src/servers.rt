@@ -13,6 +13,10 @@ use std::net::{Net, SocketAddr};
 use std::test::Fail;
 use step_values::Action;
 
+/// Numbers of connections: the first, two of more than 16 and 32 bits, and the last one that has a
+/// token of its own.
+const CONNECTIONS: [u64; 4] = [0, 65_536, 1 << 40, (1 << 61) - 1];
+
 /// The connections that the system opens before the server accepts one: 128 and one more. Another
 /// opens once there is room, and it is tried again, a second later.
 const UNACCEPTED: u32 = 129;
@@ -61,10 +65,10 @@ pub(crate) fn reply_comes_by_udp(
     Ok(came == Came::Reply(own, 43) && is_closed)
 }
 
-/// A query over TCP to the server at this port.
-fn query_over_tcp(alloc: Global, server: u16) -> Result<Action, Fail> {
+/// A query over TCP to the server at this port, on the connection with this number.
+fn query_over_tcp(alloc: Global, conn: u64, server: u16) -> Result<Action, Fail> {
     Ok(Action::AskTcp {
-        conn: 0,
+        conn,
         server: local(server),
         bytes: PlainList::copied(alloc, &QUERY)?,
     })
@@ -78,23 +82,38 @@ fn is_replied(stream: &mut TcpStream) -> Result<bool, Fail> {
     Ok(is_query && stream.write(&[0, 43])? == 2 && stream.write(REPLY)? == 43)
 }
 
-pub(crate) fn reply_comes_over_tcp(
+/// Whether the reply to a query comes on the connection with this number.
+fn reply_comes_on(
     system: &System<'_>,
     wire: &mut MioWire<'_, System<'_>>,
+    conn: u64,
     port: u16,
 ) -> Result<bool, Fail> {
     let listener = TcpListener::bind(system.host, here(port))?;
-    let query = query_over_tcp(system.host.alloc(), port)?;
+    let query = query_over_tcp(system.host.alloc(), conn, port)?;
     expected(wire.put(&query).is_ok(), "a query that was not sent")?;
     settle(wire);
     let (mut stream, _) = listener.accept()?;
     expected(is_replied(&mut stream)?, "another query")?;
     let came = came_next(wire);
-    let is_closed = wire.put(&Action::CloseTcp { conn: 0 }).is_ok();
+    let is_closed = wire.put(&Action::CloseTcp { conn }).is_ok();
     match came {
-        Came::Stream(0, _) => Ok(is_closed),
+        Came::Stream(number, _) => Ok(number == conn && is_closed),
         _ => Ok(false),
     }
+}
+
+pub(crate) fn replies_come_over_tcp(
+    system: &System<'_>,
+    wire: &mut MioWire<'_, System<'_>>,
+    port: u16,
+) -> Result<bool, Fail> {
+    for conn in &CONNECTIONS {
+        if !reply_comes_on(system, wire, *conn, port)? {
+            return Ok(false);
+        }
+    }
+    Ok(true)
 }
 
 /// The next connection that the server accepts.
@@ -132,7 +151,7 @@ pub(crate) fn query_comes_later(
     for _ in 0..UNACCEPTED {
         others.push(TcpStream::connect(system.host, here(port))?)?;
     }
-    let query = query_over_tcp(system.host.alloc(), port)?;
+    let query = query_over_tcp(system.host.alloc(), 0, port)?;
     expected(wire.put(&query).is_ok(), "a query that was not sent")?;
     settle(wire);
     for _ in 0..UNACCEPTED {

@@ -8,7 +8,7 @@ use crate::clients::{
     crowd_comes, datagram_comes, many_come, pieces_come, question_comes_again, rest_comes,
 };
 use crate::servers::{
-    query_comes_later, reply_comes_among_datagrams, reply_comes_by_udp, reply_comes_over_tcp,
+    query_comes_later, replies_come_over_tcp, reply_comes_among_datagrams, reply_comes_by_udp,
 };
 use crate::system::{System, expected, local};
 use network_model::Wire;
@@ -39,7 +39,7 @@ enum Case {
     Pieces,
     /// The reply to a query by UDP.
     ByUdp,
-    /// The reply to a query over TCP.
+    /// The reply to a query over TCP, at some numbers of its connection.
     OverTcp,
     /// A query over TCP whose connection opens a second later: at the server.
     Opens,
@@ -100,7 +100,7 @@ fn passes(
         Case::Datagram => datagram_comes(system, wire, port),
         Case::Pieces => pieces_come(system, wire, port),
         Case::ByUdp => reply_comes_by_udp(system, wire, server),
-        Case::OverTcp => reply_comes_over_tcp(system, wire, server),
+        Case::OverTcp => replies_come_over_tcp(system, wire, server),
         Case::Opens => query_comes_later(system, wire, server),
         Case::Again => question_comes_again(system, wire, port),
         Case::Rest => rest_comes(system, wire, port),
@@ -196,7 +196,7 @@ fn the_reply_to_a_query_by_udp_comes(rt: HostRuntime) -> Result<(), Fail> {
 }
 
 #[test]
-fn the_reply_to_a_query_over_tcp_comes(rt: HostRuntime) -> Result<(), Fail> {
+fn the_reply_to_a_query_over_tcp_comes_at_each_number(rt: HostRuntime) -> Result<(), Fail> {
     assert_eq!(rt; ages_passed_anew(&rt, Case::OverTcp)?, AGES.len());
     Ok(())
 }
