@@ -124,7 +124,8 @@ fn used_around_a_reply<'a>(
     Ok([before, heap.used()])
 }
 
-/// The same over a new wire with this memory, which is forgotten.
+/// The octets of this heap that are in use before and behind a reply over a new wire with its memory.
+/// The wire is forgotten.
 fn used_anew(rt: &HostRuntime, heap: &LocalHeap) -> Result<[usize; 2], Fail> {
     let system = System::new(rt);
     let mut wire = MioWire::new(&system, heap, local(15399), &Limits::defaults())?;
