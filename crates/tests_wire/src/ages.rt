@@ -1,7 +1,7 @@
-//! Moments and random words at each age of a wire, and what comes of a stall. Ports 15388 to 15393
-//! and 15397 have to be free. A wire is forgotten, as in `sockets`.
+//! Moments and random words at each age of a wire, and what comes of a stall. Ports 15388 to 15393,
+//! 15397 and 15401 have to be free. A wire is forgotten, as in `sockets`.
 
-use crate::came::{Came, came_next, client_that_sends, here, reply_to, settle};
+use crate::came::{Came, came_next, clients_that_came, here, is_sent, reply_to, settle};
 use crate::system::{System, TURNS, expected, local, moment_in_turn, send};
 use crate::watched::AGES;
 use crate::worked::QUESTION;
@@ -54,26 +54,51 @@ fn moments_are_those_of_the_clock(rt: HostRuntime) -> Result<(), Fail> {
     Ok(())
 }
 
-/// Moments that are asked for a second after the arrival of nothing, and of a datagram. The former
-/// are of the ticks, which come once the wire has waited; the latter is that of the arrival.
-fn moments_after(
-    system: &System<'_>,
-    wire: &mut MioWire<'_, System<'_>>,
-    client: &UdpSocket,
-) -> Option<[u64; 2]> {
-    settle(wire);
-    let _nothing = wire.arrival();
-    system.time.set(Duration::from_millis(1_000));
-    let behind_nothing = wire.moment();
-    let _sent = client.send_to(&QUESTION, here(15397)).ok()?;
+/// The moment of the next datagram. A second passes between its arrival and its step.
+fn moment_of_datagram(system: &System<'_>, wire: &mut MioWire<'_, System<'_>>) -> Option<u64> {
     for _ in 0..TURNS {
         let came = wire.arrival();
         if let Ok(Arrival::ClientDatagram { .. }) = came {
-            system.time.set(Duration::from_millis(2_000));
-            return Some([behind_nothing, wire.moment()]);
+            system.pass(Duration::from_secs(1));
+            return Some(wire.moment());
         }
     }
     None
+}
+
+/// The moments of three turns: nothing arrives in the first, and the clock comes to this age then;
+/// a datagram arrives in the second, and another one in the third, a second later.
+fn moments_of_turns(
+    system: &System<'_>,
+    wire: &mut MioWire<'_, System<'_>>,
+    client: &UdpSocket,
+    age: u64,
+) -> Option<[u64; 3]> {
+    settle(wire);
+    let _nothing = wire.arrival();
+    system.time.set(Duration::from_millis(age));
+    let behind_nothing = wire.moment();
+    let _first = is_sent(client, &QUESTION, 15397);
+    let _second = is_sent(client, &QUESTION, 15397);
+    let first = moment_of_datagram(system, wire)?;
+    let second = moment_of_datagram(system, wire)?;
+    Some([behind_nothing, first, second])
+}
+
+/// The number of ages at which each of these turns has its own moment, one after the other. That of
+/// the ticks, where nothing arrives, comes once the wire has waited.
+fn ages_with_moments(
+    system: &System<'_>,
+    wire: &mut MioWire<'_, System<'_>>,
+    client: &UdpSocket,
+) -> usize {
+    for (place, age) in AGES.iter().enumerate() {
+        let later = age.saturating_add(1_000);
+        if moments_of_turns(system, wire, client, *age) != Some([*age, *age, later]) {
+            return place;
+        }
+    }
+    AGES.len()
 }
 
 #[test]
@@ -82,9 +107,54 @@ fn an_arrival_has_the_moment_of_its_turn(rt: HostRuntime) -> Result<(), Fail> {
     system.time.set(Duration::ZERO);
     let client = UdpSocket::bind(&rt, here(0))?;
     let mut wire = MioWire::new(&system, rt.alloc(), local(15397), &Limits::defaults())?;
-    let moments = moments_after(&system, &mut wire, &client);
+    let ages = ages_with_moments(&system, &mut wire, &client);
     forget(wire);
-    assert_eq!(rt; moments, Some([1_000, 1_000]));
+    assert_eq!(rt; ages, AGES.len());
+    Ok(())
+}
+
+/// The moment of a datagram that a wire of this age finds once it has waited. The clock moves on by
+/// 1 ms at each reading, so no socket is tried before.
+fn moment_behind_wait(
+    system: &System<'_>,
+    wire: &mut MioWire<'_, System<'_>>,
+    client: &UdpSocket,
+    age: u64,
+) -> Option<u64> {
+    system.time.set(Duration::from_millis(age));
+    settle(wire);
+    system.step.set(Duration::from_millis(1));
+    let _sent = is_sent(client, &QUESTION, 15401);
+    let moment = moment_of_datagram(system, wire);
+    system.step.set(Duration::ZERO);
+    moment
+}
+
+/// The number of ages at which this moment is that of the second reading in the turn, one after the
+/// other.
+fn ages_with_moment_behind_wait(
+    system: &System<'_>,
+    wire: &mut MioWire<'_, System<'_>>,
+    client: &UdpSocket,
+) -> usize {
+    for (place, age) in AGES.iter().enumerate() {
+        let later = age.saturating_add(1);
+        if moment_behind_wait(system, wire, client, *age) != Some(later) {
+            return place;
+        }
+    }
+    AGES.len()
+}
+
+#[test]
+fn an_arrival_in_a_wait_has_the_moment_behind_it(rt: HostRuntime) -> Result<(), Fail> {
+    let system = System::new(&rt);
+    system.time.set(Duration::ZERO);
+    let client = UdpSocket::bind(&rt, here(0))?;
+    let mut wire = MioWire::new(&system, rt.alloc(), local(15401), &Limits::defaults())?;
+    let ages = ages_with_moment_behind_wait(&system, &mut wire, &client);
+    forget(wire);
+    assert_eq!(rt; ages, AGES.len());
     Ok(())
 }
 
@@ -190,13 +260,7 @@ fn three_clients(
     system: &System<'_>,
     wire: &mut MioWire<'_, System<'_>>,
 ) -> Result<Vec<TcpStream>, Fail> {
-    let mut clients = Vec::new(system.host.alloc());
-    for _ in 0..3u8 {
-        clients.push(client_that_sends(system, 15393, b"\x00\x1b\x12")?)?;
-        let came = came_next(wire);
-        expected(matches!(came, Came::Piece(_, 3)), "no client came")?;
-    }
-    settle(wire);
+    let mut clients = clients_that_came(system, wire, 15393, b"\x00\x1b\x12", 3)?;
     for place in 0..2usize {
         if let Some(client) = clients.get_mut(place) {
             send(client, &QUESTION[1..])?;

@@ -1,6 +1,6 @@
 //! The arrivals over a wire, in plain values, and their senders.
 
-use crate::system::{System, TURNS, address, send};
+use crate::system::{System, TURNS, address, expected, send};
 use mio::net::{TcpStream, UdpSocket};
 use network_model::{Arrival, Wire};
 use plain_values::PlainList;
@@ -64,11 +64,16 @@ pub(crate) fn came_next(wire: &mut MioWire<'_, System<'_>>) -> Came {
     Came::Nothing
 }
 
-/// Makes turns until nothing is noted as ready any more, whatever comes in them.
-pub(crate) fn settle(wire: &mut MioWire<'_, System<'_>>) {
-    for _ in 0..SETTLED {
+/// Makes so many turns, whatever comes in them.
+pub(crate) fn make_turns(wire: &mut MioWire<'_, System<'_>>, count: u32) {
+    for _ in 0..count {
         let _came = came_now(wire);
     }
+}
+
+/// Makes turns until nothing is noted as ready any more.
+pub(crate) fn settle(wire: &mut MioWire<'_, System<'_>>) {
+    make_turns(wire, SETTLED);
 }
 
 /// This port of this machine.
@@ -85,6 +90,27 @@ pub(crate) fn client_that_sends(
     let mut client = TcpStream::connect(system.host, here(port))?;
     send(&mut client, octets)?;
     Ok(client)
+}
+
+/// So many new clients at this port. The octets that each one sends have come.
+pub(crate) fn clients_that_came(
+    system: &System<'_>,
+    wire: &mut MioWire<'_, System<'_>>,
+    port: u16,
+    octets: &[u8],
+    count: u32,
+) -> Result<Vec<TcpStream>, Fail> {
+    let mut clients = Vec::new(system.host.alloc());
+    for _ in 0..count {
+        clients.push(client_that_sends(system, port, octets)?)?;
+        let has_come = match came_next(wire) {
+            Came::Piece(_, piece) => piece == octets.len(),
+            _ => false,
+        };
+        expected(has_come, "no client came")?;
+    }
+    settle(wire);
+    Ok(clients)
 }
 
 /// A reply with this number of octets to the client with this number.

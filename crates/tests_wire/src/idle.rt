@@ -32,11 +32,7 @@ fn time_of_idle_turns(
 ) -> Result<Duration, Fail> {
     let before = system.host.monotonic()?;
     for _ in 0..IDLE_TURNS {
-        let later = system
-            .time
-            .get()
-            .saturating_add(Duration::from_millis(PASSING));
-        system.time.set(later);
+        system.pass(Duration::from_millis(PASSING));
         expected(came_now(wire) == Came::Nothing, "something came")?;
     }
     Ok(system.host.monotonic()?.saturating_sub(before))

@@ -8,6 +8,8 @@ mod ages;
 #[cfg(test)]
 mod came;
 #[cfg(test)]
+mod clients;
+#[cfg(test)]
 mod faults;
 #[cfg(test)]
 mod idle;
@@ -17,6 +19,8 @@ mod puts;
 mod refusals;
 #[cfg(test)]
 mod scripts;
+#[cfg(test)]
+mod servers;
 #[cfg(test)]
 mod sockets;
 #[cfg(test)]

@@ -45,8 +45,9 @@ pub(crate) struct System<'a> {
     has_no_octets: Cell<bool>,
     /// The random octets that are given, in place of the machine's.
     pub(crate) seed: Cell<Option<[u8; 32]>>,
-    /// The time of the clock.
+    /// The time of the clock, and the time that passes behind each reading of it.
     pub(crate) time: Cell<Duration>,
+    pub(crate) step: Cell<Duration>,
     /// The clock fails.
     has_no_clock: Cell<bool>,
     /// The address at which a socket for datagrams was bound last.
@@ -56,7 +57,7 @@ pub(crate) struct System<'a> {
 }
 
 impl<'a> System<'a> {
-    /// A system that answers as the machine's does, but that its clock reads 7 s.
+    /// A system that answers as the machine's does, but that its clock stands at 7 s.
     pub(crate) fn new(host: &'a HostRuntime) -> System<'a> {
         System {
             host,
@@ -64,10 +65,16 @@ impl<'a> System<'a> {
             has_no_octets: Cell::new(false),
             seed: Cell::new(None),
             time: Cell::new(Duration::from_millis(7_000)),
+            step: Cell::new(Duration::ZERO),
             has_no_clock: Cell::new(false),
             bound: Cell::new(None),
             refusal: Cell::new(None),
         }
+    }
+
+    /// Moves the clock on.
+    pub(crate) fn pass(&self, time: Duration) {
+        self.time.set(self.time.get().saturating_add(time));
     }
 }
 
@@ -91,7 +98,9 @@ impl Clock for System<'_> {
         if self.has_no_clock.get() {
             return Err(io::Error::from(ErrorKind::Unsupported));
         }
-        Ok(self.time.get())
+        let time = self.time.get();
+        self.pass(self.step.get());
+        Ok(time)
     }
 
     fn since_1970(&self) -> io::Result<Duration> {
