@@ -31,7 +31,8 @@ text_of a s transport = sent_over transport (written (full_answer a s)) (written
 abbrev pub answer_of : Asked → List Held → ℕ → Transport → Result (List ℕ) Fault
 answer_of a chain moment transport = text_of a (sections_of moment chain) transport
 
--- the answer with expired pieces from index `stale_from` on at 30 seconds (RFC 8767 4), and at 0 before
+-- the answer with expired pieces from index `stale_from` on at 30 seconds (RFC 8767 4), and at 0
+-- before
 abbrev pub stale_answer_of : Asked → List Held → ℕ → ℕ → Transport → Result (List ℕ) Fault
 stale_answer_of a chain stale_from moment transport = text_of a (sections_with_ttls (with_stale_ttls stale_from moment chain)) transport
 

@@ -40,9 +40,9 @@ pub fn build<A: Allocator + Copy>(
     build_stale(alloc, asked, chain, chain.len(), moment, transport)
 }
 
-/// The octets of the answer of `build`, but with expired pieces: from index `stale_from` on, which is at
-/// most their number, each expired piece has 30 seconds left (RFC 8767 4); all further pieces have
-/// their seconds left, 0 if expired. Faults are the faults of `build`.
+/// The octets of the answer of `build`, but with expired pieces: from index `stale_from` on, which
+/// is at most their number, each expired piece has 30 seconds left (RFC 8767 4); all further pieces
+/// have their seconds left, 0 if expired. Faults are the faults of `build`.
 pub fn build_stale<A: Allocator + Copy>(
     alloc: A,
     asked: &Asked<A>,

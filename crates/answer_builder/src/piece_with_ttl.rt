@@ -69,8 +69,8 @@ fn ttl_of<A: Allocator>(held: &Held<A>, moment: u64) -> u32
     left as u32
 }
 
-/// Pieces with what is left of them at a moment, in milliseconds; those from index `stale_from` on that
-/// have expired are stale (RFC 8767 4).
+/// Pieces with what is left of them at a moment, in milliseconds; those from index `stale_from` on
+/// that have expired are stale (RFC 8767 4).
 pub(crate) fn with_stale_ttls<'a, A: Allocator + Copy>(
     alloc: A,
     chain: &'a [Held<A>],
@@ -81,10 +81,10 @@ pub(crate) fn with_stale_ttls<'a, A: Allocator + Copy>(
     requires earlier { AllByRecursion (IsEarlier moment) chain.now }
     ensures { IfOk result (λ pieces. pieces.items ≡ with_stale_ttls stale_from moment chain.now) }
 {
-    let (before, behind) = chain.split_at(stale_from);
+    let (before, after) = chain.split_at(stale_from);
     let mut pieces = Vec::with_capacity(alloc, chain.len())?;
     add_left(&mut pieces, before, moment)?;
-    add_stale(&mut pieces, behind, moment)?;
+    add_stale(&mut pieces, after, moment)?;
     Ok(pieces)
 }
 

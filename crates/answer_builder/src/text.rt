@@ -55,7 +55,7 @@ pub(crate) fn put_text<A: Allocator + Copy>(
     }
 }
 
-/// Writes an answer for UDP: past 512 octets the header with TC and the question alone.
+/// Writes an answer for UDP: above 512 octets the header with TC and the question alone.
 fn put_udp<A: Allocator + Copy>(
     alloc: A,
     octets: &mut Vec<u8, A>,
@@ -84,7 +84,7 @@ fn put_udp<A: Allocator + Copy>(
     put_bare(alloc, octets, &cut)
 }
 
-/// Writes an answer for TCP: `TooLarge` past 65,535 octets.
+/// Writes an answer for TCP: `TooLarge` above 65,535 octets.
 fn put_tcp<A: Allocator + Copy>(
     alloc: A,
     octets: &mut Vec<u8, A>,

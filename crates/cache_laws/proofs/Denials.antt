@@ -12,7 +12,7 @@ use Rattle.trust_rank.specs.Denials.{soa_for}
 use Rattle.trust_rank.specs.Walks.{AtName, met_nothing, met_set, met_no_data, met_name_error, met_alias, met_lame}
 use Rattle.trust_rank.specs.Walks.{is_place, is_on_route, rank_at, at_name, answer_set, alias_set, has_many}
 use Rattle.trust_rank.specs.Walks.{target_of, is_referral, name_error_at, no_data_at, denial_met, denial_at, leads}
-use Rattle.trust_rank.specs.Walks.{alias_or, set_or, met_at, most_aliases, lame_walk, is_lame, behind, go_on}
+use Rattle.trust_rank.specs.Walks.{alias_or, set_or, met_at, most_aliases, lame_walk, is_lame, with_alias, go_on}
 use Rattle.trust_rank.specs.Walks.{walk_from}
 use Rattle.cache_laws.specs.Lists.{IsOneOf, NoneTwice}
 use Rattle.cache_laws.specs.Sets.{AreDataOf}
@@ -237,7 +237,7 @@ record Denies (r : Reply) (left : ℕ) (name : List (List ℕ)) : Type 0 where
   pub lead : AliasesLead r count name last
   pub denied : IsDeniedAt r last
 
-behind_denied : (p : Piece) (w : Walk) → (behind p w).end ≡ ends_denied → w.end ≡ ends_denied
+behind_denied : (p : Piece) (w : Walk) → (with_alias p w).end ≡ ends_denied → w.end ≡ ends_denied
 behind_denied p w = by (is_lame w.end)
   where
     by : (b : Bool) → (cond b lame_walk (led_by p w)).end ≡ ends_denied → w.end ≡ ends_denied
@@ -347,7 +347,7 @@ alias_met r is_first name target on_route a h =
     (cond-false (r.question.kind == 5) None (answer_set r 5 name) (ne_eqb r.question.kind 5 a.other) ∙ h.there)
     ∙ ap (leads h.alias) h.leads_to
 
-denied_behind : (p : Piece) (w : Walk) → w.end ≡ ends_denied → (behind p w).end ≡ ends_denied
+denied_behind : (p : Piece) (w : Walk) → w.end ≡ ends_denied → (with_alias p w).end ≡ ends_denied
 denied_behind p w e = ap (λ (x : Walk). x.end) (cond-false (is_lame w.end) lame_walk (led_by p w) (ap is_lame e)) ∙ e
 
 denies : (r : Reply) (left count : ℕ) (is_first : Bool) (name last : List (List ℕ)) → count < left

@@ -13,7 +13,7 @@ use Rattle.trust_rank.specs.Denials.{is_soa_for, soa_for}
 use Rattle.trust_rank.specs.Walks.{AtName, met_nothing, met_set, met_no_data, met_name_error, met_alias, met_lame}
 use Rattle.trust_rank.specs.Walks.{is_on_route, answer_set, alias_set, has_many, target_of, is_name_server}
 use Rattle.trust_rank.specs.Walks.{is_referral, name_error_at, no_data_at, denial_met, leads, alias_or}
-use Rattle.trust_rank.specs.Walks.{set_or, met_at, most_aliases, lame_walk, is_lame, behind, go_on, walk_from}
+use Rattle.trust_rank.specs.Walks.{set_or, met_at, most_aliases, lame_walk, is_lame, with_alias, go_on, walk_from}
 use Rattle.cache_laws.specs.Lists.{IsOneOf}
 use Rattle.cache_laws.specs.Denials.{AliasesLead}
 use Rattle.cache_laws.specs.Ends.{IsBareAt, LeadsToBare, HasSoaFor, IsReferral, NoDataExactly}
@@ -136,7 +136,7 @@ lame_is ends_denied e = absurd (false≢true e)
 lame_is (elsewhere name) e = absurd (false≢true e)
 lame_is lame e = refl
 
-end_behind : (p : Piece) (w : Walk) → (behind p w).end ≡ w.end
+end_behind : (p : Piece) (w : Walk) → (with_alias p w).end ≡ w.end
 end_behind p w = cond_both (is_lame w.end) lame_walk (led_by p w) (λ (x : Walk). x.end ≡ w.end)
     (λ is. sym (lame_is w.end is)) (λ _. refl)
 
@@ -203,7 +203,7 @@ record MetNoData (r : Reply) (is_first : Bool) (name : List (List ℕ)) (on : Bo
   pub set_is : set ≡ None
   pub alias_is : alias ≡ None
   pub rcode : (r.rcode == 3) ≡ false
-  pub told : (lacks_soa r name ≡ false) ⊎ ((is_first ≡ true) × (is_referral r ≡ false))
+  pub stated : (lacks_soa r name ≡ false) ⊎ ((is_first ≡ true) × (is_referral r ≡ false))
 
 no_data_parts : (r : Reply) (is_first : Bool) (name : List (List ℕ)) (p : Piece) (on : Bool)
     (set alias : Option Piece)
@@ -216,7 +216,7 @@ no_data_parts r is_first name p true None (Some a) e = absurd (lead_is_no_data a
 no_data_parts r is_first name p true None None e =
     let parts = denial_parts (name_error_at r name) (no_data_at r name) p (r.rcode == 3) (lacks_soa r name) is_first
     (is_referral r) e in
-    record { on_is = refl; set_is = refl; alias_is = refl; rcode = parts.0; told = parts.1 }
+    record { on_is = refl; set_is = refl; alias_is = refl; rcode = parts.0; stated = parts.1 }
 
 no_data_met : (r : Reply) (is_first : Bool) (name : List (List ℕ)) (p : Piece)
     → met_at r is_first name ≡ met_no_data p
@@ -231,7 +231,7 @@ record Lacking (r : Reply) (left : ℕ) (is_first : Bool) (name : List (List ℕ
   pub few : count < left
   pub lead : AliasesLead r count name last
   pub bare : IsBareAt r last
-  pub told : HasSoaFor r last ⊎ ((count ≡ 0) × (is_first ≡ true) × (IsReferral r → ⊥))
+  pub stated : HasSoaFor r last ⊎ ((count ≡ 0) × (is_first ≡ true) × (IsReferral r → ⊥))
 
 lacking_here : (r : Reply) (left : ℕ) (is_first : Bool) (name : List (List ℕ)) (p : Piece)
     → met_at r is_first name ≡ met_no_data p → Lacking r (suc left) is_first name
@@ -251,7 +251,7 @@ lacking_here r left is_first name p e =
           no_alias = no_alias r name h.set_is h.alias_is;
         };
       };
-      told = elim h.told [
+      stated = elim h.stated [
         | inl there ↦ inl (soa_is_there r name there)
         | inr own ↦ inr (refl, own.0, λ is. both_ways (is_referral r) own.1 (refers r is))
       ];
@@ -265,13 +265,13 @@ lacking_on r left is_first name target p e d = record {
   few = omega (arith, d.few);
   lead = (target, alias_at r is_first name target p e, d.lead);
   bare = d.bare;
-  told = elim d.told [
+  stated = elim d.stated [
     | inl there ↦ inl there
     | inr own ↦ absurd (false≢true own.1)
   ];
 }
 
-behind_no_data : (p : Piece) (w : Walk) → (behind p w).end ≡ ends_no_data → w.end ≡ ends_no_data
+behind_no_data : (p : Piece) (w : Walk) → (with_alias p w).end ≡ ends_no_data → w.end ≡ ends_no_data
 behind_no_data p w e = sym (end_behind p w) ∙ e
 
 go_lacking : (r : Reply) (left : ℕ) (is_first : Bool) (name : List (List ℕ)) (rest : List (List ℕ) → Walk)
@@ -320,7 +320,7 @@ no_data_exactly = record {
         count = d.count;
         last = d.last;
         leads = record { few = d.few; lead = d.lead; bare = d.bare };
-        told = elim d.told [
+        stated = elim d.stated [
           | inl there ↦ inl there
           | inr own ↦ inr (own.0, own.2)
         ];
@@ -328,7 +328,7 @@ no_data_exactly = record {
   each = λ c m q route h.
       let r : Reply = reply_of c m q route in
       same_end r (own_walk r)
-      ∙ bare_end r ends_no_data h.count h.last h.leads (told_no_data r h.count h.last h.told);
+      ∙ bare_end r ends_no_data h.count h.last h.leads (told_no_data r h.count h.last h.stated);
 }
 
 pub aliases_alone_lead_on : AliasesAloneLeadOn

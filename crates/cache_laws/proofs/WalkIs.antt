@@ -9,7 +9,7 @@ use Rattle.trust_rank.specs.Denials.{soa_for}
 use Rattle.trust_rank.specs.Walks.{met_nothing, met_set, met_no_data, met_name_error, met_alias, met_lame}
 use Rattle.trust_rank.specs.Walks.{is_on_route, answer_set, alias_set, has_many, target_of, is_referral}
 use Rattle.trust_rank.specs.Walks.{name_error_at, no_data_at, denial_at, leads, alias_or, set_or}
-use Rattle.trust_rank.specs.Walks.{met_at, most_aliases, lame_walk, is_lame, behind, go_on, walk_from}
+use Rattle.trust_rank.specs.Walks.{met_at, most_aliases, lame_walk, is_lame, with_alias, go_on, walk_from}
 use Rattle.cache_laws.specs.Denials.{IsLoneAlias, HasNothingAt}
 use Rattle.cache_laws.specs.Carried.{IsSetAt, IsOnRoute, LeadThrough, AreAliases}
 use Rattle.cache_laws.specs.Carried.{IsLameAt, EndsSo, IsWalked, IsLame, AreWalked}
@@ -79,7 +79,7 @@ lame_here r count name few on is = record {
   lame_is = subst (λ (n : ℕ). IsLameAt r n name) (omega arith) is;
 }
 
--- ---- the walk goes on behind an alias
+-- ---- the walk goes on with_alias an alias
 
 alias_first : (r : Reply) (count : ℕ) (name target : List (List ℕ)) (p : Piece) (pieces : List Piece) (end : End)
     → IsOnRoute r name → IsLoneAlias r name target → IsSetAt 5 name p → GoesFrom r (suc count) target pieces end
@@ -108,7 +108,7 @@ lame_later r count name target on alone g = record {
 
 behind_alias : (r : Reply) (count : ℕ) (name target : List (List ℕ)) (p : Piece) (pieces : List Piece) (end : End)
     → IsOnRoute r name → IsLoneAlias r name target → IsSetAt 5 name p → Goes r (suc count) target pieces end
-    → GoesSo r count name (behind p (record { pieces = pieces; authority = []; end = end }))
+    → GoesSo r count name (with_alias p (record { pieces = pieces; authority = []; end = end }))
 behind_alias r count name target p pieces lame on alone at g = (refl, lame_later r count name target on alone g.1)
 behind_alias r count name target p pieces found on alone at g =
     alias_first r count name target p pieces found on alone at g
@@ -121,8 +121,8 @@ behind_alias r count name target p pieces (elsewhere last) on alone at g =
 
 -- the name servers of a walk change nothing
 behind_walk : (r : Reply) (count : ℕ) (name : List (List ℕ)) (p : Piece) (w : Walk)
-    → GoesSo r count name (behind p (record { pieces = w.pieces; authority = []; end = w.end }))
-    → GoesSo r count name (behind p w)
+    → GoesSo r count name (with_alias p (record { pieces = w.pieces; authority = []; end = w.end }))
+    → GoesSo r count name (with_alias p w)
 behind_walk r count name p w = by (is_lame w.end)
   where
     by : (b : Bool)
@@ -208,7 +208,7 @@ denial_here r count name rest false false referral few on nothing three soa refe
       is = record {
         other = λ is. both_ways (r.rcode == 3) three (eq-eqb r.rcode 3 is);
         nothing = nothing;
-        told = inl (soa_is_there r name soa);
+        stated = inl (soa_is_there r name soa);
         owner = refl;
         kind_is = refl;
         soa = soa_for name r.question.class r.authority;
@@ -247,7 +247,7 @@ denial_here r zero name rest false true false few on nothing three soa refers_on
       is = record {
         other = λ is. both_ways (r.rcode == 3) three (eq-eqb r.rcode 3 is);
         nothing = nothing;
-        told = inr (refl, λ is. both_ways (is_referral r) refers_on (refers r is));
+        stated = inr (refl, λ is. both_ways (is_referral r) refers_on (refers r is));
         owner = refl;
         kind_is = refl;
         soa = soa_for name r.question.class r.authority;
@@ -255,7 +255,7 @@ denial_here r zero name rest false true false few on nothing three soa refers_on
       };
     })
 
--- what is met at a name, and the walk behind it
+-- what is met at a name, and the walk with_alias it
 met_here : (r : Reply) (count : ℕ) (name : List (List ℕ)) (rest : List (List ℕ) → Walk) (on : Bool)
     (set alias : Option Piece) → AllDiffer r.config.routes → count < 8 → is_on_route r name ≡ on
     → answer_set r r.question.kind name ≡ set → alias_set r name ≡ alias

@@ -13,7 +13,7 @@ use Rattle.trust_rank.specs.Denials.{soa_for}
 use Rattle.trust_rank.specs.Walks.{met_nothing, met_set, met_no_data, met_lame}
 use Rattle.trust_rank.specs.Walks.{is_on_route, answer_set, alias_set, has_many, is_referral}
 use Rattle.trust_rank.specs.Walks.{name_error_at, no_data_at, denial_at, leads, alias_or, set_or, met_at}
-use Rattle.trust_rank.specs.Walks.{most_aliases, ending, lame_walk, is_lame, behind, go_on, walk_from}
+use Rattle.trust_rank.specs.Walks.{most_aliases, ending, lame_walk, is_lame, with_alias, go_on, walk_from}
 use Rattle.cache_laws.specs.Ranks.{IsRanked}
 use Rattle.cache_laws.specs.Sets.{IsRecordFor}
 use Rattle.cache_laws.specs.Denials.{question_at, IsLoneAlias}
@@ -113,7 +113,7 @@ no_data_met : (r : Reply) (count : ℕ) (name : List (List ℕ)) (p : Piece) →
 no_data_met r count name p differ on h =
     bare_met r (none_yet count) name
     (record { on_route = route_is r name differ on; other = h.other; nothing = h.nothing })
-    ∙ told_met r name (lacks_soa r name) (none_yet count) (is_referral r) (elim h.told [
+    ∙ told_met r name (lacks_soa r name) (none_yet count) (is_referral r) (elim h.stated [
       | inl there ↦ inl (has_soa r name there)
       | inr own ↦ inr (is_yet count own.0, not_referral r own.1)
     ])
@@ -208,8 +208,8 @@ alias_step r is_first name target p pieces end rest differ on alone of_p at live
     let h : HasAlias r name target = has_alias r name target alone in
     let one : h.alias ≡ p = some_is h.alias p (sym h.there ∙ set_is r 5 name p of_p at) in
     ap (go_on rest name) (alias_met r is_first name target (route_is r name differ on) alone h)
-    ∙ ap (λ (x : Piece). behind x (rest target)) one
-    ∙ ap (behind p) is
+    ∙ ap (λ (x : Piece). with_alias x (rest target)) one
+    ∙ ap (with_alias p) is
     ∙ cond-false (is_lame end) lame_walk (record { pieces = p ∷ pieces; authority = []; end = end }) lives
   where
     some_is : (x y : Piece) → Some x ≡ Some y → x ≡ y
@@ -300,7 +300,7 @@ lame_only r (suc left) count name (target ∷ targets) last differ sum lead few 
     let h : HasAlias r name target = has_alias r name target lead.1 in
     ap (go_on (λ to. walk_from r left false to) name)
     (alias_met r (none_yet count) name target (route_is r name differ lead.0) lead.1 h)
-    ∙ ap (behind h.alias) (lame_only r left (suc count) target targets last differ (omega (arith, sum)) lead.2
+    ∙ ap (with_alias h.alias) (lame_only r left (suc count) target targets last differ (omega (arith, sum)) lead.2
     (omega (arith, few)) on (subst (λ (n : ℕ). IsLameAt r n last) (omega arith) is))
 
 -- ---- any walk

@@ -10,7 +10,7 @@ use Rattle.trust_rank.specs.Denials.{soa_for}
 use Rattle.trust_rank.specs.Walks.{AtName, met_nothing, met_set, met_no_data, met_name_error, met_alias, met_lame}
 use Rattle.trust_rank.specs.Walks.{is_on_route, answer_set, alias_set, has_many, target_of, is_referral}
 use Rattle.trust_rank.specs.Walks.{name_error_at, no_data_at, denial_met, denial_at, leads, alias_or, set_or, met_at}
-use Rattle.trust_rank.specs.Walks.{most_aliases, lame_walk, is_lame, behind, go_on, walk_from, servers_from}
+use Rattle.trust_rank.specs.Walks.{most_aliases, lame_walk, is_lame, with_alias, go_on, walk_from, servers_from}
 use Rattle.trust_rank.specs.Walks.{carries_servers, with_servers, walk_of}
 
 abbrev EachMet : (Piece → Type 0) → AtName → Type 0
@@ -78,7 +78,7 @@ abbrev pub led_by : Piece → Walk → Walk
 led_by p w = record { pieces = p ∷ w.pieces; authority = w.authority; end = w.end }
 
 behind_each : (P : Piece → Type 0) (p : Piece) (w : Walk) → P p → AllByRecursion P w.pieces
-    → AllByRecursion P (behind p w).pieces
+    → AllByRecursion P (with_alias p w).pieces
 behind_each P p w one rest =
     cond_both (is_lame w.end) lame_walk (led_by p w) (λ (x : Walk). AllByRecursion P x.pieces) (λ _. tt)
     (λ _. (one, rest))
@@ -126,7 +126,7 @@ each_piece c m q route P h =
 
 -- ---- the walk itself has no name servers
 
-behind_plain : (p : Piece) (w : Walk) → w.authority ≡ [] → (behind p w).authority ≡ []
+behind_plain : (p : Piece) (w : Walk) → w.authority ≡ [] → (with_alias p w).authority ≡ []
 behind_plain p w e = cond_both (is_lame w.end) lame_walk (led_by p w) (λ (x : Walk). x.authority ≡ []) (λ _. refl)
     (λ _. e)
 

@@ -216,7 +216,7 @@ carried_if_lives lifetime denial = record {
       is = record {
         other = λ three. omega (arith, three);
         nothing = record { no_set = λ s h. h.there; no_alias = λ s h. h.there };
-        told = inl (record { s = soa e 1 3600; there = inl refl; fits = soa_fits });
+        stated = inl (record { s = soa e 1 3600; there = inl refl; fits = soa_fits });
         owner = refl;
         kind_is = refl;
         soa = zone;

@@ -298,7 +298,7 @@ told_with_soa = record {
   count = 1;
   last = b;
   leads = leads_to_bare (soa e 1 3600 ∷ []);
-  told = inl (record {
+  stated = inl (record {
     s = soa e 1 3600;
     there = inl refl;
     fits = record { kind = refl; class_is = refl; above = (is_under_decides b e).0 refl };
@@ -324,7 +324,7 @@ told_by_its_server = record {
   count = 0;
   last = a;
   leads = asked_is_bare true (ns e 1 ∷ []);
-  told = inr (refl, authoritative_is_no_referral);
+  stated = inr (refl, authoritative_is_no_referral);
 }
 
 ends_by_its_server : (walk_of config (empty true (ns e 1 ∷ [])) address 0).end ≡ ends_no_data

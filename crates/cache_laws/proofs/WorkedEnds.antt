@@ -269,7 +269,7 @@ told_by_authority = record {
     is = record {
       other = λ is. omega (arith, is);
       nothing = record { no_set = λ s h. h.there; no_alias = λ s h. h.there };
-      told = inr (refl, λ h. true≢false h.clear);
+      stated = inr (refl, λ h. true≢false h.clear);
       owner = refl;
       kind_is = refl;
       soa = None;
@@ -280,7 +280,7 @@ told_by_authority = record {
 
 no_data_of_a_referral : AreWalked (seen (handed_on false)) (no_data_at (seen (handed_on false)) a ∷ []) ends_no_data
     → ⊥
-no_data_of_a_referral h = elim h.ends.is.told [
+no_data_of_a_referral h = elim h.ends.is.stated [
   | inl there ↦ no_soa_there there.s (only_one there.s (ns e 1) there.there) there.fits.kind
   | inr own ↦ own.1 (record { clear = refl; s = ns e 1; there = inl refl; kind = refl })
 ]

@@ -98,7 +98,7 @@ pub record IsErrorAt (r : Reply) (name : List (List ℕ)) (p : Piece) : Type 0 w
 pub record IsNoDataAt (r : Reply) (count : ℕ) (name : List (List ℕ)) (p : Piece) : Type 0 where
   pub other : r.rcode ≢ 3
   pub nothing : HasNothingAt r name
-  pub told : HasSoaFor r name ⊎ ((count ≡ 0) × (IsReferral r → ⊥))
+  pub stated : HasSoaFor r name ⊎ ((count ≡ 0) × (IsReferral r → ⊥))
   pub owner : p.owner ≡ name
   pub kind_is : p.slot.kind ≡ Some r.question.kind
   pub soa : Option Record
@@ -240,9 +240,9 @@ pub record IsCarriedBy (c : Config) (m : Message) (q : Question) (route : ℕ) (
   pub none_without_authority : m.header.aa ≡ false → servers ≡ []
   pub none_if_lame : end ≡ lame → servers ≡ []
 
--- `walk_of` gives pieces, name servers and end as they are carried, and no others are carried so. No
--- two routes have the same suffix, as in each accepted configuration. The record data has the shapes
--- of its types, as in each message that was read.
+-- `walk_of` gives pieces, name servers and end as they are carried, and no others are carried so.
+-- No two routes have the same suffix, as in each accepted configuration. The record data has the
+-- shapes of its types, as in each message that was read.
 pub record CarriedExactly : Type 0 where
   pub is : (c : Config) (m : Message) (q : Question) (route : ℕ) → AllDiffer c.routes
       → IsCarriedBy c m q route (walk_of c m q route).pieces (walk_of c m q route).authority (walk_of c m q route).end

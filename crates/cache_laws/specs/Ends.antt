@@ -41,7 +41,7 @@ pub record LeadsToNoData (r : Reply) : Type 0 where
   pub count : ℕ
   pub last : List (List ℕ)
   pub leads : LeadsToBare r count last
-  pub told : HasSoaFor r last ⊎ ((count ≡ 0) × (IsReferral r → ⊥))
+  pub stated : HasSoaFor r last ⊎ ((count ≡ 0) × (IsReferral r → ⊥))
 
 -- The walk ends with NODATA exactly in this case.
 pub record NoDataExactly : Type 0 where

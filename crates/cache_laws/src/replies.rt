@@ -66,9 +66,9 @@ pub fn servers_are_all()
 
 /// The content of a reply, by its records alone (`IsCarriedBy`): sets whole, in order, spelled and
 /// ranked; aliases one by one; NODATA, name errors, referrals and two aliases each exactly;
-/// lifetimes by TTL and SOA; all name servers that fit. If no two routes have the same suffix, as in
-/// each accepted configuration, code and table compute a content of this kind. There is no other if
-/// the record data has the shapes of its types, as in each message that was read.
+/// lifetimes by TTL and SOA; all name servers that fit. If no two routes have the same suffix, as
+/// in each accepted configuration, code and table compute a content of this kind. There is no other
+/// if the record data has the shapes of its types, as in each message that was read.
 pub fn carried_exactly()
     ensures { CarriedExactly }
 {}

@@ -1,4 +1,5 @@
-//! The decision on a client's message. The public function is `on_client`. A message takes this way:
+//! The decision on a client's message. The public function is `on_client`. A message takes this
+//! way:
 //!
 //! 1. `on_client`: nothing, `refuse_message`, or `serve_message` for exactly one question.
 //! 2. `serve_message` calls `serve`: `refuse` for an unserved kind, otherwise `look`.

@@ -121,5 +121,5 @@ fn hint_for_opened(before: &[u8], rest: &[u8]) -> Option<Hint> {
     if is_element && !is_quote {
         return None;
     }
-    Some(Hint::NotClosed(Position::behind(before.get(..place)?)))
+    Some(Hint::NotClosed(Position::after(before.get(..place)?)))
 }

@@ -3,7 +3,7 @@ use Rattle.std.proofs.Common.{◌≡◌, ℕ, ◌≤◌, List, [], length, Ok, �
 use Rattle.dns_name.specs.Labels.{size_of, labels_of, IsLaidOut, IsName}
 use Rattle.dns_message.specs.Names.{NameAt, name_at}
 use Rattle.std.specs.Bool.{Decides}
-use Rattle.dns_message.specs.Reading.{behind}
+use Rattle.dns_message.specs.Reading.{end_read}
 use Rattle.dns_message.specs.Values.{Question, Message}
 use Rattle.dns_message.specs.Data.{name_octets, name_of_rdata}
 use Rattle.dns_message.specs.Questions.{same_question}
@@ -83,11 +83,11 @@ pub data_that_is_a_name : (octets : List ℕ) (labels : List (List ℕ)) → nam
 data_that_is_a_name = shapes.named_sound
 
 -- data to whose end a name goes is that name; data whose end no name reaches is none
-pub name_to_the_end : (octets : List ℕ) (end : ℕ) → behind (name_at octets 0) ≡ Ok end → end ≡ length octets
+pub name_to_the_end : (octets : List ℕ) (end : ℕ) → end_read (name_at octets 0) ≡ Ok end → end ≡ length octets
     → (1 ≤ end) × IsLaidOut (take (end - 1) octets) × (name_of_rdata octets ≡ Some (labels_of (take (end - 1) octets)))
 name_to_the_end octets end ends all = let only = shapes.only_name octets end ends all in (only.some, only.laid, only.name)
 
-pub no_name_to_the_end : (octets : List ℕ) → (behind (name_at octets 0) ≡ Ok (length octets) → ⊥) → name_of_rdata octets ≡ None
+pub no_name_to_the_end : (octets : List ℕ) → (end_read (name_at octets 0) ≡ Ok (length octets) → ⊥) → name_of_rdata octets ≡ None
 no_name_to_the_end = shapes.no_name
 
 -- ---- what is written

@@ -48,7 +48,7 @@ no_more (x ∷ xs) = None
 -- octets by these parts, without a rest
 unfoldable pub fields_of : List Part → List ℕ → Option (List Field)
 fields_of [] xs = no_more xs
-fields_of (part ∷ parts) xs = and_others (first_field part xs) (λ behind. fields_of parts behind)
+fields_of (part ∷ parts) xs = and_others (first_field part xs) (λ after. fields_of parts after)
 
 -- a name is among the parts
 unfoldable pub has_name : List Part → Bool

@@ -6,7 +6,7 @@ use Rattle.dns_name.specs.Labels.{IsSame, octets_of, size_of}
 use Rattle.dns_message.specs.declared.names.fault.Fault.{Fault}
 use Rattle.dns_message.specs.declared.names.fault.Fault.TheVariants.{Short, NoQuestion}
 use Rattle.dns_message.specs.Values.{Question, Record, Message}
-use Rattle.dns_message.specs.Reading.{◌>>=◌, behind}
+use Rattle.dns_message.specs.Reading.{◌>>=◌, end_read}
 use Rattle.dns_message.specs.Numbers.{number16}
 use Rattle.dns_message.specs.Header.{header_of}
 use Rattle.dns_message.specs.Data.{IsShaped}
@@ -114,4 +114,4 @@ pub record IsViewed (bytes : List ℕ) : Type 0 where
 -- and the first question ends before this place
 pub record IsViewedTo (bytes : List ℕ) (end : ℕ) : Type 0 where
   pub viewed : IsViewed bytes
-  pub ends : behind (question_at bytes 12) ≡ Ok end
+  pub ends : end_read (question_at bytes 12) ≡ Ok end

@@ -112,8 +112,8 @@ unfoldable pub resume : List ℕ → NameCursor → Result (List (List ℕ) × �
 resume bytes w = end_of w.end (walk_in (steps_left w.run w.used) bytes w.bound w.offset w.run w.used)
 
 -- the cursor at a pointer's target, after labels of `used` octets
-abbrev pub behind_labels : List ℕ → ℕ → ℕ → NameCursor
-behind_labels bytes o used = record { offset = o; run = o; used = used; bound = whole bytes; end = None }
+abbrev pub after_labels : List ℕ → ℕ → ℕ → NameCursor
+after_labels bytes o used = record { offset = o; run = o; used = used; bound = whole bytes; end = None }
 
 -- the cursor w moves over this label to v
 pub record Advances (bytes label : List ℕ) (w v : NameCursor) : Type 0 where

@@ -10,9 +10,9 @@ size_read (Ok name) = Ok (size_of name.0)
 size_read (Err fault) = Err fault
 
 -- the octets of the name at o after labels of `used` octets, or the first fault of the whole
-unfoldable pub size_behind : List ℕ → ℕ → ℕ → Result ℕ Fault
-size_behind bytes o used = size_read (walk_in (steps_left o used) bytes (whole bytes) o o used)
+unfoldable pub size_after : List ℕ → ℕ → ℕ → Result ℕ Fault
+size_after bytes o used = size_read (walk_in (steps_left o used) bytes (whole bytes) o o used)
 
 -- a number above 0 is the size in octets of the name at its place
 abbrev pub AreSizes : List ℕ → List ℕ → Type 0
-AreSizes bytes sizes = (o : ℕ) → 0 < slice_index sizes o → size_behind bytes o 0 ≡ Ok (slice_index sizes o)
+AreSizes bytes sizes = (o : ℕ) → 0 < slice_index sizes o → size_after bytes o 0 ≡ Ok (slice_index sizes o)

@@ -4,7 +4,7 @@ use Rattle.dns_message.specs.declared.names.fault.Fault.{Fault}
 use Rattle.dns_message.specs.declared.reading.spans.Span.{Span}
 use Rattle.dns_message.specs.declared.reading.spans.Left.{Left}
 use Rattle.dns_message.specs.Values.{Record}
-use Rattle.dns_message.specs.Reading.{behind}
+use Rattle.dns_message.specs.Reading.{end_read}
 use Rattle.dns_message.specs.Numbers.{number16}
 use Rattle.dns_message.specs.Records.{RecordAt, question_at, record_at, counted}
 
@@ -30,7 +30,7 @@ span_and_rest o section rest (Err fault) = []
 -- the spans of the records from o on, as far as they can be read
 unfoldable pub spans_at : List ℕ → List ℕ → ℕ → List Span
 spans_at bytes [] o = []
-spans_at bytes (section ∷ sections) o = span_and_rest o section (spans_at bytes sections) (behind (record_at bytes o))
+spans_at bytes (section ∷ sections) o = span_and_rest o section (spans_at bytes sections) (end_read (record_at bytes o))
 
 -- the section of each counted record
 abbrev pub counted_sections : List ℕ → List ℕ
@@ -44,4 +44,4 @@ spans_from bytes (Err fault) = []
 
 -- the spans of the readable records of a message; none after an unreadable question
 unfoldable pub spans_of : List ℕ → List Span
-spans_of bytes = spans_from bytes (behind (counted (question_at bytes) (number16 bytes 4) 12))
+spans_of bytes = spans_from bytes (end_read (counted (question_at bytes) (number16 bytes 4) 12))

@@ -86,6 +86,6 @@ field_in Name first = named (labels_of first)
 field_in part first = plain first
 
 -- the octets are this part, followed by the rest
-pub record IsFirst (part : Part) (octets first behind : List ℕ) : Type 0 where
-  pub is : first_field part octets ≡ Some (field_in part first, behind)
+pub record IsFirst (part : Part) (octets first after : List ℕ) : Type 0 where
+  pub is : first_field part octets ≡ Some (field_in part first, after)
   pub laid : part ≡ Name → IsLaidOut first

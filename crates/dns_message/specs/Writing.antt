@@ -144,7 +144,8 @@ flags_of h = bit h.qr 32768 + h.opcode * 2048 + bit h.aa 1024 + bit h.tc 512 + b
 abbrev pub header_octets : Header → List ℕ → List ℕ
 header_octets h counts = octets16 h.id ++ octets16 (flags_of h) ++ flat_map octets16 counts
 
--- the first three octets of a reply's header: identifier, QR, this opcode, AA clear, the TC of these flags, RD
+-- the first three octets of a reply's header: identifier, QR, this opcode, AA clear, the TC of
+-- these flags, RD
 abbrev pub reply_front : ℕ → ℕ → ℕ → Bool → List ℕ
 reply_front id opcode flags rd = octets16 id ++ (128 + opcode * 8 + flags / 2 % 2 * 2 + bit rd 1) ∷ []
 

@@ -24,7 +24,7 @@ pub(crate) enum Fault {
     Reply,
     #[error("a limit was passed")]
     Limit,
-    #[error("it was told wrongly whether more is due")]
+    #[error("the report of more due was wrong")]
     More,
     #[error("a question waits without a query or to the end, or a query is open for none")]
     Lost,

@@ -1,5 +1,6 @@
-//! The commands of the program: `check FILE` says whether a configuration is accepted, `replay` runs
-//! the events of a script and prints each action, and `serve FILE TURNS` serves clients over sockets.
+//! The commands of the program: `check FILE` says whether a configuration is accepted, `replay`
+//! runs the events of a script and prints each action, and `serve FILE TURNS` serves clients over
+//! sockets.
 #![tactic(auto)]
 
 mod arguments;

@@ -42,7 +42,7 @@ impl Manner {
 
 /// The output of the program for a row.
 #[derive(Drop)]
-pub(crate) struct Told {
+pub(crate) struct Output {
     /// The printed lines.
     pub stdout: Vec<u8>,
     /// The line with the fault, or nothing.
@@ -50,11 +50,11 @@ pub(crate) struct Told {
 }
 
 /// Runs the file of a row.
-pub(crate) fn told_by<R: Files + AllocGlobal>(
+pub(crate) fn output_of<R: Files + AllocGlobal>(
     rt: &R,
     manner: Manner,
     row: &str,
-) -> io::Result<Told> {
+) -> io::Result<Output> {
     let alloc = rt.alloc();
     let file = fs::read(rt, row)?;
     let mut reader = file.as_slice();
@@ -68,7 +68,7 @@ pub(crate) fn told_by<R: Files + AllocGlobal>(
         Ok(()) => String::new(alloc),
         Err(fault) => format!(in alloc; "{fault}\n")?,
     };
-    Ok(Told { stdout, stderr })
+    Ok(Output { stdout, stderr })
 }
 
 /// Checks the reader's configuration, and writes the line of the command.

@@ -28,13 +28,13 @@ const FIVE_WAIT: [&str; 8] = [
 /// for eight.
 const FIVE_ENTRIES: [&str; 11] = [
     "a_later_alias_leads_to_itself",
-    "a_ninth_alias_is_told_before_the_limits",
+    "a_ninth_alias_is_reported_before_the_limits",
     "a_ninth_alias_to_a_denied_name_is_too_many",
     "aliases_of_the_reply_count_with_those_of_the_cache",
     "an_alias_leads_to_itself",
     "eight_aliases_lead_to_a_denied_name",
     "eight_held_aliases_answer_and_nine_do_not",
-    "one_question_is_sent_on_and_one_holds_too_many",
+    "one_question_is_redirected_and_one_holds_too_many",
     "the_ninth_alias_is_promoted",
     "two_names_lead_to_each_other",
     "up_to_eight_aliases_and_a_set_are_answered_and_kept",
@@ -45,7 +45,7 @@ const MANY_RECORDS: [&str; 4] = [
     "a_set_is_too_large_over_tcp",
     "a_set_of_255_records_is_sent_over_tcp",
     "a_set_of_300_records_is_sent_over_tcp",
-    "a_set_past_its_end_is_too_large_over_tcp",
+    "an_expired_set_is_too_large_over_tcp",
 ];
 
 /// Whether a row needs larger blocks.
@@ -93,11 +93,11 @@ fn narrow_lines<'a>(
     script.heap.refuse_above(octets.saturating_add(SPARE));
     let outcome = forwarder.step(input.now, input.words, &input.event);
     script.heap.refuse_above(usize::MAX);
-    told_of(script, number, &outcome?)
+    printed_by(script, number, &outcome?)
 }
 
 /// The lines of an outcome in a row, and one more if a piece was not kept.
-fn told_of<'a>(
+fn printed_by<'a>(
     script: Script<'a, '_>,
     number: u32,
     outcome: &Outcome<Heap<'a>>,

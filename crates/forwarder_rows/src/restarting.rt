@@ -45,8 +45,8 @@ fn tell_rest<'a, W: Write>(
     restarted: &mut Runner<'a>,
     writer: &mut W,
 ) -> Result<(), ReplayFault> {
-    let wanted = told_by_run(script, number)?;
-    let made = told_behind(script, number, restarted)?;
+    let wanted = printed_by_run(script, number)?;
+    let made = printed_after(script, number, restarted)?;
     if made.as_slice() != wanted.as_slice() {
         writeln!(writer, "{number} stays over a restart")?;
     }
@@ -54,49 +54,49 @@ fn tell_rest<'a, W: Write>(
 }
 
 /// The outcomes, as text, of a run over the lines after line `number`.
-fn told_by_run(script: Script<'_, '_>, number: u32) -> Result<Vec<u8>, ReplayFault> {
-    let steps = run_behind(script, number)?;
-    told_of_steps(script, number, &steps)
+fn printed_by_run(script: Script<'_, '_>, number: u32) -> Result<Vec<u8>, ReplayFault> {
+    let steps = run_after(script, number)?;
+    printed_by_steps(script, number, &steps)
 }
 
 /// The outcomes, as text, of the steps of the lines after line `number`.
-fn told_of_steps<'a>(
+fn printed_by_steps<'a>(
     script: Script<'a, '_>,
     number: u32,
     steps: &[Step<Heap<'a>>],
 ) -> Result<Vec<u8>, ReplayFault> {
-    let mut told = Vec::new(script.alloc);
+    let mut printed = Vec::new(script.alloc);
     let mut later = number;
     for step in steps {
         later = later.saturating_add(1);
-        let more = told_of(script, later, &step.outcome)?;
-        told.extend_from_slice(&more)?;
+        let more = printed_by(script, later, &step.outcome)?;
+        printed.extend_from_slice(&more)?;
     }
-    Ok(told)
+    Ok(printed)
 }
 
 /// The outcomes, as text, of a forwarder at the lines after line `number`, up to a refused line.
-fn told_behind<'a>(
+fn printed_after<'a>(
     script: Script<'a, '_>,
     number: u32,
     forwarder: &mut Runner<'a>,
 ) -> Result<Vec<u8>, ReplayFault> {
-    let mut told = Vec::new(script.alloc);
+    let mut printed = Vec::new(script.alloc);
     let mut lines = script.events.split(|octet| *octet == b'\n');
     for before in 0..MOST_LINES {
         let Some(line) = lines.next() else {
-            return Ok(told);
+            return Ok(printed);
         };
         if before < number {
             continue;
         }
         match done_at(script, before + 1, line, forwarder) {
-            Ok(more) => told.extend_from_slice(&more)?,
-            Err(ReplayFault::Line(_)) => return Ok(told),
+            Ok(more) => printed.extend_from_slice(&more)?,
+            Err(ReplayFault::Line(_)) => return Ok(printed),
             Err(fault) => return Err(fault),
         }
     }
-    Ok(told)
+    Ok(printed)
 }
 
 /// The outcome, as text, of a forwarder at a line, with ample memory.
@@ -110,11 +110,11 @@ fn done_at<'a>(
 {
     let input = input_in(script, number, line)?;
     let outcome = forwarder.step(input.now, input.words, &input.event)?;
-    told_of(script, number, &outcome)
+    printed_by(script, number, &outcome)
 }
 
 /// Runs the lines after line `number`.
-fn run_behind<'a>(
+fn run_after<'a>(
     script: Script<'a, '_>,
     number: u32,
 ) -> Result<Vec<Step<Heap<'a>>, Heap<'a>>, ReplayFault> {
@@ -148,7 +148,7 @@ fn input_after<'a>(
 }
 
 /// An outcome as text: its printed lines, the number of pieces not kept, and whether more is due.
-fn told_of<'a>(
+fn printed_by<'a>(
     script: Script<'a, '_>,
     number: u32,
     outcome: &Outcome<Heap<'a>>,

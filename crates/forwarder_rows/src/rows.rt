@@ -2,7 +2,7 @@
 
 use crate::comparison::differing_line;
 use crate::folder::{has, names_in};
-use crate::manner::{Manner, told_by};
+use crate::manner::{Manner, output_of};
 use crate::script::Way;
 use crate::tally::Tally;
 use std::rt::Files;
@@ -156,9 +156,9 @@ fn is_as_expected<R: Files + Print + AllocGlobal>(
     row: &str,
     names: &[String],
 ) -> io::Result<bool> {
-    let told = told_by(rt, manner, row)?;
-    let prints = prints_as_expected(rt, manner, row, names, &told.stdout)?;
-    let ends = ends_as_expected(rt, manner, row, names, told.stderr.as_bytes())?;
+    let output = output_of(rt, manner, row)?;
+    let prints = prints_as_expected(rt, manner, row, names, &output.stdout)?;
+    let ends = ends_as_expected(rt, manner, row, names, output.stderr.as_bytes())?;
     Ok(prints && ends)
 }
 
@@ -175,7 +175,7 @@ fn prints_as_expected<R: Files + Print + AllocGlobal>(
         println!(rt; "{path}: missing")?;
         return Ok(false);
     };
-    is_told(rt, manner, path.as_str(), &expected, text)
+    is_expected(rt, manner, path.as_str(), &expected, text)
 }
 
 /// Whether a row ends with the text of its file `NAME.stderr`, or well without such a file.
@@ -189,7 +189,7 @@ fn ends_as_expected<R: Files + Print + AllocGlobal>(
     let path = format!(in rt.alloc(); "{row}.stderr")?;
     let expected = expected_in(rt, path.as_str(), names)?;
     let expected = expected.unwrap_or(Vec::new(rt.alloc()));
-    is_told(rt, manner, path.as_str(), &expected, text)
+    is_expected(rt, manner, path.as_str(), &expected, text)
 }
 
 /// The octets of a file with expected output; `None` if the folder does not have the file.
@@ -205,7 +205,7 @@ fn expected_in<R: Files + AllocGlobal>(
 }
 
 /// Whether a text is the expected text; otherwise prints the first different line.
-fn is_told(
+fn is_expected(
     rt: &impl Print,
     manner: Manner,
     path: &str,

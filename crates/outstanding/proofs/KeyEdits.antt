@@ -119,15 +119,15 @@ module _ {K : Type 0} (R : K → K → Ordering) (total : IsTotalOrder R) (read 
   old_ask : (i : ℕ) (b : Ask) → (p : Stood keys (insert keys at key) i) → get s' (slice_index (insert keys at key) i) ≡ Some b → get s (slice_index keys p.place) ≡ Some b
   old_ask i b p e = sym (same_value keys at key gap.in_range s s' (Some a) covers was updates p.place p.within) ∙ ap (get s') (sym p.same) ∙ e
 
-  behind : (i : ℕ) (c : Ask) → at ≤ i → i < length keys → get s (slice_index keys i) ≡ Some c → R (read a) (read c) ≡ Less
-  behind i c le within e = total.antisymm (read a) (read c) ∙ ap ordering_reverse (gap.behind i c le within e)
+  later : (i : ℕ) (c : Ask) → at ≤ i → i < length keys → get s (slice_index keys i) ≡ Some c → R (read a) (read c) ≡ Less
+  later i c le within e = total.antisymm (read a) (read c) ∙ ap ordering_reverse (gap.later i c le within e)
 
   pub rises_put : Rises R read s' (insert keys at key)
   rises_put i j b c less within e f = elim (cases_eq i at) [
     | inl at_it ↦
         let q = stood keys at key gap.in_range j within (omega arith) in
         let same : a ≡ b = new_ask b (ap (λ k. get s' (slice_index (insert keys at key) k)) (sym at_it) ∙ e) in
-        subst (λ x. R (read x) (read c) ≡ Less) same (behind q.0.place c (omega (arith, q.2 (omega arith))) q.0.within (old_ask j c q.0 f))
+        subst (λ x. R (read x) (read c) ≡ Less) same (later q.0.place c (omega (arith, q.2 (omega arith))) q.0.within (old_ask j c q.0 f))
     | inr other ↦
         let p = stood keys at key gap.in_range i (omega arith) other in
         elim (cases_eq j at) [

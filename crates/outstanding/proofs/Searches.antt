@@ -63,7 +63,7 @@ module _ {K : Type 0} (R : K → K → Ordering) (total : IsTotalOrder R) (read 
     record {
       in_range = in_range;
       before = λ j a lt e. ap (compared to) (sym e) ∙ (parted comparisons_rise).0 j 0 (omega arith) lt;
-      behind = λ j a le lt e. ap (compared to) (sym e) ∙ (parted comparisons_rise).1 j 0 le lt;
+      later = λ j a le lt e. ap (compared to) (sym e) ∙ (parted comparisons_rise).1 j 0 le lt;
     },
   )
 
@@ -92,7 +92,7 @@ none_at f s keys covers i gap key b e equal =
     let there : get s (slice_index keys v.0) ≡ Some b = ap (get s) v.2 ∙ e in
     elim (cases_lt v.0 i) [
       | inl less ↦ let low : f b ≡ Less = gap.before v.0 b less there in cc
-      | inr more ↦ let high : f b ≡ Greater = gap.behind v.0 b more v.1 there in cc
+      | inr more ↦ let high : f b ≡ Greater = gap.later v.0 b more v.1 there in cc
     ]
 
 -- ---- by number

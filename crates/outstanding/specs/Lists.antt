@@ -41,7 +41,7 @@ abbrev pub AreInTurn : List Ask → Type 0
 AreInTurn [] = Unit {0}
 AreInTurn (a ∷ asks) = AllByRecursion (Follows a) asks × AreInTurn asks
 
--- no more than the capacity, `AreInTurn`, and no moment past 2^62 ms
+-- no more than the capacity, `AreInTurn`, and no moment above 2^62 ms
 pub record AreListed (inquiries : Inquiries) : Type 0 where
   pub few : length inquiries.asks ≤ inquiries.capacity
   pub by_arrival : AreInTurn inquiries.asks

@@ -46,7 +46,7 @@ pub record IsAt (f : Ask → Ordering) (s : Slab Ask) (keys : List ℕ) (i : ℕ
 pub record IsGap (f : Ask → Ordering) (s : Slab Ask) (keys : List ℕ) (i : ℕ) : Type 0 where
   pub in_range : i ≤ length keys
   pub before : (j : ℕ) (a : Ask) → j < i → get s (slice_index keys j) ≡ Some a → f a ≡ Less
-  pub behind : (j : ℕ) (a : Ask) → i ≤ j → j < length keys → get s (slice_index keys j) ≡ Some a → f a ≡ Greater
+  pub later : (j : ℕ) (a : Ask) → i ≤ j → j < length keys → get s (slice_index keys j) ≡ Some a → f a ≡ Greater
 
 -- the keys alone
 abbrev pub keys_of : List NumberedKey → List ℕ
@@ -82,7 +82,7 @@ pub record AreIndexed (s : Slab Ask) (by_path by_question by_arrival : List ℕ)
   pub paths_rise : Rises path_cmp (λ a. a.path) s by_path
   pub questions : Covers s by_question
   pub questions_rise : Rises key_cmp (λ a. question_key a.question) s by_question
-  pub turns : Covers s by_arrival
+  pub arrivals : Covers s by_arrival
 
 -- and both lists have the numbers of their asks
 pub record IsIndexed {A : Type 0} (t : Table A) : Type 0 where

@@ -23,6 +23,6 @@ Gives wants_memory view (Ok x) answer = answer ≡ Ok (view x)
 Gives wants_memory view (Err fault) answer = Fails wants_memory fault answer
 
 -- the place after the part read
-abbrev pub behind : {E X : Type 0} → Result (X × ℕ) E → Result ℕ E
-behind (Ok x) = Ok x.1
-behind (Err fault) = Err fault
+abbrev pub end_read : {E X : Type 0} → Result (X × ℕ) E → Result ℕ E
+end_read (Ok x) = Ok x.1
+end_read (Err fault) = Err fault

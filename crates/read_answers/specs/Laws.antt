@@ -54,8 +54,8 @@ FailuresAreRead = (l : Look) (client : Client) (request octets : List ℕ) (wait
     → IsErrorResponse request why octets → Cause l client request waiting why → (header_in request).id < 65536
     → ((q : Question) → Reads request q → IsQuestion q) → AreReadAs octets (ShowsFailure request why)
 
--- A right ask is read as a query for its question, with the drawn identifier, if the question can be
--- written.
+-- A right ask is read as a query for its question, with the drawn identifier, if the question can
+-- be written.
 abbrev pub AsksAreRead : Type 0
 AsksAreRead = (c : Config) (s : Step) (past : List Step) (a : SentAsk) (r : AsksRight c s past a)
     → IsQuestion r.question → AreReadAs a.octets (IsQueryFor r.id r.question)

@@ -7,17 +7,17 @@ use Rattle.std.specs.Option.{option_to_list}
 use Rattle.trust_rank.specs.declared.slot.Slot.{Slot}
 use Rattle.record_cache.specs.Values.{Held}
 use Rattle.record_cache.specs.Entries.{of_slot, entry_of, without, promoted, AreApart, is_number, has_number}
-use Rattle.record_cache.specs.Storing.{number_in, told, counted}
+use Rattle.record_cache.specs.Storing.{number_in, one_if, counted}
 use Rattle.record_cache.specs.Laws.{Among}
 use Rattle.record_cache.proofs.Lists.{without_none, none_behind, promoted_is, slot_is}
 
-pub told_few : (n : ℕ) (o : Option ℕ) → told n o ≤ 1
+pub told_few : (n : ℕ) (o : Option ℕ) → one_if n o ≤ 1
 told_few n o = (elim (is_number n o) as (λ b. (if b then 1 else 0) ≤ 1) [ true ↦ omega arith | false ↦ omega arith ])
 
 pub number_own : (n : ℕ) → is_number n (Some n) ≡ true
 number_own n = eq-eqb n n refl
 
-pub told_own : (n : ℕ) → told n (Some n) ≡ 1
+pub told_own : (n : ℕ) → one_if n (Some n) ≡ 1
 told_own n = rw (number_own n) refl
 
 pub or_left : (a b : Bool) → (a || b) ≡ false → a ≡ false
@@ -38,14 +38,14 @@ module _ (f : Slot → Option ℕ) where
   counted_append n (h ∷ xs) ys = omega (arith, counted_append n xs ys)
 
   -- what is counted are the entry of the slot and the rest
-  pub counted_without : (n : ℕ) (s : Slot) (es : List Held) → AreApart es → counted f n es ≡ told n (number_in f (entry_of s es)) + counted f n (without s es)
+  pub counted_without : (n : ℕ) (s : Slot) (es : List Held) → AreApart es → counted f n es ≡ one_if n (number_in f (entry_of s es)) + counted f n (without s es)
   counted_without n s [] apart = refl
-  counted_without n s (h ∷ es) apart = (elim (of_slot s h) as (λ b. of_slot s h ≡ b → told n (f h.piece.slot) + counted f n es ≡ told n (number_in f (cond b (Some h) (entry_of s es))) + counted f n (cond (not b) (h ∷ without s es) (without s es))) [
-    | true ↦ λ is. ap (λ xs. told n (f h.piece.slot) + counted f n xs) (sym (without_none s es (none_behind s h es apart is)))
+  counted_without n s (h ∷ es) apart = (elim (of_slot s h) as (λ b. of_slot s h ≡ b → one_if n (f h.piece.slot) + counted f n es ≡ one_if n (number_in f (cond b (Some h) (entry_of s es))) + counted f n (cond (not b) (h ∷ without s es) (without s es))) [
+    | true ↦ λ is. ap (λ xs. one_if n (f h.piece.slot) + counted f n xs) (sym (without_none s es (none_behind s h es apart is)))
     | false ↦ λ is. omega (arith, counted_without n s es apart.1)
   ]) refl
 
-  counted_entry : (n : ℕ) (o : Option Held) → counted f n (option_to_list o) ≡ told n (number_in f o)
+  counted_entry : (n : ℕ) (o : Option Held) → counted f n (option_to_list o) ≡ one_if n (number_in f o)
   counted_entry n None = refl
   counted_entry n (Some h) = omega arith
 
@@ -53,7 +53,7 @@ module _ (f : Slot → Option ℕ) where
   counted_promoted n s es apart = rw (promoted_is s es apart) (omega (arith, counted_append n (option_to_list (entry_of s es)) (without s es), counted_entry n (entry_of s es), counted_without n s es apart))
 
   -- the count is that of the first m, and of the one after them
-  pub counted_take : (n m : ℕ) (es : List Held) → length es ≤ m + 1 → counted f n es ≡ told n (number_in f (slice_get es m)) + counted f n (take m es)
+  pub counted_take : (n m : ℕ) (es : List Held) → length es ≤ m + 1 → counted f n es ≡ one_if n (number_in f (slice_get es m)) + counted f n (take m es)
   counted_take n zero [] short = refl
   counted_take n zero (h ∷ []) short = refl
   counted_take n zero (h ∷ e ∷ es) short = absurd (omega arith)

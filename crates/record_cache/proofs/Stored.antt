@@ -13,7 +13,7 @@ use Rattle.record_cache.specs.Values.{Held}
 use Rattle.record_cache.specs.Entries.{name_error_size, name_error_ending, alias_ending, of_slot, entry_of, has_slot, without, promoted, AreApart, AreHeld}
 use Rattle.record_cache.specs.Ageing.{is_alive}
 use Rattle.record_cache.specs.Offers.{kept, outranks, is_outranked}
-use Rattle.record_cache.specs.Storing.{hashed, keyed, number_in, marks_in, told, counted, AreCounted, HasOne, HasRoom, OneMore, AreOneMore, IsStored}
+use Rattle.record_cache.specs.Storing.{hashed, keyed, number_in, marks_in, one_if, counted, AreCounted, HasOne, HasRoom, OneMore, AreOneMore, IsStored}
 use Rattle.record_cache.specs.declared.counts.Marks.{Marks}
 use Rattle.record_cache.specs.declared.counts.Tables.{Tables}
 use Rattle.record_cache.specs.declared.hashed.HashedSlot.{HashedSlot}
@@ -112,18 +112,18 @@ key_of hash k s t is same = is ∙ ap (hashed hash) same
 
 pub old_marks : (hash : Slot → ℕ) (m : LruCache HashedSlot Held) (h : Held) (k : HashedSlot) (out : Option (HashedSlot × Held)) (held : Option Held) (marks : Marks)
     → k ≡ hashed hash h.piece.slot → out ≡ displaced eq m k h → held ≡ option_map (λ e. e.1) out → marks ≡ marks_in held → marks ≡ marks_in (old_one hash m h)
-old_marks hash m h k out held marks key is value told = told ∙ ap marks_in (value ∙ ap (option_map (λ e. e.1)) (is ∙ ap (λ t. displaced eq m t h) key))
+old_marks hash m h k out held marks key is value one_if = one_if ∙ ap marks_in (value ∙ ap (option_map (λ e. e.1)) (is ∙ ap (λ t. displaced eq m t h) key))
 
 pub put_at : (hash : Slot → ℕ) (m new : LruCache HashedSlot Held) (h : Held) (k : HashedSlot) → k ≡ hashed hash h.piece.slot → new ≡ lru_cache (put_entries eq m k h) m.cap → new ≡ lru_cache (put_entries eq m (hashed hash h.piece.slot) h) m.cap
 put_at hash m new h k key is = is ∙ ap (λ t. lru_cache (put_entries eq m t h) m.cap) key
 
 -- what is counted is counted in what was displaced or in what is left
 displaced_counts : (hash : Slot → ℕ) (f : Slot → Option ℕ) (d n : ℕ) (h : Held) (es : List Held) → AreApart es → NoMore n es → 0 < n
-    → counted f d es ≡ told d (number_in f (option_map (λ e. e.1) (displaced eq (lru_cache (keyed hash es) n) (hashed hash h.piece.slot) h))) + counted f d (rest n h es)
+    → counted f d es ≡ one_if d (number_in f (option_map (λ e. e.1) (displaced eq (lru_cache (keyed hash es) n) (hashed hash h.piece.slot) h))) + counted f d (rest n h es)
 displaced_counts hash f d n h es apart few some = rw (lookup_keyed hash h.piece.slot es)
-    ((elim (entry_of h.piece.slot es) as (λ o. entry_of h.piece.slot es ≡ o → counted f d es ≡ told d (number_in f (option_map (λ e. e.1) (option_map_or (λ old. Some (hashed hash h.piece.slot, old)) o (slice_get (keyed hash es) (n - 1))))) + counted f d (rest n h es)) [
+    ((elim (entry_of h.piece.slot es) as (λ o. entry_of h.piece.slot es ≡ o → counted f d es ≡ one_if d (number_in f (option_map (λ e. e.1) (option_map_or (λ old. Some (hashed hash h.piece.slot, old)) o (slice_get (keyed hash es) (n - 1))))) + counted f d (rest n h es)) [
       | None ↦ λ is. rw (get_keyed hash (n - 1) es, lists.without_absent h.piece.slot es is) (counts.counted_take f d (n - 1) es (omega (arith, few, some)))
-      | Some old ↦ λ is. rw (room_left n h old es few is) (subst (λ o. counted f d es ≡ told d (number_in f o) + counted f d (without h.piece.slot es)) is (counts.counted_without f d h.piece.slot es apart))
+      | Some old ↦ λ is. rw (room_left n h old es few is) (subst (λ o. counted f d es ≡ one_if d (number_in f o) + counted f d (without h.piece.slot es)) is (counts.counted_without f d h.piece.slot es apart))
     ]) refl)
 
 -- ---- what is stored
@@ -173,11 +173,11 @@ module _ {hash : Slot → ℕ} (m : LruCache HashedSlot Held) (tables : Tables) 
 
   -- its number can be taken from its count, and what is left is counted
   module _ (f : Slot → Option ℕ) (numbers : List ℕ) (counts_are : AreCounted f numbers es) (s : Slot) where
-    pub taken_told : (n : ℕ) → told n (number_in f (lookup (eq (hashed hash s)) m.entries)) ≤ get_or numbers n 0
-    taken_told n = omega (arith, counts_are n, counts.counted_without f n s es is.held.apart, ap (λ o. told n (number_in f o)) (found s))
+    pub taken_told : (n : ℕ) → one_if n (number_in f (lookup (eq (hashed hash s)) m.entries)) ≤ get_or numbers n 0
+    taken_told n = omega (arith, counts_are n, counts.counted_without f n s es is.held.apart, ap (λ o. one_if n (number_in f o)) (found s))
 
     taken_counted : (left : List ℕ) → OneMore numbers (number_in f (lookup (eq (hashed hash s)) m.entries)) left → AreCounted f left (without s es)
-    taken_counted left less = λ n. omega (arith, counts_are n, less n, counts.counted_without f n s es is.held.apart, ap (λ o. told n (number_in f o)) (found s))
+    taken_counted left less = λ n. omega (arith, counts_are n, less n, counts.counted_without f n s es is.held.apart, ap (λ o. one_if n (number_in f o)) (found s))
 
   pub taken_stored : (s : Slot) (left : Tables) → AreOneMore tables (marks_in (lookup (eq (hashed hash s)) m.entries)) left → IsStored hash (lru_cache (remove_entry (eq (hashed hash s)) m.entries) m.cap) left
   taken_stored s left less = rw (taken s)
@@ -240,11 +240,11 @@ module _ {hash : Slot → ℕ} (m : LruCache HashedSlot Held) (tables : Tables) 
     put_list = ap values_of put_is ∙ values_keyed hash (kept m.cap h es)
 
     module _ (f : Slot → Option ℕ) (numbers : List ℕ) (counts_are : AreCounted f numbers es) where
-      displaced_is : (n : ℕ) → counted f n es ≡ told n (number_in f (old_one hash m h)) + counted f n (rest m.cap h es)
-      displaced_is n = subst (λ xs. counted f n es ≡ told n (number_in f (option_map (λ e. e.1) (displaced eq (lru_cache xs m.cap) (hashed hash h.piece.slot) h))) + counted f n (rest m.cap h es)) (sym is.keyed)
+      displaced_is : (n : ℕ) → counted f n es ≡ one_if n (number_in f (old_one hash m h)) + counted f n (rest m.cap h es)
+      displaced_is n = subst (λ xs. counted f n es ≡ one_if n (number_in f (option_map (λ e. e.1) (displaced eq (lru_cache xs m.cap) (hashed hash h.piece.slot) h))) + counted f n (rest m.cap h es)) (sym is.keyed)
           (displaced_counts hash f n m.cap h es is.held.apart is.held.few is.held.some)
 
-      pub put_told : (n : ℕ) → told n (number_in f (old_one hash m h)) ≤ get_or numbers n 0
+      pub put_told : (n : ℕ) → one_if n (number_in f (old_one hash m h)) ≤ get_or numbers n 0
       put_told n = omega (arith, counts_are n, displaced_is n)
 
       left_is : (left : List ℕ) → OneMore numbers (number_in f (old_one hash m h)) left → AreCounted f left (rest m.cap h es)
@@ -266,7 +266,7 @@ module _ {hash : Slot → ℕ} (m : LruCache HashedSlot Held) (tables : Tables) 
         (put_counted alias_ending tables.aliases.counts is.aliases left.aliases.counts more.aliases.counts less.aliases new.aliases))
 
 -- what is counted can be taken from its count
-pub counted_out : (numbers : List ℕ) (o : Option ℕ) → IfSome o (λ n. n < 256) → ((n : ℕ) → told n o ≤ get_or numbers n 0) → HasOne numbers o
+pub counted_out : (numbers : List ℕ) (o : Option ℕ) → IfSome o (λ n. n < 256) → ((n : ℕ) → one_if n o ≤ get_or numbers n 0) → HasOne numbers o
 counted_out numbers None few h = tt
 counted_out numbers (Some n) few h = (few, omega (arith, h n, counts.told_own n))
 

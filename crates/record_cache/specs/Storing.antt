@@ -49,13 +49,13 @@ pub record AreFew (marks : Marks) : Type 0 where
   pub alias : IfSome marks.alias (λ n. n < 256)
 
 -- 1 for an equal number, otherwise 0
-abbrev pub told : ℕ → Option ℕ → ℕ
-told n number = if is_number n number then 1 else 0
+abbrev pub one_if : ℕ → Option ℕ → ℕ
+one_if n number = if is_number n number then 1 else 0
 
 -- how many entries have this number
 abbrev pub counted : (Slot → Option ℕ) → ℕ → List Held → ℕ
 counted number n [] = 0
-counted number n (h ∷ entries) = told n (number h.piece.slot) + counted number n entries
+counted number n (h ∷ entries) = one_if n (number h.piece.slot) + counted number n entries
 
 -- the counts are the entries' counts
 abbrev pub AreCounted : (Slot → Option ℕ) → List ℕ → List Held → Type 0
@@ -71,7 +71,7 @@ HasRoom counts number = IfSome number (λ n. (n < 256) × (get_or counts n 0 + 1
 
 -- the second counts are the first with one more of a number
 abbrev pub OneMore : List ℕ → Option ℕ → List ℕ → Type 0
-OneMore more number less = (n : ℕ) → get_or more n 0 ≡ told n number + get_or less n 0
+OneMore more number less = (n : ℕ) → get_or more n 0 ≡ one_if n number + get_or less n 0
 
 -- the counts with one more entry with these marks
 pub record AreOneMore (more : Tables) (marks : Marks) (less : Tables) : Type 0 where

@@ -190,7 +190,7 @@ impl<H: BuildHasher + Drop, A: Allocator + Copy> Cache<H, A> {
     /// final zero. If not, no look-up is needed. Reads no entry. The clause `held` repeats the
     /// facts about all entries.
     pub fn has_name_error(&self, size: usize) -> bool
-        ensures told { result ≡ has_name_error size self.now.entries }
+        ensures says { result ≡ has_name_error size self.now.entries }
         ensures held { AreHeld self.now }
     {
         self.tables.sizes.has(size)
@@ -200,7 +200,7 @@ impl<H: BuildHasher + Drop, A: Allocator + Copy> Cache<H, A> {
     /// some name error's name is short, or has the same ending. If not, no look-up is needed. Reads
     /// no entry. The clause `held` repeats the facts about all entries.
     pub fn may_deny(&self, ending: usize) -> bool
-        ensures told { result ≡ may_deny_at ending self.now.entries }
+        ensures says { result ≡ may_deny_at ending self.now.entries }
         ensures held { AreHeld self.now }
     {
         let endings = &self.tables.endings;
@@ -211,7 +211,7 @@ impl<H: BuildHasher + Drop, A: Allocator + Copy> Cache<H, A> {
     /// alias's owner has the ending too. If not, no look-up is needed. Reads no entry. The clause
     /// `held` repeats the facts about all entries.
     pub fn may_have_alias(&self, ending: usize) -> bool
-        ensures told { result ≡ may_have_alias_at ending self.now.entries }
+        ensures says { result ≡ may_have_alias_at ending self.now.entries }
         ensures held { AreHeld self.now }
     {
         self.tables.aliases.has(ending)

@@ -50,14 +50,14 @@ pub fn parts(script: &[u8]) -> Option<ScriptParts<'_>>
     ensures none { IfNone result (HasOnePart script.now) }
 {
     let mut rest = script;
-    while let Some((line, behind)) = first_line(rest) {
+    while let Some((line, after)) = first_line(rest) {
         if line == SEPARATOR {
             return Some(ScriptParts {
                 config: &script[..script.len() - rest.len()],
-                events: behind,
+                events: after,
             });
         }
-        rest = behind;
+        rest = after;
     }
     if rest == SEPARATOR {
         return Some(ScriptParts {
@@ -99,7 +99,7 @@ pub fn config_in<A: Allocator + Copy>(
     let text = match str::from_utf8(octets) {
         Ok(text) => text,
         Err(error) => {
-            let position = Position::behind(&octets[..error.valid_up_to()]);
+            let position = Position::after(&octets[..error.valid_up_to()]);
             return Err(ReplayFault::Config(ConfigFault::Toml(position)));
         }
     };

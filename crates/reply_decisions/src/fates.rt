@@ -122,11 +122,11 @@ impl<'a, A: Allocator + Copy> Fates<'a, A> {
         ensures used { IfOk result (λ f. f.used ≡ self.entry.used) }
     {
         let Fates { each, used } = self;
-        let mut told = Vec::with_capacity(alloc, each.len())?;
+        let mut failed = Vec::with_capacity(alloc, each.len())?;
         for fate in each {
-            told.push(fate.without_port(alloc)?)?;
+            failed.push(fate.without_port(alloc)?)?;
         }
-        Ok(Fates { each: told, used })
+        Ok(Fates { each: failed, used })
     }
 
     /// Puts the replies last, and returns the parts.

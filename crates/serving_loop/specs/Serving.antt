@@ -82,8 +82,8 @@ Adds before n after = before ≤ 2 ^ 64 - 1 → after ≡ capped (before + n)
 
 -- ---- what is done
 
--- the state of the loop: the forwarder, the wire's report with its faults, and the counts; and by the
--- names of their references, which forwarder and which wire these are
+-- the state of the loop: the forwarder, the wire's report with its faults, and the counts; and by
+-- the names of their references, which forwarder and which wire these are
 pub record Standing : Type 0 where
   pub running : Running
   pub report : Journal

@@ -53,10 +53,10 @@ is_answered (Some (Err lost)) = false
 is_answered None = false
 
 -- whether a connection is over after a reply
-abbrev pub is_closed_behind : Option (Result Bool Lost) → Bool
-is_closed_behind (Some (Ok goes_on)) = not goes_on
-is_closed_behind (Some (Err lost)) = is_over lost
-is_closed_behind None = false
+abbrev pub is_closed_after : Option (Result Bool Lost) → Bool
+is_closed_after (Some (Ok goes_on)) = not goes_on
+is_closed_after (Some (Err lost)) = is_over lost
+is_closed_after None = false
 
 -- A reply on the connection with this number, and the connection's end, if over then. No other
 -- client changes.
@@ -67,7 +67,7 @@ pub record AnswersOn {A : Type 0} (conn : ℕ) (reply : List ℕ) (now : ℕ) (i
   pub replies : RepliesOn conn reply now answer before.clients clients
   pub report : is_done ≡ is_answered answer
   pub closes : after ≡
-      (if is_closed_behind answer then without_client conn (record before { clients = clients })
+      (if is_closed_after answer then without_client conn (record before { clients = clients })
       else record before { clients = clients })
 
 -- The effect of an action, done or refused.

@@ -85,9 +85,9 @@ pub record BeginsSweep {A : Type 0} (before after : SeenSockets A) : Type 0 wher
 -- tried.
 pub record TriesOthers {A : Type 0} (before after : SeenSockets A) : Type 0 where
   pub begun : SeenSockets A
-  pub behind_clients : SeenSockets A
-  pub behind_asks : SeenSockets A
+  pub after_clients : SeenSockets A
+  pub after_asks : SeenSockets A
   pub begins : BeginsSweep before begun
-  pub clients : TriesUpTo TriesClient 20 begun behind_clients
-  pub asks : TriesUpTo TriesAsk 20 behind_clients behind_asks
-  pub servers : TriesUpTo TriesServer 20 behind_asks after
+  pub clients : TriesUpTo TriesClient 20 begun after_clients
+  pub asks : TriesUpTo TriesAsk 20 after_clients after_asks
+  pub servers : TriesUpTo TriesServer 20 after_asks after

@@ -9,9 +9,9 @@ next_words zero random = []
 next_words (suc more) random = (next_word 6 random).0 ∷ next_words more (next_word 6 random).1
 
 -- the generator after this number of words
-abbrev pub behind_words : ℕ → ChaCha → ChaCha
-behind_words zero random = random
-behind_words (suc more) random = behind_words more (next_word 6 random).1
+abbrev pub after_words : ℕ → ChaCha → ChaCha
+after_words zero random = random
+after_words (suc more) random = after_words more (next_word 6 random).1
 
 -- Unspent words are given again; after spent words come the next eight of the generator.
 pub record GivesWords (result : List ℕ) (before after : Words) : Type 0 where
@@ -19,4 +19,4 @@ pub record GivesWords (result : List ℕ) (before after : Words) : Type 0 where
   pub unspent : after.is_spent ≡ false
   pub again : before.is_spent ≡ false → after ≡ before
   pub anew : before.is_spent ≡ true
-      → (after.drawn ≡ next_words 8 before.random) × (after.random ≡ behind_words 8 before.random)
+      → (after.drawn ≡ next_words 8 before.random) × (after.random ≡ after_words 8 before.random)

@@ -10,8 +10,8 @@ use Rattle.step_table.specs.Clients.{fate_of, waits_with}
 use Rattle.step_actions.specs.declared.fate.Fate.{Fate}
 use Rattle.step_actions.specs.declared.fate.Fate.TheVariants.{Reply, Waits}
 
--- the fate that the table gives a question with this look-up: it gets this reply, or waits with what
--- was looked up, and this route serves the name that it wants
+-- the fate that the table gives a question with this look-up: it gets this reply, or waits with
+-- what was looked up, and this route serves the name that it wants
 abbrev pub IsFate : {A : Type 0} → StepStart → Waiting → LookUp → Fate A → Type 0
 IsFate t x l (Reply action) = gets (action_of action) ≡ fate_of t.config t.moment x l
 IsFate t x l (Waits route) = (waits (waits_with x l) ≡ fate_of t.config t.moment x l)

@@ -150,7 +150,7 @@ fn answer_or_fail<'a, A: Allocator + Copy>(
 ) -> Result<Action<A>, AllocError>
     requires { AllByRecursion (IsEarlier answers.old.moment) waiting.now.held }
     ensures same { answers.new ≡ answers.old }
-    ensures told { IfOk result (λ action. action_of action ≡ reply_from answers.old waiting.now) }
+    ensures says { IfOk result (λ action. action_of action ≡ reply_from answers.old waiting.now) }
 {
     if waiting.aliases().len().saturating_add(answers.pieces()) > MOST_ALIASES + 1 {
         return failure(alloc, &waiting.request(), Why::ChainLong);

@@ -20,7 +20,7 @@ abbrev pub is_due_at : Config → ℕ → State → Bool
 is_due_at c n s = list_any (λ x. nat_le (deadline_of c x) n) s.waiting
     || list_any (λ a. nat_le (timeout_of c a) n) s.asks
 
--- the event leads from this turn to these actions and the state after
+-- the event leads from this start to these actions and the state after
 abbrev pub Happens : StepStart → Event → Done → Type 0
 Happens t (from_client client octets) d = d ≡ row_of_request t client octets
 -- rooms has true for each new slot that found memory

@@ -30,6 +30,6 @@ pub record StepStart : Type 0 where
 abbrev pub start : Config → ℕ → List ℕ → State → StepStart
 start c n words s = record { config = c; moment = n; words = words; state = s }
 
--- the turn from a different state
+-- the start from a different state
 abbrev pub from_state : State → StepStart → StepStart
 from_state s t = record t { state = s }

@@ -56,8 +56,8 @@ pub fn local_answer<A: Allocator + Copy>(
     reply(alloc, request, &sections, Why::LocalDenied)
 }
 
-/// The pieces of a chain in an answer at a moment, in milliseconds: the first `stale_from` with their
-/// seconds left, the rest as stale.
+/// The pieces of a chain in an answer at a moment, in milliseconds: the first `stale_from` with
+/// their seconds left, the rest as stale.
 fn with_stale_ttls_of<'a, A: Allocator + Copy>(
     alloc: A,
     chain: &'a [&Held<A>],

@@ -12,7 +12,7 @@ use Rattle.suffix_routes.specs.declared.fault.ConfigFault.{ConfigFault}
 use Rattle.suffix_routes.specs.declared.peer.Peer.{Peer}
 use Rattle.suffix_routes.specs.declared.limits.Limits.{Limits}
 use Rattle.suffix_routes.specs.Values.{Route, Config, HasNeither, default_limits}
-use Rattle.suffix_routes.specs.Reading.{◌>>=◌, HasVersion, IsTold, table_in, known_keys, version_in, listen_in, limit_in, all_limits_in, limits_of, limits_in, routes_in, config_in}
+use Rattle.suffix_routes.specs.Reading.{◌>>=◌, HasVersion, IsAnswerFor, table_in, known_keys, version_in, listen_in, limit_in, all_limits_in, limits_of, limits_in, routes_in, config_in}
 use Rattle.suffix_routes.specs.Laws.{FirstVersionHasNeither}
 use Rattle.suffix_routes.proofs.VersionLaws.{stale_s_is_strange}
 use Rattle.suffix_routes.proofs.ReadRoutes.{bind_ok, routes_accepted}
@@ -73,7 +73,7 @@ has_neither ms config first is =
     let serve : AllByRecursion (λ (r : Route). r.deny ≡ false) routes.value = (routes_accepted One ms routes.value routes.there).0.serve refl in
     subst HasNeither {x = made} same (record { window = window; routes = serve })
 
-has_neither_told : (text : List ℕ) (read : Option Members) (config : Config) → HasVersion One read → IsTold text read (Ok config) → HasNeither config
+has_neither_told : (text : List ℕ) (read : Option Members) (config : Config) → HasVersion One read → IsAnswerFor text read (Ok config) → HasNeither config
 has_neither_told text None config first told = absurd first
 has_neither_told text (Some ms) config first told = has_neither ms config first told
 

@@ -291,13 +291,13 @@ IsNoToml text (Err Memory) = Unit {0}
 IsNoToml text _ = ⊥
 
 -- the answer for a text: by its document, if readable, otherwise the fault of no TOML
-abbrev pub IsTold : List ℕ → Option Members → Result Config ConfigFault → Type 0
-IsTold text None answer = IsNoToml text answer
-IsTold text (Some ms) answer = Gives (λ c. c) answer (config_in ms)
+abbrev pub IsAnswerFor : List ℕ → Option Members → Result Config ConfigFault → Type 0
+IsAnswerFor text None answer = IsNoToml text answer
+IsAnswerFor text (Some ms) answer = Gives (λ c. c) answer (config_in ms)
 
 -- the result of reading a text: its configuration, otherwise its first fault
 abbrev pub IsReadIn : List ℕ → Result Config ConfigFault → Type 0
-IsReadIn text answer = IsTold text (parse_document text) answer
+IsReadIn text answer = IsAnswerFor text (parse_document text) answer
 
 -- a text of this version
 abbrev pub HasVersion : Version → Option Members → Type 0

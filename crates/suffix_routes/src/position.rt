@@ -16,7 +16,7 @@ pub struct Position {
 
 impl Position {
     /// The position after these octets of UTF-8.
-    pub fn behind(octets: &[u8]) -> Position
+    pub fn after(octets: &[u8]) -> Position
         ensures { result ≡ position_of octets.now }
     {
         let mut line = 1;

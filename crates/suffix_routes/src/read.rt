@@ -69,7 +69,7 @@ fn not_toml(text: &str, at: usize) -> ConfigFault
     requires { at ≤ length text.now }
     ensures { result ≡ Toml (position_of (take at text.now)) }
 {
-    ConfigFault::Toml(Position::behind(&text.as_bytes()[..at]))
+    ConfigFault::Toml(Position::after(&text.as_bytes()[..at]))
 }
 
 /// The version: 1 or 2.

@@ -50,7 +50,7 @@ fn each_growth_of_an_answer_is_refused(rt: HostRuntime) -> Result<(), Fail> {
 
 #[test]
 fn each_growth_of_a_stale_answer_is_refused(rt: HostRuntime) -> Result<(), Fail> {
-    assert_eq!(rt; refusals_of(rt.alloc(), Kind::Past(1), ALIAS)?, (3, 3));
+    assert_eq!(rt; refusals_of(rt.alloc(), Kind::Stale(1), ALIAS)?, (3, 3));
     Ok(())
 }
 

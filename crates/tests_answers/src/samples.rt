@@ -93,7 +93,7 @@ pub(crate) enum Kind {
     /// With what is left of each, this many milliseconds after they came.
     Left(u64),
     /// Stale from this index on, when the address has just expired.
-    Past(usize),
+    Stale(usize),
     /// Of a route that denies, a second after they came.
     Local,
 }
@@ -104,7 +104,7 @@ fn moment_of(kind: Kind) -> u64
 {
     match kind {
         Kind::Left(after) => ACCEPTED.saturating_add(after),
-        Kind::Past(_) => ACCEPTED + 300_000,
+        Kind::Stale(_) => ACCEPTED + 300_000,
         Kind::Local => ACCEPTED + 1000,
     }
 }
@@ -133,10 +133,10 @@ pub(crate) fn answer<'h>(
     heap.allow(growths);
     let built = match case.kind {
         Kind::Left(_) => build(heap, &asked, chain, moment, transport),
-        Kind::Past(past) if past <= chain.len() => {
-            build_stale(heap, &asked, chain, past, moment, transport)
+        Kind::Stale(stale) if stale <= chain.len() => {
+            build_stale(heap, &asked, chain, stale, moment, transport)
         }
-        Kind::Past(_) => return Err(Fail::from("too few pieces")),
+        Kind::Stale(_) => return Err(Fail::from("too few pieces")),
         Kind::Local => build_local(heap, &asked, chain, moment, transport),
     };
     heap.allow(u64::MAX);

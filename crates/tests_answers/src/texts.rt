@@ -47,7 +47,7 @@ fn lengths_of(
 }
 
 /// The kinds of answers. No chain of aliases is as long as TCP allows, so a text is used for one.
-const KINDS: [Kind; 3] = [Kind::Left(0), Kind::Past(0), Kind::Local];
+const KINDS: [Kind; 3] = [Kind::Left(0), Kind::Stale(0), Kind::Local];
 
 #[test]
 fn past_65535_octets_tcp_gets_nothing(rt: HostRuntime) -> Result<(), Fail> {
@@ -149,7 +149,7 @@ fn worked_failures_in_octets(rt: HostRuntime) -> Result<(), Fail> {
 }
 
 /// The address of a.example has expired, and has 30 seconds.
-const PAST: &str =
+const STALE: &str =
     "1234818000010001000000000161076578616d706c650000010001c00c000100010000001e0004c6336405";
 
 /// The alias was held and has expired: none is left. The address has 300 of its 600 seconds.
@@ -162,12 +162,12 @@ const FOUND_ALIAS: &str = "123481800001000200000000\
 
 #[test]
 fn a_stale_answer_has_30_seconds(rt: HostRuntime) -> Result<(), Fail> {
-    for (past, reply, expected) in [
-        (0, ADDRESS, PAST),
+    for (stale, reply, expected) in [
+        (0, ADDRESS, STALE),
         (1, ALIAS, HELD_ALIAS),
         (0, ALIAS, FOUND_ALIAS),
     ] {
-        let text = answered(rt.alloc(), Kind::Past(past), reply, reply)?;
+        let text = answered(rt.alloc(), Kind::Stale(stale), reply, reply)?;
         assert_eq!(rt; text.as_str(), expected);
     }
     Ok(())
@@ -187,7 +187,7 @@ const LAN_ALIAS: &str =
     "1234818300010001000000000161076578616d706c650000010001c00c000500010000003b00070168036c616e00";
 
 #[test]
-fn a_route_denies_behind_aliases(rt: HostRuntime) -> Result<(), Fail> {
+fn a_route_denies_after_aliases(rt: HostRuntime) -> Result<(), Fail> {
     for (question, reply, expected) in [(LAN_QUESTION, NOTHING, LAN), (TO_LAN, TO_LAN, LAN_ALIAS)] {
         let text = answered(rt.alloc(), Kind::Local, question, reply)?;
         assert_eq!(rt; text.as_str(), expected);

@@ -58,7 +58,7 @@ fn beginnings_of_the_reply(rt: HostRuntime) -> Result<(), Fail> {
 }
 
 #[test]
-fn octets_behind_the_reply(rt: HostRuntime) -> Result<(), Fail> {
+fn octets_after_the_reply(rt: HostRuntime) -> Result<(), Fail> {
     let heap = rt.alloc();
     let ask = ask(heap)?;
     let mut bytes = Vec::from_slice(heap, &REPLY)?;

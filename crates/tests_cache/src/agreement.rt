@@ -41,7 +41,7 @@ const LIFETIMES: [u16; 4] = [0, 1, 30, 3000];
 /// The number of calls.
 const CALLS: u64 = 200;
 
-fn told(held: Option<&Held>) -> Option<Entry> {
+fn entry_of(held: Option<&Held>) -> Option<Entry> {
     let held = held?;
     Some(Entry {
         rank: held.piece.rank,
@@ -116,7 +116,7 @@ fn finds_the_same(
 ) -> Result<bool, NameFault> {
     for kind in &KINDS {
         let slot = Denial::of(name, *kind).slot(alloc)?;
-        if told(cache.peek(&slot)) != plain.peek(&slot) {
+        if entry_of(cache.peek(&slot)) != plain.peek(&slot) {
             return Ok(false);
         }
     }

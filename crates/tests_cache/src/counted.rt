@@ -1,4 +1,5 @@
-//! A look-up computes few hashes, however many labels the name has, and the promotion after it none.
+//! A look-up computes few hashes, however many labels the name has, and the promotion after it
+//! none.
 
 use crate::samples::{CONFIG, Denial, found_stale};
 use dns_name::{Name, NameFault};
@@ -61,10 +62,10 @@ fn begun_by(
         moment: 2000,
     };
     let is_missed_stale = matches!(found_stale(&at, name, 60), Found::Miss);
-    let past = begun.replace(0);
+    let stale = begun.replace(0);
     shown(cache, name, 1);
     if is_missed && is_missed_stale {
-        Some([alive, past, begun.get()])
+        Some([alive, stale, begun.get()])
     } else {
         None
     }

@@ -69,13 +69,13 @@ fn right_look_ups(
     pieces: &[Piece],
 ) -> Result<(usize, usize), Fail> {
     fill(alloc, cache, pieces)?;
-    let (mut alive, mut past) = (0usize, 0usize);
+    let (mut alive, mut stale) = (0usize, 0usize);
     for (name, wanted, wanted_stale) in &LOOK_UPS {
         let (found, expired) = words(alloc, cache, config, name)?;
         alive = alive.saturating_add(usize::from(found == *wanted));
-        past = past.saturating_add(usize::from(expired == *wanted_stale));
+        stale = stale.saturating_add(usize::from(expired == *wanted_stale));
     }
-    Ok((alive, past))
+    Ok((alive, stale))
 }
 
 /// The number of right look-ups, alive and expired, in a new cache with these pieces and denials.

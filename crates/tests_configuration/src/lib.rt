@@ -1,5 +1,5 @@
-//! Tests of configurations from outside: the defaults where a text says nothing, the texts of faults
-//! and of hints, and allocations: that they succeed where there is memory.
+//! Tests of configurations from outside: the defaults where a text says nothing, the texts of
+//! faults and of hints, and allocations: that they succeed where there is memory.
 #![tactic(auto)]
 
 #[cfg(test)]

@@ -68,7 +68,7 @@ fn fault_of(alloc: Global, octets: &[u8]) -> Option<Fault> {
 }
 
 #[test]
-fn the_first_fault_is_told(rt: HostRuntime) -> Result<(), Fail> {
+fn the_first_fault_is_reported(rt: HostRuntime) -> Result<(), Fail> {
     for (digits, fault) in &FAULTS {
         let octets = decoded(rt.alloc(), digits)?;
         assert_eq!(rt; fault_of(rt.alloc(), &octets), Some(*fault), "{digits}");

@@ -111,7 +111,7 @@ const LAST_PLACES: [(u16, &[u8]); 2] = [(16355, b"\xff\xff"), (16356, b"\x01x\x0
 
 /// A reply whose first answer has `length` octets of data, followed by two answers of one owner:
 /// `x`, and as it is given.
-fn behind_a_filler(alloc: Global, length: u16, owner: &[u8]) -> Result<Vec<u8>, Fail> {
+fn after_a_filler(alloc: Global, length: u16, owner: &[u8]) -> Result<Vec<u8>, Fail> {
     let mut octets = hex::decode(
         alloc,
         "1234850000010003000000000000010001000010000100000000",
@@ -130,9 +130,9 @@ fn behind_a_filler(alloc: Global, length: u16, owner: &[u8]) -> Result<Vec<u8>, 
 #[test]
 fn a_pointer_leads_to_16383_at_most(rt: HostRuntime) -> Result<(), Fail> {
     for (length, owner) in &LAST_PLACES {
-        let octets = behind_a_filler(rt.alloc(), *length, owner)?;
+        let octets = after_a_filler(rt.alloc(), *length, owner)?;
         let text = written_again(rt.alloc(), &octets, 65535)?;
-        assert!(rt; text.as_slice() == octets.as_slice(), "behind {length}");
+        assert!(rt; text.as_slice() == octets.as_slice(), "after {length}");
     }
     Ok(())
 }

@@ -132,8 +132,8 @@ const SAME: [(&str, &str, bool); 2] = [
 #[test]
 fn names_that_are_the_same(rt: HostRuntime) -> Result<(), Fail> {
     for (one, other, is_same) in &SAME {
-        let told = sameness(rt.alloc(), one, other)?;
-        assert_eq!(rt; told, [*is_same; 3], "{one} and {other}");
+        let met = sameness(rt.alloc(), one, other)?;
+        assert_eq!(rt; met, [*is_same; 3], "{one} and {other}");
     }
     Ok(())
 }
@@ -156,8 +156,8 @@ const UNDER: [(&str, &str, bool); 4] = [
 #[test]
 fn names_under_names(rt: HostRuntime) -> Result<(), Fail> {
     for (name, suffix, wanted) in &UNDER {
-        let told = is_under(rt.alloc(), name, suffix)?;
-        assert_eq!(rt; told, [*wanted; 2], "{name} under {suffix}");
+        let met = is_under(rt.alloc(), name, suffix)?;
+        assert_eq!(rt; met, [*wanted; 2], "{name} under {suffix}");
     }
     Ok(())
 }

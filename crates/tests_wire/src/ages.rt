@@ -77,12 +77,12 @@ fn moments_of_turns(
     settle(wire);
     let _nothing = wire.arrival();
     system.time.set(Duration::from_millis(age));
-    let behind_nothing = wire.moment();
+    let after_nothing = wire.moment();
     let _first = is_sent(client, &QUESTION, 15397);
     let _second = is_sent(client, &QUESTION, 15397);
     let first = moment_of_datagram(system, wire)?;
     let second = moment_of_datagram(system, wire)?;
-    Some([behind_nothing, first, second])
+    Some([after_nothing, first, second])
 }
 
 /// The number of ages at which each of these turns has its own moment, one after the other. That of
@@ -115,7 +115,7 @@ fn an_arrival_has_the_moment_of_its_turn(rt: HostRuntime) -> Result<(), Fail> {
 
 /// The moment of a datagram that a wire of this age finds once it has waited. The clock moves on by
 /// 1 ms at each reading, so no socket is tried before.
-fn moment_behind_wait(
+fn moment_after_wait(
     system: &System<'_>,
     wire: &mut MioWire<'_, System<'_>>,
     client: &UdpSocket,
@@ -132,14 +132,14 @@ fn moment_behind_wait(
 
 /// The number of ages at which this moment is that of the second reading in the turn, one after the
 /// other.
-fn ages_with_moment_behind_wait(
+fn ages_with_moment_after_wait(
     system: &System<'_>,
     wire: &mut MioWire<'_, System<'_>>,
     client: &UdpSocket,
 ) -> usize {
     for (place, age) in AGES.iter().enumerate() {
         let later = age.saturating_add(1);
-        if moment_behind_wait(system, wire, client, *age) != Some(later) {
+        if moment_after_wait(system, wire, client, *age) != Some(later) {
             return place;
         }
     }
@@ -147,12 +147,12 @@ fn ages_with_moment_behind_wait(
 }
 
 #[test]
-fn an_arrival_in_a_wait_has_the_moment_behind_it(rt: HostRuntime) -> Result<(), Fail> {
+fn an_arrival_in_a_wait_has_the_moment_after_it(rt: HostRuntime) -> Result<(), Fail> {
     let system = System::new(&rt);
     system.time.set(Duration::ZERO);
     let client = UdpSocket::bind(&rt, here(0))?;
     let mut wire = MioWire::new(&system, rt.alloc(), local(15401), &Limits::defaults())?;
-    let ages = ages_with_moment_behind_wait(&system, &mut wire, &client);
+    let ages = ages_with_moment_after_wait(&system, &mut wire, &client);
     forget(wire);
     assert_eq!(rt; ages, AGES.len());
     Ok(())

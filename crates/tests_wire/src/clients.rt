@@ -106,8 +106,8 @@ fn gets(
     false
 }
 
-/// Of 17 replies that may wait for a client, some nine do: the system takes more or fewer of them at
-/// another time.
+/// Of 17 replies that may wait for a client, some nine do: the system takes more or fewer of them
+/// at another time.
 pub(crate) fn rest_comes(
     system: &System<'_>,
     wire: &mut MioWire<'_, System<'_>>,

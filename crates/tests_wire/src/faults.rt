@@ -21,7 +21,7 @@ const BY_SECOND: [Turn; 2] = [
 /// The first call is the arrival of the question, the second one the ask. A refused ask is no
 /// refused put: its path has failed.
 #[test]
-fn behind_a_refused_ask_the_next_server_is_asked(rt: HostRuntime) -> Result<(), Fail> {
+fn after_a_refused_ask_the_next_server_is_asked(rt: HostRuntime) -> Result<(), Fail> {
     let run = Run {
         script: &BY_SECOND,
         refuse: &[1],

@@ -1,5 +1,5 @@
-//! A wire that is told of no event: each of its turns waits, a reply leaves at once, and no memory of
-//! it is kept. Ports 15398 to 15400 have to be free. A wire is forgotten, as in `sockets`.
+//! A wire without a reported event: each of its turns waits, a reply leaves at once, and no memory
+//! of it is kept. Ports 15398 to 15400 have to be free. A wire is forgotten, as in `sockets`.
 
 use crate::came::{Came, came_now, client_that_sends, reply_to, settle};
 use crate::system::{System, client_that_came, expected, local};
@@ -65,7 +65,7 @@ fn an_idle_turn_waits(rt: HostRuntime) -> Result<(), Fail> {
 /// The octets of replies to a client, which its system takes whole.
 const REPLIES: [usize; 4] = [12, 1_501, 6_000, 30_000];
 
-/// How many of these replies a new client has got behind the call that puts each, one after the
+/// How many of these replies a new client has got after the call that puts each, one after the
 /// other.
 fn replies_that_left(
     system: &System<'_>,
@@ -105,7 +105,7 @@ const OCTETS: usize = 1_000;
 /// A heap that counts the octets in use.
 type Heap<'a> = &'a LocalHeap;
 
-/// The octets of this heap that are in use before a reply to a new client, and behind it. The
+/// The octets of this heap that are in use before a reply to a new client, and after the reply. The
 /// client's system takes it whole.
 fn used_around_a_reply<'a>(
     system: &System<'_>,
@@ -136,8 +136,8 @@ fn used_anew(rt: &HostRuntime, heap: &LocalHeap) -> Result<[usize; 2], Fail> {
 #[test]
 fn a_client_keeps_no_memory_of_what_it_took(rt: HostRuntime) -> Result<(), Fail> {
     let heap = LocalHeap::new(rt.alloc(), MEMORY)?;
-    let [before, behind] = used_anew(&rt, &heap)?;
+    let [before, after] = used_anew(&rt, &heap)?;
     assert!(rt; before > OCTETS);
-    assert_eq!(rt; behind, before);
+    assert_eq!(rt; after, before);
     Ok(())
 }

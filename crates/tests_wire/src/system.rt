@@ -45,7 +45,7 @@ pub(crate) struct System<'a> {
     has_no_octets: Cell<bool>,
     /// The random octets that are given, in place of the machine's.
     pub(crate) seed: Cell<Option<[u8; 32]>>,
-    /// The time of the clock, and the time that passes behind each reading of it.
+    /// The time of the clock, and the time that passes after each reading of it.
     pub(crate) time: Cell<Duration>,
     pub(crate) step: Cell<Duration>,
     /// The clock fails.

@@ -45,7 +45,7 @@ use Rattle.theorem_cache.proofs.Justifying.{follows_append}
 -- an entry: it can be written, is well formed, within its route, and may serve each name of that
 -- route while it lives
 pub record IsUsable (l : Look) (n : ℕ) (h : Held) : Type 0 where
-  pub told : CanBeWrittenAt n h
+  pub can_write : CanBeWrittenAt n h
   pub formed : IsPiece h.piece
   pub on_route : serving_route_of l.config h.piece.slot.key ≡ Some h.piece.route
   pub serves : (name : List (List ℕ)) → n < end_of h → serving_route_of l.config name ≡ Some h.piece.route → Justified l name h
@@ -93,7 +93,7 @@ module _ (l : Look) (n : ℕ) (entries : List Held) (usable : AllByRecursion (Is
       let asked : Slot = record { key = q.name; class = q.class; kind = Some kind } in
       let one = one_slot asked h.piece.slot typed.slot in
       let use_it = use_of h typed.living in
-      (use_it.0.told, use_it.0.serves q.name use_it.1 (serving_respects_same l.config.routes q.name h.piece.slot.key one.name ∙ use_it.0.on_route), slot_turned asked h.piece.slot typed.slot)
+      (use_it.0.can_write, use_it.0.serves q.name use_it.1 (serving_respects_same l.config.routes q.name h.piece.slot.key one.name ∙ use_it.0.on_route), slot_turned asked h.piece.slot typed.slot)
 
   -- a name error above serves it
   denial_serves : (q : Question) (h : Held) → IsDenial l.config.routes n entries q h → IsRightEnd l n q h
@@ -101,7 +101,7 @@ module _ (l : Look) (n : ℕ) (entries : List Held) (usable : AllByRecursion (Is
       let outer = and_parts (is_name_error h.piece && (q.class == h.piece.slot.class)) (is_under q.name h.piece.slot.key) denial.denies in
       let inner = and_parts (is_name_error h.piece) (q.class == h.piece.slot.class) outer.0 in
       let use_it = use_of h denial.living in (
-        use_it.0.told,
+        use_it.0.can_write,
         use_it.0.serves q.name use_it.1 (ap (serving l.config.routes) (sym denial.route) ∙ use_it.0.on_route),
         denial_ends q h.piece h.piece.slot.kind h.piece.body refl use_it.0.formed.body inner.0 ((is_under_decides q.name h.piece.slot.key).0 outer.1) (sym (eqb-true q.class h.piece.slot.class inner.1)),
       )
@@ -121,7 +121,7 @@ module _ (l : Look) (n : ℕ) (entries : List Held) (usable : AllByRecursion (Is
 
   -- how it leads, and the piece that it ends at
   pub record IsLed (q : Question) (v : LookUp) : Type 0 where
-    pub told : AllByRecursion (CanBeWrittenAt n) v.held
+    pub can_write : AllByRecursion (CanBeWrittenAt n) v.held
     pub follows : FollowsAliases l q v.held v.wanted
     pub right_end : EndsRight l n v.wanted v.met
 
@@ -132,25 +132,25 @@ module _ (l : Look) (n : ℕ) (entries : List Held) (usable : AllByRecursion (Is
   followed_right : (from q : Question) (held : List Held) (onward : Held → List (List ℕ) → LookUp) → AllByRecursion (CanBeWrittenAt n) held → FollowsAliases l from held q
       → ((h : Held) (name : List (List ℕ)) → IsRightAlias l n q h → target_of h.piece.body ≡ Some name → IsLed from (onward h name))
       → (f : Found) → IsRightFind l n q f → IsLed from (look_up_after held q onward f)
-  followed_right from q held onward told follows go found.local right = record { told = told; follows = follows; right_end = tt }
-  followed_right from q held onward told follows go (found.rows h) right = record { told = told; follows = follows; right_end = right }
-  followed_right from q held onward told follows go (found.alias h) right = by (target_of h.piece.body) refl
+  followed_right from q held onward can_write follows go found.local right = record { can_write = can_write; follows = follows; right_end = tt }
+  followed_right from q held onward can_write follows go (found.rows h) right = record { can_write = can_write; follows = follows; right_end = right }
+  followed_right from q held onward can_write follows go (found.alias h) right = by (target_of h.piece.body) refl
     where
       by : (t : Option (List (List ℕ))) → target_of h.piece.body ≡ t → IsLed from (look_up_on held q onward h t)
-      by None is = record { told = told; follows = follows; right_end = tt }
+      by None is = record { can_write = can_write; follows = follows; right_end = tt }
       by (Some name) is = go h name right is
-  followed_right from q held onward told follows go (found.no_data h) right = record { told = told; follows = follows; right_end = right }
-  followed_right from q held onward told follows go (found.denied h) right = record { told = told; follows = follows; right_end = right }
-  followed_right from q held onward told follows go miss right = record { told = told; follows = follows; right_end = tt }
+  followed_right from q held onward can_write follows go (found.no_data h) right = record { can_write = can_write; follows = follows; right_end = right }
+  followed_right from q held onward can_write follows go (found.denied h) right = record { can_write = can_write; follows = follows; right_end = right }
+  followed_right from q held onward can_write follows go miss right = record { can_write = can_write; follows = follows; right_end = tt }
 
   pub look_up_right : (from : Question) (more : ℕ) (held : List Held) (q : Question) → AllByRecursion (CanBeWrittenAt n) held → FollowsAliases l from held q → IsLed from (look_up l.config.routes n entries more held q)
-  look_up_right from zero held q told follows =
-      followed_right from q held (one_too_many held q) told follows
-      (λ h name right leads. record { told = All-append (CanBeWrittenAt n) held (h ∷ []) told (right.0, tt); follows = one_more from q held h name follows right leads; right_end = tt })
+  look_up_right from zero held q can_write follows =
+      followed_right from q held (one_too_many held q) can_write follows
+      (λ h name right leads. record { can_write = All-append (CanBeWrittenAt n) held (h ∷ []) can_write (right.0, tt); follows = one_more from q held h name follows right leads; right_end = tt })
       (found_in l.config.routes n entries q) (find_right q)
-  look_up_right from (suc more) held q told follows =
-      followed_right from q held (λ h name. through h (look_up l.config.routes n entries more (held ++ h ∷ []) (asked_at q name))) told follows
-      (λ h name right leads. let rest = look_up_right from more (held ++ h ∷ []) (asked_at q name) (All-append (CanBeWrittenAt n) held (h ∷ []) told (right.0, tt)) (one_more from q held h name follows right leads) in record { told = rest.told; follows = rest.follows; right_end = rest.right_end })
+  look_up_right from (suc more) held q can_write follows =
+      followed_right from q held (λ h name. through h (look_up l.config.routes n entries more (held ++ h ∷ []) (asked_at q name))) can_write follows
+      (λ h name right leads. let rest = look_up_right from more (held ++ h ∷ []) (asked_at q name) (All-append (CanBeWrittenAt n) held (h ∷ []) can_write (right.0, tt)) (one_more from q held h name follows right leads) in record { can_write = rest.can_write; follows = rest.follows; right_end = rest.right_end })
       (found_in l.config.routes n entries q) (find_right q)
 
 -- ---- how many aliases it takes

@@ -82,7 +82,7 @@ module _ (c : Config) (asked s : Step) (before past : List Step) (m n : ℕ) (ca
 
   -- one of its slot serves the question
   record Serves (q : Question) (kind : ℕ) (h : Held) : Type 0 where
-    pub told : CanBeWrittenAt n h
+    pub can_write : CanBeWrittenAt n h
     pub justified : JustifiedStale l q.name h
     pub slot : IsOf h.piece q.name q.class (Some kind)
 
@@ -92,7 +92,7 @@ module _ (c : Config) (asked s : Step) (before past : List Step) (m n : ℕ) (ca
       let one = one_slot asked_slot h.piece.slot typed.slot in
       let kept = all_among (IsKept c was.carried m) h cache.entries was.kept typed.among in
       record {
-        told = told_of h (all_among (λ x. IsPiece x.piece) h cache.entries was.held.formed typed.among) kept;
+        can_write = told_of h (all_among (λ x. IsPiece x.piece) h cache.entries was.held.formed typed.among) kept;
         justified = serves h kept typed.set (ltb-true n (h.accepted + 1000 * (h.piece.lifetime + window)) typed.within) q.name (serving_respects_same c.routes q.name h.piece.slot.key one.name ∙ kept.on_route);
         slot = slot_turned asked_slot h.piece.slot typed.slot;
       }
@@ -101,7 +101,7 @@ module _ (c : Config) (asked s : Step) (before past : List Step) (m n : ℕ) (ca
   Right q most chain = IsRightStale l n q most chain
 
   set_right : (q : Question) (most : ℕ) (h : Held) → Serves q q.kind h → Right q most (h ∷ [])
-  set_right q most h s = record { aliases = []; end = h; whole = refl; last = q; follows = refl; justified = s.justified; slot = s.slot; few = omega arith; told = (s.told, tt) }
+  set_right q most h s = record { aliases = []; end = h; whole = refl; last = q; follows = refl; justified = s.justified; slot = s.slot; few = omega arith; can_write = (s.can_write, tt) }
 
   one_more : (q : Question) (most : ℕ) (h : Held) (name : List (List ℕ)) (rest : List Held) → Serves q 5 h → (q.kind ≢ 5) → target_of h.piece.body ≡ Some name → Right (asked_at q name) most rest → Right q (suc most) (h ∷ rest)
   one_more q most h name rest s kind leads right = record {
@@ -113,7 +113,7 @@ module _ (c : Config) (asked s : Step) (before past : List Step) (m n : ℕ) (ca
     justified = right.justified;
     slot = right.slot;
     few = let few = right.few in omega (arith, few);
-    told = (s.told, right.told);
+    can_write = (s.can_write, right.can_write);
   }
 
   followed_right : (q : Question) (most : ℕ) (onward : List (List ℕ) → Option (List Held)) (f : Found) → FitsWithin window n cache.entries q f

@@ -34,19 +34,19 @@ record CanTell (x : PieceWithTtl) : Type 0 where
 
 -- the seconds that are left of a lifetime fit 32 bits
 left_can : (t : ℕ) (h : Held) → CanBeWrittenAt t h → CanTell (with_ttl t h)
-left_can t h told =
-    let short : h.piece.lifetime ≤ 604800 = told.formed.lifetime in
-    let before : h.accepted ≤ t = told.earlier in
+left_can t h can_write =
+    let short : h.piece.lifetime ≤ 604800 = can_write.formed.lifetime in
+    let before : h.accepted ≤ t = can_write.earlier in
     let most : seconds_left t h ≤ 604800 = omega (arith, short, before) in
-    record { formed = told.formed; writable = told.writable; seconds = omega (arith, most) }
+    record { formed = can_write.formed; writable = can_write.writable; seconds = omega (arith, most) }
 
 -- so do the 30 seconds of an expired set (RFC 8767 4)
 past_can : (t : ℕ) (h : Held) → CanBeWrittenAt t h → CanTell (with_stale_ttl t h)
-past_can t h told = by (is_alive t h)
+past_can t h can_write = by (is_alive t h)
   where
     by : (b : Bool) → CanTell (record { piece = h.piece; seconds = if b then seconds_left t h else 30 })
-    by true = left_can t h told
-    by false = record { formed = told.formed; writable = told.writable; seconds = omega arith }
+    by true = left_can t h can_write
+    by false = record { formed = can_write.formed; writable = can_write.writable; seconds = omega arith }
 
 all_left_can : (t : ℕ) (chain : List Held) → AllByRecursion (CanBeWrittenAt t) chain → AllByRecursion CanTell (map (with_ttl t) chain)
 all_left_can t [] all = tt
@@ -160,15 +160,15 @@ sections_spelled a q s asks can (Udp peer) fits = by (nat_le (length (full_text 
 
 -- the octets that a client gets are read as the answer, or as the answer cut to the question
 pub answers_are_spelled : AnswersAreSpelled
-answers_are_spelled a q t aliases end asks told client fits = sections_spelled a q (sections_of t (aliases ++ end ∷ [])) asks (sections_can t (aliases ++ end ∷ []) told) client fits
+answers_are_spelled a q t aliases end asks can_write client fits = sections_spelled a q (sections_of t (aliases ++ end ∷ [])) asks (sections_can t (aliases ++ end ∷ []) can_write) client fits
 
 pub stale_answers_are_spelled : StaleAnswersAreSpelled
-stale_answers_are_spelled a q t held past end asks told client fits =
-    sections_spelled a q (stale_sections t held past end) asks (told_can (with_stale_ttls (length held) t (held ++ (past ++ end ∷ []))) (all_stale_can (length held) t (held ++ (past ++ end ∷ [])) told)) client fits
+stale_answers_are_spelled a q t held past end asks can_write client fits =
+    sections_spelled a q (stale_sections t held past end) asks (told_can (with_stale_ttls (length held) t (held ++ (past ++ end ∷ []))) (all_stale_can (length held) t (held ++ (past ++ end ∷ [])) can_write)) client fits
 
 pub local_answers_are_spelled : LocalAnswersAreSpelled
-local_answers_are_spelled a q t aliases asks told client fits =
-    sections_spelled a q (denied_sections t aliases) asks (record { answers = all_tell (map (with_ttl t) aliases) (all_left_can t aliases told); authority = tt; rcode = omega arith }) client fits
+local_answers_are_spelled a q t aliases asks can_write client fits =
+    sections_spelled a q (denied_sections t aliases) asks (record { answers = all_tell (map (with_ttl t) aliases) (all_left_can t aliases can_write); authority = tt; rcode = omega arith }) client fits
 
 -- ---- sections after reading
 

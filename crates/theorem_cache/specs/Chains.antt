@@ -44,7 +44,7 @@ IsSized missed k = k ≤ 8
 -- the look-up's aliases can be written and lead from q to the wanted question; `EndsRight` and
 -- `IsSized` hold
 pub record IsRight (l : Look) (t : ℕ) (q : Question) (v : LookUp) : Type 0 where
-  pub told : AllByRecursion (CanBeWrittenAt t) v.held
+  pub can_write : AllByRecursion (CanBeWrittenAt t) v.held
   pub follows : FollowsAliases l q v.held v.wanted
   pub right_end : EndsRight l t v.wanted v.met
   pub sized : IsSized v.met (length v.held)
@@ -62,7 +62,7 @@ pub record IsRightStale (l : Look) (t : ℕ) (q : Question) (most : ℕ) (chain 
   pub justified : JustifiedStale l last.name end
   pub slot : IsOf end.piece last.name last.class (Some last.kind)
   pub few : length aliases ≤ most
-  pub told : AllByRecursion (CanBeWrittenAt t) chain
+  pub can_write : AllByRecursion (CanBeWrittenAt t) chain
 
 -- ---- of an accepted reply
 

@@ -115,12 +115,12 @@ AnswersAreSpelled = (a : Asked) (q : Question) (t : ℕ) (aliases : List Held) (
 
 -- The octets of an answer with expired data are read so, too (RFC 8767 4).
 abbrev pub StaleAnswersAreSpelled : Type 0
-StaleAnswersAreSpelled = (a : Asked) (q : Question) (t : ℕ) (held past : List Held) (end : Held) → CanBeRepeated a q
-    → AllByRecursion (CanBeWrittenAt t) (held ++ (past ++ end ∷ [])) → (client : Client)
-    → FitsTransport client (sized_for client (full_text a (stale_sections t held past end))
-    (short_text a (stale_sections t held past end)))
-    → SpellsSections (sized_for client (full_text a (stale_sections t held past end))
-    (short_text a (stale_sections t held past end))) a (stale_sections t held past end)
+StaleAnswersAreSpelled = (a : Asked) (q : Question) (t : ℕ) (held stale : List Held) (end : Held) → CanBeRepeated a q
+    → AllByRecursion (CanBeWrittenAt t) (held ++ (stale ++ end ∷ [])) → (client : Client)
+    → FitsTransport client (sized_for client (full_text a (stale_sections t held stale end))
+    (short_text a (stale_sections t held stale end)))
+    → SpellsSections (sized_for client (full_text a (stale_sections t held stale end))
+    (short_text a (stale_sections t held stale end))) a (stale_sections t held stale end)
 
 -- The octets of a denial by the configuration are read so, too.
 abbrev pub LocalAnswersAreSpelled : Type 0

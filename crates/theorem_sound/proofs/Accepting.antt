@@ -133,17 +133,17 @@ module _ (c : Config) (past : List Step) (step : Step) (n : ℕ) (os : List Held
     held_told : AllByRecursion (CanBeWrittenAt n) y.held
     held_told =
         let le : moment_at past ≤ moment_at (step ∷ past) = moment_later step past runs in
-        All-weaker (CanBeWrittenAt (moment_at past)) (CanBeWrittenAt n) (λ o t. told_later (moment_at past) n o (omega (arith, le, is_now)) t) y.held was.told
+        All-weaker (CanBeWrittenAt (moment_at past)) (CanBeWrittenAt n) (λ o t. told_later (moment_at past) n o (omega (arith, le, is_now)) t) y.held was.can_write
 
-    told : AllByRecursion (CanBeWrittenAt n) ((y.held ++ more) ++ end ∷ [])
-    told = All-append (CanBeWrittenAt n) (y.held ++ more) (end ∷ []) (All-append (CanBeWrittenAt n) y.held more held_told own_told.0) own_told.1
+    can_write : AllByRecursion (CanBeWrittenAt n) ((y.held ++ more) ++ end ∷ [])
+    can_write = All-append (CanBeWrittenAt n) (y.held ++ more) (end ∷ []) (All-append (CanBeWrittenAt n) y.held more held_told own_told.0) own_told.1
 
     abbrev IsFated : LookUp → Type 0
     IsFated l = Fated (OwnsReply c now) (Waits c now) (fate_of c n y l) i
 
     fated_by : IsFated (unless_many (record { held = y.held ++ more; wanted = y.wanted; met = ends end; used = [] }))
     fated_by = cond_both (nat_le (length (y.held ++ more)) 8) _ _ IsFated
-        (λ t. answer_owned c n now y i comes is_now (y.held ++ more) end (chain (leb-true (length (y.held ++ more)) 8 t)) told)
+        (λ t. answer_owned c n now y i comes is_now (y.held ++ more) end (chain (leb-true (length (y.held ++ more)) 8 t)) can_write)
         (λ f. owns_too_many c n now y i comes (y.held ++ more) led.to follows f)
 
     -- it gets its answer, or fails by its aliases

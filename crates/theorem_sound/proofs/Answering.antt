@@ -122,7 +122,7 @@ some_told octets a s (inr cut) = (_, cut)
 -- a chain is answered, or is too large to be
 pub answer_owned : (c : Config) (n : ℕ) (now : List Step) (x : Waiting) (i : ℕ) (k : Comes now x.client x.asked i) → n ≡ moment_at now → (aliases : List Held) (end : Held)
     → Chain (look_from c k.asked k.before now) k.question aliases end → AllByRecursion (CanBeWrittenAt n) (aliases ++ end ∷ []) → OwnsReply c now i (answered n x aliases end)
-answer_owned c n now x i k is aliases end chain told = sized_owned c now x i k Answered (sections_of n (aliases ++ end ∷ [])) right large
+answer_owned c n now x i k is aliases end chain can_write = sized_owned c now x i k Answered (sections_of n (aliases ++ end ∷ [])) right large
   where
     full : List ℕ
     full = answer_text x.asked aliases end n
@@ -135,7 +135,7 @@ answer_owned c n now x i k is aliases end chain told = sized_owned c now x i k A
 
     right : (cl : Client) → x.client ≡ cl → FitsTransport cl (sized_for cl full cut) → (waiting : ℕ) → RightReply (look_from c k.asked k.before now) x.client k.request waiting Answered (sized_for cl full cut)
     right cl same fits waiting =
-        let spelled = some_told (sized_for cl full cut) x.asked (sections_of n (aliases ++ end ∷ [])) (answers_are_spelled x.asked k.question n aliases end (repeated now x.client x.asked i k) told cl fits) in
+        let spelled = some_told (sized_for cl full cut) x.asked (sections_of n (aliases ++ end ∷ [])) (answers_are_spelled x.asked k.question n aliases end (repeated now x.client x.asked i k) can_write cl fits) in
         record {
           opcode = k.opcode;
           question = k.question;
@@ -167,7 +167,7 @@ pub stale_owned : (c : Config) (n : ℕ) (now : List Step) (x : Waiting) (i : �
     → Leads (look_from c k.asked k.before now) k.question x.held x.wanted → TriesFailed c x.wanted now c.limits.tries → NoneAsks x.wanted (listed now)
     → 1 ≤ c.limits.stale_s → AllByRecursion (CanBeWrittenAt n) x.held
     → (most : ℕ) (found : List Held) → most + length x.held ≡ 8 → IsRightStale (look_from c k.asked k.before now) n x.wanted most found → OwnsReply c now i (answered_stale n x found)
-stale_owned c n now x i k is leads failed none window told most found room right_past =
+stale_owned c n now x i k is leads failed none window can_write most found room right_past =
     subst (λ (chain : List Held). OwnsReply c now i (answered_stale n x chain)) (sym right_past.whole) (sized_owned c now x i k Stale (stale_sections n x.held past end) right large)
   where
     look : Look
@@ -192,7 +192,7 @@ stale_owned c n now x i k is leads failed none window told most found room right
     }
 
     all_told : AllByRecursion (CanBeWrittenAt n) (x.held ++ (past ++ end ∷ []))
-    all_told = All-append (CanBeWrittenAt n) x.held (past ++ end ∷ []) told (subst (AllByRecursion (CanBeWrittenAt n)) right_past.whole right_past.told)
+    all_told = All-append (CanBeWrittenAt n) x.held (past ++ end ∷ []) can_write (subst (AllByRecursion (CanBeWrittenAt n)) right_past.whole right_past.can_write)
 
     full : List ℕ
     full = full_text x.asked (stale_sections n x.held past end)
@@ -238,7 +238,7 @@ stale_owned c n now x i k is leads failed none window told most found room right
 -- aliases that lead to a denied name are sent, or are too large to be
 local_owned : (c : Config) (n : ℕ) (now : List Step) (x : Waiting) (i : ℕ) (k : Comes now x.client x.asked i) → n ≡ moment_at now → (aliases : List Held)
     → ChainToLocal (look_from c k.asked k.before now) k.question aliases → AllByRecursion (CanBeWrittenAt n) aliases → OwnsReply c now i (denied_locally n x aliases)
-local_owned c n now x i k is aliases chain told = sized_owned c now x i k LocalDenied (denied_sections n aliases) right large
+local_owned c n now x i k is aliases chain can_write = sized_owned c now x i k LocalDenied (denied_sections n aliases) right large
   where
     look : Look
     look = look_from c k.asked k.before now
@@ -257,7 +257,7 @@ local_owned c n now x i k is aliases chain told = sized_owned c now x i k LocalD
 
     right : (cl : Client) → x.client ≡ cl → FitsTransport cl (sized_for cl full cut) → (waiting : ℕ) → RightReply look x.client k.request waiting LocalDenied (sized_for cl full cut)
     right cl same fits waiting =
-        let spelled = some_told (sized_for cl full cut) x.asked (denied_sections n aliases) (local_answers_are_spelled x.asked k.question n aliases (repeated now x.client x.asked i k) told cl fits) in
+        let spelled = some_told (sized_for cl full cut) x.asked (denied_sections n aliases) (local_answers_are_spelled x.asked k.question n aliases (repeated now x.client x.asked i k) can_write cl fits) in
         record {
           opcode = k.opcode;
           question = k.question;
@@ -286,9 +286,9 @@ local_owned c n now x i k is aliases chain told = sized_owned c now x i k LocalD
 pub without_server_owned : (c : Config) (n : ℕ) (now : List Step) (x : Waiting) (i : ℕ) (k : Comes now x.client x.asked i) → n ≡ moment_at now → (aliases : List Held) (last : Question)
     → Leads (look_from c k.asked k.before now) k.question aliases last → serving_route_of c last.name ≡ None → (aliases ≡ [] → now ≡ k.asked ∷ k.before) → AllByRecursion (CanBeWrittenAt n) aliases
     → OwnsReply c now i (without_server c n x aliases last.name)
-without_server_owned c n now x i k is aliases last leads none at_once told =
+without_server_owned c n now x i k is aliases last leads none at_once can_write =
     cond_both (is_local c last.name) (denied_locally n x aliases) (gives_up NoRoute x) (OwnsReply c now i)
-    (λ denied. local_owned c n now x i k is aliases (record { last = last; leads = leads; denied = denies_names_exactly.only c last.name denied; at_once = at_once }) told)
+    (λ denied. local_owned c n now x i k is aliases (record { last = last; leads = leads; denied = denies_names_exactly.only c last.name denied; at_once = at_once }) can_write)
     (λ served. owns c now x.client x.asked i k NoRoute (failure_text x.asked NoRoute) (λ waiting. (
       failure_told now x.client x.asked i k NoRoute,
       record {
@@ -323,7 +323,7 @@ pub record IsTold (n : ℕ) (client : Client) (a : Asked) (aliases : List Held) 
 -- a successful reply has the octets of its chain
 pub answered_told : (n : ℕ) (now : List Step) (x : Waiting) (i : ℕ) (k : Comes now x.client x.asked i) (aliases : List Held) (end : Held) → AllByRecursion (CanBeWrittenAt n) (aliases ++ end ∷ [])
     → (client : Client) (octets : List ℕ) (why : Why) → answered n x aliases end ≡ send_reply client octets why → why ≡ Answered → IsTold n x.client x.asked aliases end octets
-answered_told n now x i k aliases end told client octets why is success = by x.client is
+answered_told n now x i k aliases end can_write client octets why is success = by x.client is
   where
     full : List ℕ
     full = answer_text x.asked aliases end n
@@ -334,7 +334,7 @@ answered_told n now x i k aliases end told client octets why is success = by x.c
     sent : (cl : Client) → sized_for cl full cut ≡ octets → FitsTransport cl (sized_for cl full cut) → IsTold n cl x.asked aliases end octets
     sent cl same fits = record {
       text = sym same;
-      spells = subst (λ (o : List ℕ). SpellsAnswer o x.asked (aliases ++ end ∷ []) n) same (answers_are_spelled x.asked k.question n aliases end (repeated now x.client x.asked i k) told cl fits);
+      spells = subst (λ (o : List ℕ). SpellsAnswer o x.asked (aliases ++ end ∷ []) n) same (answers_are_spelled x.asked k.question n aliases end (repeated now x.client x.asked i k) can_write cl fits);
     }
 
     of_reply : (text : List ℕ) (told_why : Why) → send_reply x.client text told_why ≡ send_reply client octets why → (text ≡ octets) × (told_why ≡ why)
@@ -354,15 +354,15 @@ pub fate_is_right : (c : Config) (n : ℕ) (now : List Step) (x : Waiting) (i : 
     → AllByRecursion (CanBeWrittenAt n) l.held → FollowsAliases (look_from c k.asked k.before now) k.question l.held l.wanted → EndsRight (look_from c k.asked k.before now) n l.wanted m → IsSized m (length l.held)
     → (l.held ≡ [] → now ≡ k.asked ∷ k.before)
     → Fated (OwnsReply c now) (Waits c now) (fate_at c n x l m) i
-fate_is_right c n now x i l (ends e) k is taken told follows right size at_once =
-    answer_owned c n now x i k is l.held e (record { last = l.wanted; leads = record { few = size; follows = follows }; justified = right.1; ends = right.2 }) (All-append (CanBeWrittenAt n) l.held (e ∷ []) told (right.0, tt))
-fate_is_right c n now x i l too_long k is taken told follows right size at_once =
+fate_is_right c n now x i l (ends e) k is taken can_write follows right size at_once =
+    answer_owned c n now x i k is l.held e (record { last = l.wanted; leads = record { few = size; follows = follows }; justified = right.1; ends = right.2 }) (All-append (CanBeWrittenAt n) l.held (e ∷ []) can_write (right.0, tt))
+fate_is_right c n now x i l too_long k is taken can_write follows right size at_once =
     owns c now x.client x.asked i k ChainLong (failure_text x.asked ChainLong) (λ waiting. (failure_told now x.client x.asked i k ChainLong, record { question = k.question; reads = k.reads; aliases = l.held; last = l.wanted; many = size; follows = follows }))
-fate_is_right c n now x i l missed k is taken told follows right size at_once = by (serving_route_of c l.wanted.name) refl
+fate_is_right c n now x i l missed k is taken can_write follows right size at_once = by (serving_route_of c l.wanted.name) refl
   where
     leads : Leads (look_from c k.asked k.before now) k.question l.held l.wanted
     leads = record { few = size; follows = follows }
 
     by : (r : Option ℕ) → serving_route_of c l.wanted.name ≡ r → Fated (OwnsReply c now) (Waits c now) (fate_missed c n x l r) i
-    by (Some route) on = record { comes = k; moment = taken; leads = leads; told = subst (λ (t : ℕ). AllByRecursion (CanBeWrittenAt t) l.held) is told }
-    by None none = without_server_owned c n now x i k is l.held l.wanted leads none at_once told
+    by (Some route) on = record { comes = k; moment = taken; leads = leads; can_write = subst (λ (t : ℕ). AllByRecursion (CanBeWrittenAt t) l.held) is can_write }
+    by None none = without_server_owned c n now x i k is l.held l.wanted leads none at_once can_write

@@ -48,7 +48,7 @@ waits_later c s past x i on h = record {
   comes = comes_later s past x.client x.asked i on.0 h.comes;
   moment = h.moment;
   leads = leads_stay_leads c h.comes.asked s h.comes.before past h.comes.question x.held x.wanted on h.leads;
-  told = All-weaker (CanBeWrittenAt (moment_at past)) (CanBeWrittenAt (moment_at (s ∷ past))) (λ o t. told_later (moment_at past) (moment_at (s ∷ past)) o (moment_later s past on.0) t) x.held h.told;
+  can_write = All-weaker (CanBeWrittenAt (moment_at past)) (CanBeWrittenAt (moment_at (s ∷ past))) (λ o t. told_later (moment_at past) (moment_at (s ∷ past)) o (moment_later s past on.0) t) x.held h.can_write;
 }
 
 pub each_later : (c : Config) (s : Step) (past : List Step) (zs : List (Waiting × ℕ)) → GoesOn c s past → AllByRecursion (λ z. Waits c past z.0 z.1) zs → AllByRecursion (λ z. Waits c (s ∷ past) z.0 z.1) zs

@@ -145,8 +145,8 @@ module _ (c : Config) (past : List Step) (w : List (List ℕ)) (s : State) (x : 
     }
 
     -- the question that a failure repeats
-    told : (why : Why) → (z : Question) × Reads request z × (failure_text y.asked why ≡ failure_text (asked_in (header_in request) (Some z)) why)
-    told why = (q, reads, refl)
+    can_write : (why : Why) → (z : Question) × Reads request z × (failure_text y.asked why ≡ failure_text (asked_in (header_in request) (Some z)) why)
+    can_write why = (q, reads, refl)
 
     all_below_one : AllByRecursion (λ a. IsBelow (s.tcp_asks + 0) a.path) s.asks
     all_below_one = all_below s.tcp_asks 0 s.asks x.connections
@@ -180,12 +180,12 @@ module _ (c : Config) (past : List Step) (w : List (List ℕ)) (s : State) (x : 
         comes = comes actions;
         moment = moment;
         leads = record { few = subst (λ (m : LookUpEnd). IsSized m (length l.held)) met (right actions).sized; follows = (right actions).follows };
-        told = subst (λ (t : ℕ). AllByRecursion (CanBeWrittenAt t) l.held) moment (right actions).told;
+        can_write = subst (λ (t : ℕ). AllByRecursion (CanBeWrittenAt t) l.held) moment (right actions).can_write;
       }
 
       opened : length s.waiting + 1 ≤ c.limits.questions → length s.asks + 1 ≤ c.limits.inquiries → of_question l.wanted s.asks ≡ None
           → (r : Option Ask) → first_ask (start c n words s) l.wanted route ≡ r → P (row_of_opening n z (record s { cache = used }) r)
-      opened room room_asked new None none = refused used used_is _ NoPort takes (λ e. cc) (told NoPort, inl no_draw)
+      opened room room_asked new None none = refused used used_is _ NoPort takes (λ e. cc) (can_write NoPort, inl no_draw)
         where
           peer : (p : Peer) × (peer_at c route (preferred_on s route) ≡ Some p)
           peer = preferred_peer c l.wanted route s.preferred on x.preferred
@@ -273,7 +273,7 @@ module _ (c : Config) (past : List Step) (w : List (List ℕ)) (s : State) (x : 
       )
       inquired room None new =
           cond_both (nat_le c.limits.inquiries (length s.asks)) _ _ P
-          (λ t. refused used used_is _ InquiriesFull takes (λ e. cc) (told InquiriesFull, (refl, asks_number ∙ is_full c.limits.inquiries (length s.asks) t x.asks_are.few)))
+          (λ t. refused used used_is _ InquiriesFull takes (λ e. cc) (can_write InquiriesFull, (refl, asks_number ∙ is_full c.limits.inquiries (length s.asks) t x.asks_are.few)))
           (λ f. subst (λ (r : Option Ask). P (row_of_opening n z (record s { cache = used }) r)) (sym (ap (first_ask_on (start c n words s) l.wanted) on))
           (opened room (has_room c.limits.inquiries (length s.asks) f) new (first_ask (start c n words s) l.wanted route) refl))
 
@@ -281,7 +281,7 @@ module _ (c : Config) (past : List Step) (w : List (List ℕ)) (s : State) (x : 
       waited : P (row_of_waiting (start c n words (record s { cache = used })) z)
       waited =
           cond_both (nat_le c.limits.questions (length s.waiting)) _ _ P
-          (λ t. refused used used_is _ QuestionsFull takes (λ e. cc) (told QuestionsFull, (refl, sym waiting_number ∙ is_full c.limits.questions (length s.waiting) t x.few)))
+          (λ t. refused used used_is _ QuestionsFull takes (λ e. cc) (can_write QuestionsFull, (refl, sym waiting_number ∙ is_full c.limits.questions (length s.waiting) t x.few)))
           (λ f. inquired (has_room c.limits.questions (length s.waiting) f) (of_question l.wanted s.asks) refl)
 
     -- a question that the cache answers
@@ -298,7 +298,7 @@ module _ (c : Config) (past : List Step) (w : List (List ℕ)) (s : State) (x : 
       }
 
       can_be_written_at : (actions : List Action) → AllByRecursion (CanBeWrittenAt n) (l.held ++ end ∷ [])
-      can_be_written_at actions = All-append (CanBeWrittenAt n) l.held (end ∷ []) (right actions).told ((right_end actions).0, tt)
+      can_be_written_at actions = All-append (CanBeWrittenAt n) l.held (end ∷ []) (right actions).can_write ((right_end actions).0, tt)
 
       owned : (a : Action) → answered n y l.held end ≡ a → OwnsReply c (step (a ∷ []) ∷ past) (length past) a
       owned a is = subst (OwnsReply c (step (a ∷ []) ∷ past) (length past)) is (answer_owned c n (step (a ∷ []) ∷ past) y (length past) (comes (a ∷ [])) moment l.held end (chain (a ∷ [])) (can_be_written_at (a ∷ [])))
@@ -350,13 +350,13 @@ module _ (c : Config) (past : List Step) (w : List (List ℕ)) (s : State) (x : 
     -- the question that its look-up missed is asked, where its name has a route
     missed_row : l.met ≡ missed → (r : Option ℕ) → serving_route_of c l.wanted.name ≡ r → P (row_of_fate (start c n words (record s { cache = used })) (fate_missed c n y l r))
     missed_row met None none = told_at_once used used_is takes (without_server c n y l.held l.wanted.name)
-        (λ a is. unserved (a ∷ []) l.held l.wanted a (record { few = subst (λ (m : LookUpEnd). IsSized m (length l.held)) met (right (a ∷ [])).sized; follows = (right (a ∷ [])).follows }) none (right (a ∷ [])).told is)
+        (λ a is. unserved (a ∷ []) l.held l.wanted a (record { few = subst (λ (m : LookUpEnd). IsSized m (length l.held)) met (right (a ∷ [])).sized; follows = (right (a ∷ [])).follows }) none (right (a ∷ [])).can_write is)
         (without_server_fails c n y l.held l.wanted.name)
     missed_row met (Some route) on = waited met route on
 
     too_long_row : l.met ≡ too_long → P (reply_step n (gives_up ChainLong y) (record s { cache = used }))
     too_long_row met = refused used used_is _ ChainLong takes (λ e. cc) (
-      told ChainLong,
+      can_write ChainLong,
       record {
         question = q;
         reads = reads;

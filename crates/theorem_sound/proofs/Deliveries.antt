@@ -70,13 +70,13 @@ module _ (c : Config) (past : List Step) (w : List (List ℕ)) (s : State) (x : 
   abbrev n : ℕ
   n = max (min now (2 ^ 62)) s.moment
 
-  abbrev told : List Action → Step
-  told actions = failures.step c past w s x now words unkept more (delivery path from octets) refl refl actions
+  abbrev can_write : List Action → Step
+  can_write actions = failures.step c past w s x now words unkept more (delivery path from octets) refl refl actions
 
   abbrev D : Done → Type 0
   D d = failures.P c past w s x now words unkept more (delivery path from octets) refl refl d
 
-  moment_now : (actions : List Action) → n ≡ moment_at (told actions ∷ past)
+  moment_now : (actions : List Action) → n ≡ moment_at (can_write actions ∷ past)
   moment_now actions = failures.moment_now c past w s x now words unkept more (delivery path from octets) refl refl actions
 
   -- the parts of an accepted delivery
@@ -91,23 +91,23 @@ module _ (c : Config) (past : List Step) (w : List (List ℕ)) (s : State) (x : 
     pub carried : List Piece
     pub carried_are : carried ≡ (walk_of c message ask.question ask.route).pieces ++ (walk_of c message ask.question ask.route).authority
 
-  pub heard : (actions : List Action) (ps : List Piece) → Carries c (told actions) past ps → IsHeard
+  pub heard : (actions : List Action) (ps : List Piece) → Carries c (can_write actions) past ps → IsHeard
   heard actions ps k = record {
     ask = a;
     on = at.1;
-    live = lt-ltb n (timeout_of c a) (subst (λ (t : ℕ). t < timeout_of c a) (sym (moment_now actions)) (subst (λ (q : ShownAsk). moment_at (told actions ∷ past) < q.moment + c.limits.ask_ms) (sym at.2) of_ask.is_live));
+    live = lt-ltb n (timeout_of c a) (subst (λ (t : ℕ). t < timeout_of c a) (sym (moment_now actions)) (subst (λ (q : ShownAsk). moment_at (can_write actions ∷ past) < q.moment + c.limits.ask_ms) (sym at.2) of_ask.is_live));
     whole = cond-true (matches a from octets) _ _ matched ∙ cond-false (header_in octets).tc _ _ (ap (λ (h : Header). h.tc) header_is ∙ accepts.untruncated) ∙ cond-true (((header_in octets).rcode == 0) || ((header_in octets).rcode == 3)) _ _ rcode ∙ ap judged_whole read;
     message = accepts.message;
     read = read;
-    fine = subst (λ (z : Question × ℕ). is_lame (walk_of c accepts.message z.0 z.1).end ≡ false) (λ i. (question_is i, route_is i)) (accepted_fine c (told actions) past k.pieces k.servers x.config.differ accepts);
+    fine = subst (λ (z : Question × ℕ). is_lame (walk_of c accepts.message z.0 z.1).end ≡ false) (λ i. (question_is i, route_is i)) (accepted_fine c (can_write actions) past k.pieces k.servers x.config.differ accepts);
     carried = ps;
-    carried_are = k.are ∙ accepted_pieces c (told actions) past k.pieces k.servers x.config.differ accepts ∙ (λ i. (walk_of c accepts.message (question_is i) (route_is i)).pieces ++ (walk_of c accepts.message (question_is i) (route_is i)).authority);
+    carried_are = k.are ∙ accepted_pieces c (can_write actions) past k.pieces k.servers x.config.differ accepts ∙ (λ i. (walk_of c accepts.message (question_is i) (route_is i)).pieces ++ (walk_of c accepts.message (question_is i) (route_is i)).authority);
   }
     where
-      accepts : Accepts c (told actions) past k.pieces k.servers
+      accepts : Accepts c (can_write actions) past k.pieces k.servers
       accepts = k.accepts
 
-      of_ask : Matches c (told actions) past accepts.ask accepts.octets accepts.asked
+      of_ask : Matches c (can_write actions) past accepts.ask accepts.octets accepts.asked
       of_ask = accepts.matches
 
       came : Delivered
@@ -171,11 +171,11 @@ module _ (c : Config) (past : List Step) (w : List (List ℕ)) (s : State) (x : 
           (ap (asks_this a.question) (ap one_question octets_is ∙ of_ask.reads) ∙ subst (λ (q : Question). same_question of_ask.question q ≡ true) question_is of_ask.same_question_as_ask)
 
   -- its pieces are those that were carried
-  pub heard_carried : (actions : List Action) (ps : List Piece) (k : Carries c (told actions) past ps) → (heard actions ps k).carried ≡ ps
+  pub heard_carried : (actions : List Action) (ps : List Piece) (k : Carries c (can_write actions) past ps) → (heard actions ps k).carried ≡ ps
   unfolding heard
   heard_carried actions ps k = refl
 
-  quiet : (IsHeard → ⊥) → (actions : List Action) → NothingAccepted c (told actions) past
+  quiet : (IsHeard → ⊥) → (actions : List Action) → NothingAccepted c (can_write actions) past
   quiet none actions ps k = none (heard actions ps k)
 
   nothing_more : (IsHeard → ⊥) → D (record { actions = []; unkept = 0; state = record s { moment = n } })
@@ -198,7 +198,7 @@ module _ (c : Config) (past : List Step) (w : List (List ℕ)) (s : State) (x : 
     shown_on = ap (on_path a.path) (sym x.asks) ∙ on_path-shown a.path s.asks ∙ ap (option_map shown) on_own
 
     -- a reply that is no stranger's matches the ask
-    matches_it : nat_lt n (timeout_of c a) ≡ true → matches a from octets ≡ true → (actions : List Action) → Matches c (told actions) past (shown a) octets a.question
+    matches_it : nat_lt n (timeout_of c a) ≡ true → matches a from octets ≡ true → (actions : List Action) → Matches c (can_write actions) past (shown a) octets a.question
     matches_it live matched actions =
         let facts = match_facts a from octets matched in
         record {
@@ -244,17 +244,17 @@ module _ (c : Config) (past : List Step) (w : List (List ℕ)) (s : State) (x : 
           (λ (e : ((header_in octets).rcode == 3) ≡ true). inr (ap (λ (h : Header). h.rcode) (sym header_is) ∙ eqb-true (header_in octets).rcode 3 e))
           (or_cases ((header_in octets).rcode == 0) ((header_in octets).rcode == 3) parts.2)
 
-      abbrev accepts : (actions : List Action) → Accepts c (told actions) past walk.pieces walk.authority
-      accepts actions = walk_accepted c (told actions) past (shown a) a.question a.route octets m x.config.differ
+      abbrev accepts : (actions : List Action) → Accepts c (can_write actions) past walk.pieces walk.authority
+      accepts actions = walk_accepted c (can_write actions) past (shown a) a.question a.route octets m x.config.differ
           (matches_it live parts.0 actions) spelled (ap (λ (h : Header). h.tc) (sym header_is) ∙ parts.1) rcode
           tried_a.on_route fine
 
       accepts_asked : (actions : List Action) → (accepts actions).asked ≡ a.question
-      accepts_asked actions = walk_accepted-asked c (told actions) past (shown a) a.question a.route octets m
+      accepts_asked actions = walk_accepted-asked c (can_write actions) past (shown a) a.question a.route octets m
           x.config.differ (matches_it live parts.0 actions) spelled (ap (λ (h : Header). h.tc) (sym header_is) ∙ parts.1)
           rcode tried_a.on_route fine
 
-      pub carries : (actions : List Action) → Carries c (told actions) past (walk.pieces ++ walk.authority)
+      pub carries : (actions : List Action) → Carries c (can_write actions) past (walk.pieces ++ walk.authority)
       carries actions = record { pieces = walk.pieces; servers = walk.authority; accepts = accepts actions; are = refl }
 
       -- its question is the ask's, and its end the walk's
@@ -264,7 +264,7 @@ module _ (c : Config) (past : List Step) (w : List (List ℕ)) (s : State) (x : 
 
       pub carries_end : (actions : List Action) → (carries actions).accepts.end ≡ walk.end
       unfolding carries
-      carries_end actions = walk_accepted-end c (told actions) past (shown a) a.question a.route octets m
+      carries_end actions = walk_accepted-end c (can_write actions) past (shown a) a.question a.route octets m
           x.config.differ (matches_it live parts.0 actions) spelled (ap (λ (h : Header). h.tc) (sym header_is) ∙ parts.1)
           rcode tried_a.on_route fine
 
@@ -276,31 +276,31 @@ module _ (c : Config) (past : List Step) (w : List (List ℕ)) (s : State) (x : 
 
       -- a question that waited for the reply, by the end of its walk
       fate_at_end : (actions : List Action) (y : Waiting) (i : ℕ) → Waits c past y i → waits_for a.question y ≡ true → (e : End) → walk.end ≡ e → is_lame e ≡ false
-          → Fated (OwnsReply c (told actions ∷ past)) (Waits c (told actions ∷ past)) (fate_of c n y (looked_by c n s.cache.entries walk y walk.end)) i
+          → Fated (OwnsReply c (can_write actions ∷ past)) (Waits c (can_write actions ∷ past)) (fate_of c n y (looked_by c n s.cache.entries walk y walk.end)) i
       fate_at_end actions y i was t e is not_lame = by e is not_lame
         where
-          last : has_last walk.end ≡ true → Fated (OwnsReply c (told actions ∷ past)) (Waits c (told actions ∷ past)) (fate_of c n y (looked_by c n s.cache.entries walk y walk.end)) i
-          last has = fate_accepted c past (told actions) n x.cache.carried a m refl (moment_now actions) x.cache.carried_is tried_a.on_route shapes has offered (carries actions) y i was t s.cache.entries
+          last : has_last walk.end ≡ true → Fated (OwnsReply c (can_write actions ∷ past)) (Waits c (can_write actions ∷ past)) (fate_of c n y (looked_by c n s.cache.entries walk y walk.end)) i
+          last has = fate_accepted c past (can_write actions) n x.cache.carried a m refl (moment_now actions) x.cache.carried_is tried_a.on_route shapes has offered (carries actions) y i was t s.cache.entries
 
-          by : (e : End) → walk.end ≡ e → is_lame e ≡ false → Fated (OwnsReply c (told actions ∷ past)) (Waits c (told actions ∷ past)) (fate_of c n y (looked_by c n s.cache.entries walk y walk.end)) i
+          by : (e : End) → walk.end ≡ e → is_lame e ≡ false → Fated (OwnsReply c (can_write actions ∷ past)) (Waits c (can_write actions ∷ past)) (fate_of c n y (looked_by c n s.cache.entries walk y walk.end)) i
           by found is not_lame = last (ap has_last is)
           by ends_no_data is not_lame = last (ap has_last is)
           by ends_denied is not_lame = last (ap has_last is)
-          by (elsewhere name) is not_lame = fate_led c past (told actions) s.moment n s.cache x.cache x.moment a m name refl (moment_now actions) tried_a.on_route shapes is offered (carries actions) y i was t
+          by (elsewhere name) is not_lame = fate_led c past (can_write actions) s.moment n s.cache x.cache x.moment a m name refl (moment_now actions) tried_a.on_route shapes is offered (carries actions) y i was t
           by lame is not_lame = absurd (false≢true (sym not_lame))
 
       -- those that waited for others wait on
-      on_later : (actions : List Action) (y : Waiting) (i : ℕ) → Waits c past y i → Waits c (told actions ∷ past) y i
-      on_later actions y i was = waits_later c (told actions) past y i (refl, inr (walk.pieces ++ walk.authority, carries actions)) was
+      on_later : (actions : List Action) (y : Waiting) (i : ℕ) → Waits c past y i → Waits c (can_write actions ∷ past) y i
+      on_later actions y i was = waits_later c (can_write actions) past y i (refl, inr (walk.pieces ++ walk.authority, carries actions)) was
 
-      fates : (actions : List Action) (y : Waiting) (i : ℕ) → Waits c past y i → Fated (OwnsReply c (told actions ∷ past)) (Waits c (told actions ∷ past)) (fate y) i
-      fates actions y i was = cond_both (waits_for a.question y) (fate_of c n y (looked_by c n s.cache.entries walk y walk.end)) (waits y) (λ v. Fated (OwnsReply c (told actions ∷ past)) (Waits c (told actions ∷ past)) v i)
+      fates : (actions : List Action) (y : Waiting) (i : ℕ) → Waits c past y i → Fated (OwnsReply c (can_write actions ∷ past)) (Waits c (can_write actions ∷ past)) (fate y) i
+      fates actions y i was = cond_both (waits_for a.question y) (fate_of c n y (looked_by c n s.cache.entries walk y walk.end)) (waits y) (λ v. Fated (OwnsReply c (can_write actions ∷ past)) (Waits c (can_write actions ∷ past)) v i)
           (λ t. fate_at_end actions y i was t walk.end refl fine)
           (λ _. on_later actions y i was)
 
-      speak_by : (fate' : Waiting → Fate) (actions : List Action) → ((y : Waiting) (i : ℕ) → Waits c past y i → Fated (OwnsReply c (told actions ∷ past)) (Waits c (told actions ∷ past)) (fate' y) i) → AllByRecursion Speaks (map fate' s.waiting)
+      speak_by : (fate' : Waiting → Fate) (actions : List Action) → ((y : Waiting) (i : ℕ) → Waits c past y i → Fated (OwnsReply c (can_write actions ∷ past)) (Waits c (can_write actions ∷ past)) (fate' y) i) → AllByRecursion Speaks (map fate' s.waiting)
       speak_by fate' actions each = subst (AllByRecursion Speaks) (fated_fates fate' x.numbers_of ∙ ap (map fate') x.waiting)
-          (fated_speak c (told actions ∷ past) (fated fate' x.numbers_of) (fated_each (OwnsReply c (told actions ∷ past)) (Waits c (told actions ∷ past)) (Waits c past) fate' x.numbers_of each x.waits))
+          (fated_speak c (can_write actions ∷ past) (fated fate' x.numbers_of) (fated_each (OwnsReply c (can_write actions ∷ past)) (Waits c (can_write actions ∷ past)) (Waits c past) fate' x.numbers_of each x.waits))
 
       preferred : ArePreferred c.routes (slice_set s.preferred a.route a.server)
       preferred = preferred_put c.routes s.preferred a.route a.server x.preferred (λ r there. subst (λ (o : Option Route). a.server < length (servers_in o)) there (peer_within c a.route a.server a.peer tried_a.server))
@@ -313,15 +313,15 @@ module _ (c : Config) (past : List Step) (w : List (List ℕ)) (s : State) (x : 
       abbrev kept : List Slot → Cache
       kept used = record { capacity = s.cache.capacity; entries = put_all s.cache.capacity n rooms (walk.pieces ++ walk.authority) (promoted used).entries }
 
-      cached_now : (used : List Slot) (actions : List Action) → IsCached c (told actions ∷ past) n (kept used)
-      cached_now used actions = offers_keep_cached c past s.moment n (promoted used) (told actions) rooms (walk.pieces ++ walk.authority) (promotions_keep_cached c past s.moment s.cache used x.cache) x.moment refl (moment_now actions) (carries actions) offered
+      cached_now : (used : List Slot) (actions : List Action) → IsCached c (can_write actions ∷ past) n (kept used)
+      cached_now used actions = offers_keep_cached c past s.moment n (promoted used) (can_write actions) rooms (walk.pieces ++ walk.authority) (promotions_keep_cached c past s.moment s.cache used x.cache) x.moment refl (moment_now actions) (carries actions) offered
 
       -- the actions, and the step with them
       abbrev done : (Waiting → Fate) → Option Ask → List Action
       done fate' next = failures.actions_by c past w s x now words unkept more (delivery path from octets) refl refl a on_own (map fate' s.waiting) next
 
       abbrev told_by : (Waiting → Fate) → Option Ask → Step
-      told_by fate' next = told (done fate' next)
+      told_by fate' next = can_write (done fate' next)
 
       abbrev after : List Slot → State
       after used = with_promoted used (with_preferred_server a s)
@@ -437,7 +437,7 @@ module _ (c : Config) (past : List Step) (w : List (List ℕ)) (s : State) (x : 
       all_can name is = subst (λ ys. AllByRecursion (CanBeSent c) (still_waiting (map fate (filter (waits_for a.question) ys)))) x.waiting
           (all_sent c a.question fate (Waits c past) x.numbers_of
           (λ y i was t. subst (IsSent c) (sym (cond-true (waits_for a.question y) _ _ t))
-          (sent_led c past (told []) s.moment n s.cache x.cache x.moment a m name refl (moment_now []) tried_a.on_route shapes is offered (carries []) y i was t))
+          (sent_led c past (can_write []) s.moment n s.cache x.cache x.moment a m name refl (moment_now []) tried_a.on_route shapes is offered (carries []) y i was t))
           x.waits)
 
       sent : (used : List Slot) (name : List (List ℕ)) → walk.end ≡ elsewhere name → (r : Option Question) → to_be_asked (without_path a.path s.asks) (still_waiting (map fate (filter (waits_for a.question) s.waiting))) ≡ r

@@ -204,11 +204,11 @@ module _ (c : Config) (past : List Step) (w : List (List ℕ)) (s : State) (x : 
       cached_now actions = quiet_steps_keep c past s.moment n s.cache (step actions) x.cache x.moment (runs, quiet actions) (moment_now actions) (λ q octets f. absurd (no_question actions q octets f))
 
       -- those that wait for it get the reason why not
-      told : (why : Why) (actions : List Action)
+      can_write : (why : Why) (actions : List Action)
           → ((y : Waiting) (i : ℕ) (was : Waits c past y i) → same_question y.wanted a.question ≡ true → (k : ℕ)
           → RightReply (look_from c was.comes.asked was.comes.before (step actions ∷ past)) y.client was.comes.request k why (failure_text y.asked why))
           → (y : Waiting) (i : ℕ) → Waits c past y i → Fated (OwnsReply c (step actions ∷ past)) (Waits c (step actions ∷ past)) (fails why a.question y) i
-      told why actions right y i was = cond_both (waits_for a.question y) (gets (gives_up why y)) (waits y) (λ v. Fated (OwnsReply c (step actions ∷ past)) (Waits c (step actions ∷ past)) v i)
+      can_write why actions right y i was = cond_both (waits_for a.question y) (gets (gives_up why y)) (waits y) (λ v. Fated (OwnsReply c (step actions ∷ past)) (Waits c (step actions ∷ past)) v i)
           (λ t. owns c (step actions ∷ past) y.client y.asked i (comes_later (step actions) past y.client y.asked i runs was.comes) why (failure_text y.asked why) (right y i was t))
           (λ _. waits_later c (step actions) past y i (on_now actions) was)
 
@@ -249,7 +249,7 @@ module _ (c : Config) (past : List Step) (w : List (List ℕ)) (s : State) (x : 
             (none_same y.wanted (without_path a.path s.asks) (question_free a.path y.wanted s.asks a x.asks_are.by_arrival on (same_question-sym y.wanted a.question t))))
 
         held_told : AllByRecursion (CanBeWrittenAt n) y.held
-        held_told = All-weaker (CanBeWrittenAt (moment_at past)) (CanBeWrittenAt n) (λ o k. told_later (moment_at past) n o (let le = later_moment in let was_at : s.moment ≡ moment_at past = x.moment in omega (arith, le, was_at)) k) y.held was.told
+        held_told = All-weaker (CanBeWrittenAt (moment_at past)) (CanBeWrittenAt n) (λ o k. told_later (moment_at past) n o (let le = later_moment in let was_at : s.moment ≡ moment_at past = x.moment in omega (arith, le, was_at)) k) y.held was.can_write
 
         found_owned : (found : List Held) → found_stale c n s.cache.entries y ≡ Some found → OwnsReply c now_of i (answered_stale n y found)
         found_owned found is =
@@ -279,7 +279,7 @@ module _ (c : Config) (past : List Step) (w : List (List ℕ)) (s : State) (x : 
       no_path_row : (actions_by (map (fails NoPort a.question) s.waiting) None ≡ actions_by (map (fails NoPort a.question) s.waiting) None)
           → ((drawn words (listed past) (actions_by (map (fails NoPort a.question) s.waiting) None) ≡ None) ⊎ (tcp_asks past ≡ 2 ^ 64 - 1)) → P (closing_step n a (fails NoPort a.question) None s)
       no_path_row same none = closed_row (fails NoPort a.question) None s.preferred s.cache 0 (fails_speak NoPort a.question s.waiting)
-          (told NoPort (actions_by (map (fails NoPort a.question) s.waiting) None) (λ y i was t k. (failure_told past y.client y.asked i was.comes NoPort, none)))
+          (can_write NoPort (actions_by (map (fails NoPort a.question) s.waiting) None) (λ y i was t k. (failure_told past y.client y.asked i was.comes NoPort, none)))
           tt tt tt tt tt x.preferred (cached_now (actions_by (map (fails NoPort a.question) s.waiting) None))
 
       -- the next ask goes out

@@ -3,7 +3,7 @@ use Rattle.std.proofs.Common.{◌≡◌, ℕ, List, Bool, true, refl, sym, ap, �
 use Rattle.std.specs.Prelude.{◌==◌}
 use Rattle.std.proofs.lemmas.Bool.{and_parts, and_from, eqb-true, eq-eqb}
 use Rattle.dns_name.specs.Labels.{IsSame, same as same_name}
-use Rattle.dns_name.proofs.CallerLemmas.{same_decides, answer_is_test as told}
+use Rattle.dns_name.proofs.CallerLemmas.{same_decides, answer_is_test as can_write}
 use Rattle.dns_message.specs.Values.{Question}
 use Rattle.dns_message.specs.Messages.{IsSameQuestion}
 use Rattle.dns_message.proofs.CallerLemmas.{same_question_decides}
@@ -44,7 +44,7 @@ same_question-sym a b e =
 
 -- a test that is equivalent to the fact is this test
 pub told_same_name : (r : Bool) (a b : List (List ℕ)) → (r ≡ true → IsSame a b) × (IsSame a b → r ≡ true) → r ≡ same_name a b
-told_same_name r a b tells = told r (same_name a b) tells (same_decides a b)
+told_same_name r a b tells = can_write r (same_name a b) tells (same_decides a b)
 
 pub same_question-trans : (a b q : Question) → same_question a b ≡ true → same_question b q ≡ true → same_question a q ≡ true
 same_question-trans a b q one two =

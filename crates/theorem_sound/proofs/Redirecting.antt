@@ -154,10 +154,10 @@ module _ (c : Config) (past : List Step) (step : Step) (t n : ℕ) (cache : Cach
     held_told : AllByRecursion (CanBeWrittenAt n) y.held
     held_told =
         let le : moment_at past ≤ moment_at (step ∷ past) = moment_later step past runs in
-        All-weaker (CanBeWrittenAt (moment_at past)) (CanBeWrittenAt n) (λ o k. told_later (moment_at past) n o (omega (arith, le, is_now)) k) y.held was.told
+        All-weaker (CanBeWrittenAt (moment_at past)) (CanBeWrittenAt n) (λ o k. told_later (moment_at past) n o (omega (arith, le, is_now)) k) y.held was.can_write
 
-    told : AllByRecursion (CanBeWrittenAt n) held
-    told = All-append (CanBeWrittenAt n) y.held more held_told (pieces_told c n w.pieces (All-first (CanBeKept c) w.pieces w.authority kept).0)
+    can_write : AllByRecursion (CanBeWrittenAt n) held
+    can_write = All-append (CanBeWrittenAt n) y.held more held_told (pieces_told c n w.pieces (All-first (CanBeKept c) w.pieces w.authority kept).0)
 
     some : 1 ≤ length held
     some = let longer = length-append y.held more in let long = length-map w.pieces (held_at n) in let one = lead.some in omega (arith, longer, long, one)
@@ -169,7 +169,7 @@ module _ (c : Config) (past : List Step) (step : Step) (t n : ℕ) (cache : Cach
     right : nat_le (length held) 8 ≡ true → IsRight look n was.comes.question looked_on
     right few =
         let le = leb-true (length held) 8 few in
-        look_ups_that_go_on_are_right c was.comes.asked step was.comes.before past t n cache was.comes.question wanted held (most_aliases - length held) cached t_is was.comes.in_era goes is_now told follows (omega (arith, le))
+        look_ups_that_go_on_are_right c was.comes.asked step was.comes.before past t n cache was.comes.question wanted held (most_aliases - length held) cached t_is was.comes.in_era goes is_now can_write follows (omega (arith, le))
 
     abbrev IsFated : LookUp → Type 0
     IsFated l = Fated (OwnsReply c now) (Waits c now) (fate_of c n y l) i
@@ -178,7 +178,7 @@ module _ (c : Config) (past : List Step) (step : Step) (t n : ℕ) (cache : Cach
     fated_on = cond_both (nat_le (length held) 8) _ _ IsFated
         (λ few.
         let is = right few in
-        fate_is_right c n now y i looked_on looked_on.met comes is_now was.moment is.told is.follows is.right_end is.sized
+        fate_is_right c n now y i looked_on looked_on.met comes is_now was.moment is.can_write is.follows is.right_end is.sized
         (λ none. absurd (let one = still_held c.routes n cache.entries (most_aliases - length held) held wanted some in let no : length looked_on.held ≡ 0 = ap length none in omega (arith, one, no))))
         (λ many. owns_too_many c n now y i comes held wanted follows many)
 

@@ -166,7 +166,7 @@ comes = record {
 
 waits : Waits for_one (first ∷ []) waiting 0
 unfolding comes
-waits = record { comes = comes; moment = refl; leads = record { few = omega arith; follows = refl }; told = tt }
+waits = record { comes = comes; moment = refl; leads = record { few = omega arith; follows = refl }; can_write = tt }
 
 -- the one step of a history asked the question
 question_is : (s : Step) (octets : List ℕ) (q : Question) (x : Asked) (i : ℕ)

@@ -55,7 +55,7 @@ pub record Waits (c : Config) (now : List Step) (x : Waiting) (i : ℕ) : Type 0
   pub comes : Comes now x.client x.asked i
   pub moment : x.taken ≡ moment_at (comes.asked ∷ comes.before)
   pub leads : Leads (look_from c comes.asked comes.before now) comes.question x.held x.wanted
-  pub told : AllByRecursion (CanBeWrittenAt (moment_at now)) x.held
+  pub can_write : AllByRecursion (CanBeWrittenAt (moment_at now)) x.held
 
 -- the listed ask's text has its question and identifier, its server is at its place on the name's
 -- route, and the earlier tries of its inquiry failed

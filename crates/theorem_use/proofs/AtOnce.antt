@@ -243,7 +243,7 @@ module _ (c : Config) (past : List Step) (w : List (List ℕ)) (s : State) (x : 
     }
 
     can_be_written_at : (actions : List Action) → AllByRecursion (CanBeWrittenAt n) (l.held ++ h.end ∷ [])
-    can_be_written_at actions = All-append (CanBeWrittenAt n) l.held (h.end ∷ []) (right actions).told ((right_end actions).0, tt)
+    can_be_written_at actions = All-append (CanBeWrittenAt n) l.held (h.end ∷ []) (right actions).can_write ((right_end actions).0, tt)
 
     owned : (a : Action) → answered n y l.held h.end ≡ a → OwnsReply c (step (a ∷ []) ∷ past) (length past) a
     owned a is = subst (OwnsReply c (step (a ∷ []) ∷ past) (length past)) is

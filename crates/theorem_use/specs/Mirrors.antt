@@ -36,21 +36,22 @@ abbrev pub ComesAfter : List Slot → Held → List Held → Type 0
 ComesAfter slots o [] = ⊥
 ComesAfter slots o (e ∷ entries) = (e ≡ o) ⊎ (IsOneOf e.piece.slot slots × ComesAfter slots o entries)
 
--- The entries were carried, and not replaced since. Each recent piece that is alive is an entry, after
--- entries of the slots alone that were carried or used since its last use.
+-- The entries were carried, and not replaced since. Each recent piece that is alive is an entry,
+-- after entries of the slots alone that were carried or used since its last use.
 pub record KeepsRecent (c : Config) (moment : ℕ) (ts : List Touched) (entries : List Held) : Type 0 where
   pub kept : AllByRecursion (IsKept c (carried_in ts) moment) entries
   pub order : (o : Held) (slots : List Slot) → IsRecent c.limits.cache ts o slots → is_alive moment o ≡ true
       → ComesAfter slots o entries
 
--- With some used slots of each step, `KeepsRecent` holds of the state, and `UsesWhatIsRecent` of the
--- history.
+-- With some used slots of each step, `KeepsRecent` holds of the state, and `UsesWhatIsRecent` of
+-- the history.
 pub record HasRecent (c : Config) (past : List Step) (w : List (List ℕ)) (s : State) : Type 0 where
   pub used : List (List Slot)
   pub keeps : (ts : List Touched) → TouchedInEra c past used ts → KeepsRecent c s.moment ts s.cache.entries
   pub uses : UsesWhatIsRecent c past w used
 
--- `Explains`, `IsMirrored`, `HasRecent`, `AreServed` and `AsksForThoseWhoWait`, with the same owners
+-- `Explains`, `IsMirrored`, `HasRecent`, `AreServed` and `AsksForThoseWhoWait`, with the same
+-- owners
 pub record FullyExplains (c : Config) (past : List Step) (w : List (List ℕ)) (s : State) : Type 0 where
   pub explained : Explains c past w s
   pub mirrored : IsMirrored c past w s

@@ -71,8 +71,8 @@ LeadsNowhere n ts q =
     ⊎ ((h : Held) → IsLiving n ts h → IsOf h.piece q.name q.class (Some 5) → (each : List (List ℕ))
     → h.piece.body ≡ rows each → ⊥)
 
--- o is ready and answers q on its name's route. A denial answers only if no alias leads on (RFC 1034
--- 3.6.2).
+-- o is ready and answers q on its name's route. A denial answers only if no alias leads on (RFC
+-- 1034 3.6.2).
 pub record IsReadyEnd (c : Config) (n : ℕ) (ts : List Touched) (q : Question) (o : Held) : Type 0 where
   pub ready : IsReady c.limits.cache n ts o
   pub ends : EndsChain q o.piece o.piece.body
@@ -97,8 +97,8 @@ IsAnsweredByRecent c n ts (suc more) q =
 
 -- ---- the claim
 
--- Each step used its slots (`Uses`). Each question that recent pieces answer, after eight aliases at
--- most, is answered at once (`AnswersAtOnce`). w as in `Sound`.
+-- Each step used its slots (`Uses`). Each question that recent pieces answer, after eight aliases
+-- at most, is answered at once (`AnswersAtOnce`). w as in `Sound`.
 abbrev pub UsesWhatIsRecent : Config → List Step → List (List ℕ) → List (List Slot) → Type 0
 UsesWhatIsRecent c [] w used = Unit {0}
 UsesWhatIsRecent c (s ∷ past) [] used = ⊥

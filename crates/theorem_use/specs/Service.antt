@@ -35,9 +35,9 @@ pub record ServesTruly (c : Config) (steps : List Step) : Type 0 where
   -- A question for which enough carried data stands (RFC 2181 5.4.1) is answered at once, if the
   -- cache has room: by a single reply, owned by the question, with the same owners.
   pub uses : UsesWhatStands c (reverse steps) sound.owners
-  -- A question that recent pieces answer is answered at once, whatever the era carried before: since
-  -- the last use of each of these pieces, no more different slots were carried or used than the
-  -- cache has room for. For some used slots of each step, and with the same owners.
+  -- A question that recent pieces answer is answered at once, whatever the era carried before:
+  -- since the last use of each of these pieces, no more different slots were carried or used than
+  -- the cache has room for. For some used slots of each step, and with the same owners.
   pub used : List (List Slot)
   pub recent : UsesWhatIsRecent c (reverse steps) sound.owners used
 

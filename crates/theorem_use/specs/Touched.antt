@@ -77,8 +77,8 @@ pub record LooksAlong (Misses : Type 0) (n : ℕ) (ts : List Touched) (q : Quest
 abbrev pub AnswersNothing : Step → Type 0
 AnswersNothing s = (q : Question) (octets : List ℕ) → FromCache s q octets → ⊥
 
--- The step's question was looked up among the pieces carried before. An answer from cache is written
--- from the pieces along which this look-up led.
+-- The step's question was looked up among the pieces carried before. An answer from cache is
+-- written from the pieces along which this look-up led.
 pub record LooksUp (c : Config) (s : Step) (past : List Step) (ts : List Touched) (slots : List Slot) : Type 0 where
   pub client : Client
   pub question : Question

@@ -9,7 +9,7 @@ use Rattle.dns_message.specs.Messages.{AreShaped}
 use Rattle.suffix_routes.specs.Routes.{route_of}
 use Rattle.trust_rank.specs.Values.{Piece, End, found, ends_no_data, ends_denied, elsewhere, lame, Walk, Reply, reply_of}
 use Rattle.trust_rank.specs.Sets.{records_for}
-use Rattle.trust_rank.specs.Walks.{AtName, met_nothing, met_set, met_no_data, met_name_error, met_alias, met_lame, is_place, is_on_route, met_at, most_aliases, lame_walk, is_lame, behind, go_on, walk_from, is_name_server, is_server_for, has_owner, begins_set, servers_with, servers_at, servers_from, carries_servers, with_servers}
+use Rattle.trust_rank.specs.Walks.{AtName, met_nothing, met_set, met_no_data, met_name_error, met_alias, met_lame, is_place, is_on_route, met_at, most_aliases, lame_walk, is_lame, with_alias, go_on, walk_from, is_name_server, is_server_for, has_owner, begins_set, servers_with, servers_at, servers_from, carries_servers, with_servers}
 use Rattle.trust_rank.specs.Laws.{IsCarriedFor, IsAliasTo, Lead, last_kind, IsLastBody, Closes, EndsSo, WalkLeads, IsServerSet, ServersFit}
 use Rattle.trust_rank.proofs.PieceLaws.{set_shape, set_with_is_piece}
 use Rattle.trust_rank.proofs.Carrying.{Meets, meets, on_route_is}
@@ -39,7 +39,7 @@ closes_more r most name target end p pieces alias h = record {
 
 -- an alias before a walk
 behind_well : (r : Reply) (most : ℕ) (name target : List (List ℕ)) (p : Piece) (pieces authority : List Piece) (end : End) → IsAliasTo r name target p → Ends r most target pieces end
-    → EndsWell r (suc most) name (behind p (record { pieces = pieces; authority = authority; end = end }))
+    → EndsWell r (suc most) name (with_alias p (record { pieces = pieces; authority = authority; end = end }))
 behind_well r most name target p pieces authority found alias h = closes_more r most name target found p pieces alias h
 behind_well r most name target p pieces authority ends_no_data alias h = closes_more r most name target ends_no_data p pieces alias h
 behind_well r most name target p pieces authority ends_denied alias h = closes_more r most name target ends_denied p pieces alias h
@@ -70,7 +70,7 @@ walk_well r (suc most) is_first name answers authority =
 abbrev Moved : Walk → Type 0
 Moved w = (name : List (List ℕ)) → w.end ≡ elsewhere name → 1 ≤ length w.pieces
 
-behind_moved : (p : Piece) (pieces authority : List Piece) (end : End) → Moved (behind p (record { pieces = pieces; authority = authority; end = end }))
+behind_moved : (p : Piece) (pieces authority : List Piece) (end : End) → Moved (with_alias p (record { pieces = pieces; authority = authority; end = end }))
 behind_moved p pieces authority found = λ name e. absurd (cc)
 behind_moved p pieces authority ends_no_data = λ name e. absurd (cc)
 behind_moved p pieces authority ends_denied = λ name e. absurd (cc)
@@ -92,7 +92,7 @@ walk_moved r most name answers authority on = go_moved r name (λ target. walk_f
 -- ---- name servers
 
 -- the walk itself has none
-behind_plain : (p : Piece) (w : Walk) → w.authority ≡ [] → (behind p w).authority ≡ []
+behind_plain : (p : Piece) (w : Walk) → w.authority ≡ [] → (with_alias p w).authority ≡ []
 behind_plain p w e = cond_both (is_lame w.end) lame_walk (record { pieces = p ∷ w.pieces; authority = w.authority; end = w.end }) (λ (x : Walk). x.authority ≡ []) (λ _. refl) (λ _. e)
 
 go_plain : (name : List (List ℕ)) (rest : List (List ℕ) → Walk) (met : AtName) → ((target : List (List ℕ)) → (rest target).authority ≡ []) → (go_on rest name met).authority ≡ []

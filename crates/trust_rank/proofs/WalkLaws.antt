@@ -3,24 +3,24 @@ use Rattle.std.proofs.Common.{◌≡◌, ℕ, suc, Bool, false, List, [], ◌∷
 use Rattle.std.proofs.lemmas.Bool.{cond-false}
 use Rattle.std.proofs.lemmas.List.{append-nil}
 use Rattle.trust_rank.specs.Values.{Piece, End, elsewhere, Walk, Reply}
-use Rattle.trust_rank.specs.Walks.{AtName, met_nothing, met_alias, met_at, ending, lame_walk, is_lame, behind, go_on, walk_from}
+use Rattle.trust_rank.specs.Walks.{AtName, met_nothing, met_alias, met_at, ending, lame_walk, is_lame, with_alias, go_on, walk_from}
 
 -- these pieces, and the walk after them
 abbrev pub before : List Piece → Walk → Walk
 before [] w = w
-before (p ∷ ps) w = behind p (before ps w)
+before (p ∷ ps) w = with_alias p (before ps w)
 
-before_one_more : (ps : List Piece) (p : Piece) (w : Walk) → before (ps ++ p ∷ []) w ≡ before ps (behind p w)
+before_one_more : (ps : List Piece) (p : Piece) (w : Walk) → before (ps ++ p ∷ []) w ≡ before ps (with_alias p w)
 before_one_more [] p w = refl
-before_one_more (x ∷ ps) p w = ap (behind x) (before_one_more ps p w)
+before_one_more (x ∷ ps) p w = ap (with_alias x) (before_one_more ps p w)
 
 before_lame : (ps : List Piece) → before ps lame_walk ≡ lame_walk
 before_lame [] = refl
-before_lame (x ∷ ps) = ap (behind x) (before_lame ps)
+before_lame (x ∷ ps) = ap (with_alias x) (before_lame ps)
 
 before_end : (ps qs : List Piece) (end : End) → is_lame end ≡ false → before ps (ending qs end) ≡ ending (ps ++ qs) end
 before_end [] qs end e = refl
-before_end (x ∷ ps) qs end e = ap (behind x) (before_end ps qs end e) ∙ cond-false (is_lame end) lame_walk (ending (x ∷ (ps ++ qs)) end) e
+before_end (x ∷ ps) qs end e = ap (with_alias x) (before_end ps qs end e) ∙ cond-false (is_lame end) lame_walk (ending (x ∷ (ps ++ qs)) end) e
 
 -- on the way: the pieces so far, and what is left from here, are the whole
 abbrev pub GoesOn : Reply → List Piece → ℕ → Bool → List (List ℕ) → Walk → Type 0

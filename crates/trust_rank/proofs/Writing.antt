@@ -11,7 +11,7 @@ use Rattle.dns_message.proofs.CallerLemmas.{data_that_is_a_name}
 use Rattle.trust_rank.specs.Values.{Body, rows, no_data, denied, Piece, Walk, Reply, reply_of}
 use Rattle.trust_rank.specs.Sets.{is_of, records_for, set_with, set_of}
 use Rattle.trust_rank.specs.Denials.{is_soa_for, soa_for}
-use Rattle.trust_rank.specs.Walks.{AtName, met_nothing, met_set, met_no_data, met_name_error, met_alias, met_lame, rank_at, at_name, answer_set, alias_set, has_many, target_of, is_referral, name_error_at, no_data_at, denial_met, denial_at, leads, alias_or, set_or, is_on_route, met_at, most_aliases, is_lame, lame_walk, behind, go_on, walk_from, begins_set, servers_with, servers_at, servers_from, carries_servers}
+use Rattle.trust_rank.specs.Walks.{AtName, met_nothing, met_set, met_no_data, met_name_error, met_alias, met_lame, rank_at, at_name, answer_set, alias_set, has_many, target_of, is_referral, name_error_at, no_data_at, denial_met, denial_at, leads, alias_or, set_or, is_on_route, met_at, most_aliases, is_lame, lame_walk, with_alias, go_on, walk_from, begins_set, servers_with, servers_at, servers_from, carries_servers}
 use Rattle.trust_rank.specs.Writable.{IsWritable}
 use Rattle.trust_rank.specs.Laws.{PiecesAreWritable}
 use Rattle.trust_rank.proofs.Leading.{walk_plain, all_append}
@@ -108,7 +108,7 @@ met_writable r is_first name can is =
 abbrev AreWritable : Walk → Type 0
 AreWritable w = AllByRecursion IsWritable w.pieces
 
-behind_writable : (p : Piece) (w : Walk) → IsWritable p → AreWritable w → AreWritable (behind p w)
+behind_writable : (p : Piece) (w : Walk) → IsWritable p → AreWritable w → AreWritable (with_alias p w)
 behind_writable p w can rest = cond_both (is_lame w.end) lame_walk (record { pieces = p ∷ w.pieces; authority = w.authority; end = w.end }) AreWritable (λ _. tt) (λ _. (can, rest))
 
 go_writable : (name : List (List ℕ)) (rest : List (List ℕ) → Walk) (met : AtName) → MetWritable met → ((target : List (List ℕ)) → IsName target → AreWritable (rest target)) → AreWritable (go_on rest name met)

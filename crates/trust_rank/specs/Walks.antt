@@ -159,8 +159,8 @@ is_lame ends_denied = false
 is_lame (elsewhere name) = false
 
 -- an alias, and the walk from its target
-abbrev pub behind : Piece → Walk → Walk
-behind alias w = if is_lame w.end then lame_walk else record {
+abbrev pub with_alias : Piece → Walk → Walk
+with_alias alias w = if is_lame w.end then lame_walk else record {
   pieces = alias ∷ w.pieces;
   authority = w.authority;
   end = w.end;
@@ -172,7 +172,7 @@ go_on rest name met_nothing = ending [] (elsewhere name)
 go_on rest name (met_set p) = ending (p ∷ []) found
 go_on rest name (met_no_data p) = ending (p ∷ []) ends_no_data
 go_on rest name (met_name_error p) = ending (p ∷ []) ends_denied
-go_on rest name (met_alias p target) = behind p (rest target)
+go_on rest name (met_alias p target) = with_alias p (rest target)
 go_on rest name met_lame = lame_walk
 
 -- the walk from a name on, first or not, with at most `most` aliases

@@ -71,36 +71,36 @@ counted p (key ∷ keys) t i apart t_in i_in is = by t i (p key) refl (λ u j. c
 
 -- ---- a binary search among those that pass
 
-module _ (p : ℕ → Bool) (turns keys : List ℕ) (start end : ℕ) (low : start ≤ end) (high : end ≤ length keys) (apart : AllPairs (λ j k. j ≢ k) turns) (are : filter p turns ≡ between start end keys) where
-  pub total : length (filter p turns) ≡ end - start
+module _ (p : ℕ → Bool) (arrivals keys : List ℕ) (start end : ℕ) (low : start ≤ end) (high : end ≤ length keys) (apart : AllPairs (λ j k. j ≢ k) arrivals) (are : filter p arrivals ≡ between start end keys) where
+  pub total : length (filter p arrivals) ≡ end - start
   total = ap (λ (ks : List ℕ). length ks) are ∙ length-between keys start end high
 
   -- the number of keys before one at a place between
-  pub stands_at : (middle arrival_rank : ℕ) → start ≤ middle → middle < end → arrival_rank < length turns → slice_index turns arrival_rank ≡ slice_index keys middle → (start + earlier p turns arrival_rank ≡ middle) × (p (slice_index turns arrival_rank) ≡ true)
+  pub stands_at : (middle arrival_rank : ℕ) → start ≤ middle → middle < end → arrival_rank < length arrivals → slice_index arrivals arrival_rank ≡ slice_index keys middle → (start + earlier p arrivals arrival_rank ≡ middle) × (p (slice_index arrivals arrival_rank) ≡ true)
   stands_at middle arrival_rank from less within is =
       let back : start + (middle - start) ≡ middle = omega (arith, from) in
-      let here : slice_index (filter p turns) (middle - start) ≡ slice_index keys middle =
+      let here : slice_index (filter p arrivals) (middle - start) ≡ slice_index keys middle =
       ap (λ (ks : List ℕ). slice_index ks (middle - start)) are ∙ get_or-between keys start end (middle - start) 0 (omega (arith, from, less)) ∙ ap (slice_index keys) back in
-      let both = counted p turns arrival_rank (middle - start) apart within (omega (arith, total, from, less)) (is ∙ sym here) in
+      let both = counted p arrivals arrival_rank (middle - start) apart within (omega (arith, total, from, less)) (is ∙ sym here) in
       (omega (arith, both.0, back), both.1)
 
-  pub before_rank : (middle place arrival_rank : ℕ) → start ≤ middle → middle < end → place < length turns → slice_index turns place ≡ slice_index keys middle → place < arrival_rank → middle + 1 ≤ start + earlier p turns arrival_rank
+  pub before_rank : (middle place arrival_rank : ℕ) → start ≤ middle → middle < end → place < length arrivals → slice_index arrivals place ≡ slice_index keys middle → place < arrival_rank → middle + 1 ≤ start + earlier p arrivals arrival_rank
   before_rank middle place arrival_rank from less within is first =
       let at = stands_at middle place from less within is in
-      omega (arith, at.0, grows_past p turns place arrival_rank first within at.1)
+      omega (arith, at.0, grows_past p arrivals place arrival_rank first within at.1)
 
-  pub after_rank : (middle place arrival_rank : ℕ) → start ≤ middle → middle < end → place < length turns → slice_index turns place ≡ slice_index keys middle → arrival_rank ≤ place → start + earlier p turns arrival_rank ≤ middle
+  pub after_rank : (middle place arrival_rank : ℕ) → start ≤ middle → middle < end → place < length arrivals → slice_index arrivals place ≡ slice_index keys middle → arrival_rank ≤ place → start + earlier p arrivals arrival_rank ≤ middle
   after_rank middle place arrival_rank from less within is first =
       let at = stands_at middle place from less within is in
-      omega (arith, at.0, grows p turns arrival_rank place first)
+      omega (arith, at.0, grows p arrivals arrival_rank place first)
 
 -- the keys between are in turn
-pub listed_at : (turns keys : List ℕ) (start end middle key : ℕ) → end ≤ length keys → All (Contains turns) (between start end keys) → start ≤ middle → middle < end → key ≡ slice_index keys middle → Contains turns key
-listed_at turns keys start end middle key high listed from less is =
+pub listed_at : (arrivals keys : List ℕ) (start end middle key : ℕ) → end ≤ length keys → All (Contains arrivals) (between start end keys) → start ≤ middle → middle < end → key ≡ slice_index keys middle → Contains arrivals key
+listed_at arrivals keys start end middle key high listed from less is =
     let back : start + (middle - start) ≡ middle = omega (arith, from) in
     let here : slice_index (between start end keys) (middle - start) ≡ slice_index keys middle =
     get_or-between keys start end (middle - start) 0 (omega (arith, from, less)) ∙ ap (slice_index keys) back in
-    subst (Contains turns) (here ∙ sym is) (listed (middle - start) 0 (omega (arith, length-between keys start end high, from, less)))
+    subst (Contains arrivals) (here ∙ sym is) (listed (middle - start) 0 (omega (arith, length-between keys start end high, from, less)))
 
 -- ---- one key more
 

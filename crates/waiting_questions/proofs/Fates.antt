@@ -46,22 +46,22 @@ module _ (q : Question) (s : Slab Waiting) (p t : List ℕ) (indexed : AreIndexe
 
   module _ (arrival_rank : ℕ) (t_in : arrival_rank < length t) (one : slice_index p (i + n) ≡ slice_index t arrival_rank) where
     stands : (i + earlier (waits_at s q) t arrival_rank ≡ i + n) × (waits_at s q (slice_index t arrival_rank) ≡ true)
-    stands = stands_at (waits_at s q) t p i j range.low range.high indexed.turns.apart (in_range s p t indexed q i j range) (i + n) arrival_rank (omega arith) before_end t_in (sym one)
+    stands = stands_at (waits_at s q) t p i j range.low range.high indexed.arrivals.apart (in_range s p t indexed q i j range) (i + n) arrival_rank (omega arith) before_end t_in (sym one)
 
     its : (x : Waiting) × (get s (slice_index t arrival_rank) ≡ Some x)
-    its = value_of (get s (slice_index t arrival_rank)) (indexed.turns.present arrival_rank 0 t_in)
+    its = value_of (get s (slice_index t arrival_rank)) (indexed.arrivals.present arrival_rank 0 t_in)
 
     is_there : slice_get (waiting_under s t) arrival_rank ≡ Some its.0
-    is_there = at_under s t arrival_rank indexed.turns.present t_in ∙ its.1
+    is_there = at_under s t arrival_rank indexed.arrivals.present t_in ∙ its.1
 
     waits : waits_for q its.0 ≡ true
     waits = sym (ap (passes (waits_for q)) its.1) ∙ stands.1
 
     as_many : length (filter (waits_for q) (take arrival_rank (waiting_under s t))) ≡ length left
     as_many =
-        let present = All-filter (waits_at s q) (λ key. IsSome (get s key)) (take arrival_rank t) (All-take (λ key. IsSome (get s key)) arrival_rank t indexed.turns.present) in
+        let present = All-filter (waits_at s q) (λ key. IsSome (get s key)) (take arrival_rank t) (All-take (λ key. IsSome (get s key)) arrival_rank t indexed.arrivals.present) in
         let count : length (filter (waits_for q) (take arrival_rank (waiting_under s t))) ≡ earlier (waits_at s q) t arrival_rank =
-        ap (λ (xs : List Waiting). length (filter (waits_for q) xs)) (taken_under s t arrival_rank indexed.turns.present)
+        ap (λ (xs : List Waiting). length (filter (waits_for q) xs)) (taken_under s t arrival_rank indexed.arrivals.present)
         ∙ ap (λ (xs : List Waiting). length xs) (filter_under (waits_for q) s (take arrival_rank t))
         ∙ length_under s (filter (waits_at s q) (take arrival_rank t)) present in
         omega (arith, count, stands.0, long)

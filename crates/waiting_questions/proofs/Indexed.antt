@@ -33,23 +33,23 @@ under_all P s (key ∷ keys) all = by (get s key) refl all (under_all P s keys)
 -- ---- none
 
 pub none_indexed : (s : Slab Waiting) (by_question by_arrival : List ℕ) → by_question ≡ [] → by_arrival ≡ [] → AreIndexed s by_question by_arrival
-none_indexed s by_question by_arrival questions turns =
-    subst₂ (AreIndexed s) (sym questions) (sym turns) (record { questions = no_keys IsByQuestion s; turns = no_keys IsByTaken s; same = λ q. refl })
+none_indexed s by_question by_arrival questions arrivals =
+    subst₂ (AreIndexed s) (sym questions) (sym arrivals) (record { questions = no_keys IsByQuestion s; arrivals = no_keys IsByTaken s; same = λ q. refl })
 
 -- more room changes nothing
 room_indexed : (s s' : Slab Waiting) (p t p' t' : List ℕ) → s' ≡ record s { capacity = s'.capacity } → p' ≡ p → t' ≡ t → AreIndexed s p t → AreIndexed s' p' t'
-room_indexed s s' p t p' t' slab questions turns indexed =
+room_indexed s s' p t p' t' slab questions arrivals indexed =
     let roomy : Slab Waiting = record s { capacity = s'.capacity } in
     let more : AreIndexed roomy p t = record {
       questions = record { present = indexed.questions.present; apart = indexed.questions.apart; in_order = indexed.questions.in_order };
-      turns = record { present = indexed.turns.present; apart = indexed.turns.apart; in_order = indexed.turns.in_order };
+      arrivals = record { present = indexed.arrivals.present; apart = indexed.arrivals.apart; in_order = indexed.arrivals.in_order };
       same = indexed.same;
     } in
-    subst (λ (z : Slab Waiting). AreIndexed z p' t') (sym slab) (subst₂ (AreIndexed roomy) (sym questions) (sym turns) more)
+    subst (λ (z : Slab Waiting). AreIndexed z p' t') (sym slab) (subst₂ (AreIndexed roomy) (sym questions) (sym arrivals) more)
 
 pub table_room : {A : Type 0} (t t' : Table A) → t'.waiting ≡ record t.waiting { capacity = t'.waiting.capacity } → t'.by_question.items ≡ t.by_question.items → t'.by_arrival.keys ≡ t.by_arrival.keys → IsIndexed t → IsIndexed t'
-table_room t t' slab questions turns indexed = record {
-  lists = room_indexed t.waiting t'.waiting _ _ _ _ slab (ap keys_of questions) turns indexed.lists;
+table_room t t' slab questions arrivals indexed = record {
+  lists = room_indexed t.waiting t'.waiting _ _ _ _ slab (ap keys_of questions) arrivals indexed.lists;
   numbers = room_numbered t.waiting t'.waiting _ _ slab questions indexed.numbers;
 }
 
@@ -64,7 +64,7 @@ module _ (s : Slab Waiting) (by_question by_arrival : List ℕ) (indexed : AreIn
     those_wait = ap (waiting_under s) (sym in_range) ∙ sym (filter_under (waits_for q) s by_arrival)
 
     pub those_present : ArePresent s (between i j by_question)
-    those_present = subst (ArePresent s) in_range (All-filter (waits_at s q) (λ key. IsSome (get s key)) by_arrival indexed.turns.present)
+    those_present = subst (ArePresent s) in_range (All-filter (waits_at s q) (λ key. IsSome (get s key)) by_arrival indexed.arrivals.present)
 
     pub how_many : j - i ≡ length (filter (waits_for q) (waiting_under s by_arrival))
     how_many = sym (length-between by_question i j range.high) ∙ sym (length_under s (between i j by_question) those_present) ∙ ap length those_wait
@@ -102,7 +102,7 @@ module _ (s : Slab Waiting) (by_question by_arrival : List ℕ) (indexed : AreIn
 
   module _ (s' : Slab Waiting) (key : ℕ) (x : Waiting) (was : get s key ≡ None) (updates : Updates s s' key (Some x)) where
     pub put_items : waiting_under s' (by_arrival ++ key ∷ []) ≡ waiting_under s by_arrival ++ x ∷ []
-    put_items = put_under s s' by_arrival key x (same_under s s' by_arrival (stay IsByTaken s s' by_arrival indexed.turns key x was updates)) updates.changed
+    put_items = put_under s s' by_arrival key x (same_under s s' by_arrival (stay IsByTaken s s' by_arrival indexed.arrivals key x was updates)) updates.changed
 
     module _ (i j : ℕ) (range : IsRange (to_question (question_key x.wanted)) s by_question i j) (later : AllByRecursion (λ y. y.taken ≤ x.taken) (waiting_under s by_arrival)) where
       put_questions : AreKeys IsByQuestion s' (insert by_question j key)
@@ -117,7 +117,7 @@ module _ (s : Slab Waiting) (by_question by_arrival : List ℕ) (indexed : AreIn
       put_turns : AreKeys IsByTaken s' (by_arrival ++ key ∷ [])
       put_turns =
           subst (AreKeys IsByTaken s') (insert_end by_arrival key)
-          (keys_put IsByTaken s s' by_arrival indexed.turns key x was updates (length by_arrival) (omega arith)
+          (keys_put IsByTaken s s' by_arrival indexed.arrivals key x was updates (length by_arrival) (omega arith)
           (All-take (λ n. (a : Waiting) → get s n ≡ Some a → a.taken ≤ x.taken) (length by_arrival) by_arrival (under_all (λ y. y.taken ≤ x.taken) s by_arrival later))
           (λ k d within. absurd (omega (arith, length-drop (length by_arrival) by_arrival))))
 
@@ -131,11 +131,11 @@ module _ (s : Slab Waiting) (by_question by_arrival : List ℕ) (indexed : AreIn
           let inside : j + k < length by_question = omega (arith, length-drop j by_question) in
           ap (waits_at s' q) (get_or-drop j by_question k 0) ∙ ap (passes (waits_for q)) (stays (j + k) 0 inside)
           ∙ none_behind s by_question indexed.questions.present x i j range q (sym (ap (passes (waits_for q)) updates.changed) ∙ waits) (j + k) (omega arith) inside))
-          ∙ ap (λ ks. ks ++ filter (waits_at s' q) (key ∷ [])) (alike by_question stays ∙ indexed.same q ∙ sym (alike by_arrival (stay IsByTaken s s' by_arrival indexed.turns key x was updates)))
+          ∙ ap (λ ks. ks ++ filter (waits_at s' q) (key ∷ [])) (alike by_question stays ∙ indexed.same q ∙ sym (alike by_arrival (stay IsByTaken s s' by_arrival indexed.arrivals key x was updates)))
           ∙ sym (filter-append (waits_at s' q) by_arrival (key ∷ []))
 
       pub put_indexed : AreIndexed s' (insert by_question j key) (by_arrival ++ key ∷ [])
-      put_indexed = record { questions = put_questions; turns = put_turns; same = put_same }
+      put_indexed = record { questions = put_questions; arrivals = put_turns; same = put_same }
 
   -- ---- one less
 
@@ -148,33 +148,33 @@ module _ (s : Slab Waiting) (by_question by_arrival : List ℕ) (indexed : AreIn
         ∙ filter_filter (waits_at s q) (λ n. not (n == key)) by_question
         ∙ ap (others key) (indexed.same q)
         ∙ sym (filter_filter (waits_at s q) (λ n. not (n == key)) by_arrival)
-        ∙ sym (alike (others key by_arrival) (stay_others IsByTaken s s' by_arrival indexed.turns key updates))
+        ∙ sym (alike (others key by_arrival) (stay_others IsByTaken s s' by_arrival indexed.arrivals key updates))
 
     left_indexed : AreIndexed s' (others key by_question) (others key by_arrival)
     left_indexed = record {
       questions = keys_left IsByQuestion s s' by_question indexed.questions key updates;
-      turns = keys_left IsByTaken s s' by_arrival indexed.turns key updates;
+      arrivals = keys_left IsByTaken s s' by_arrival indexed.arrivals key updates;
       same = left_same;
     }
 
     module _ (place arrival_rank : ℕ) (p_in : place < length by_question) (t_in : arrival_rank < length by_arrival) (p_is : slice_index by_question place ≡ key) (t_is : slice_index by_arrival arrival_rank ≡ key) where
       pub take_indexed : AreIndexed s' (remove by_question place) (remove by_arrival arrival_rank)
-      take_indexed = subst₂ (AreIndexed s') (sym (removed by_question place key p_in p_is indexed.questions.apart)) (sym (removed by_arrival arrival_rank key t_in t_is indexed.turns.apart)) left_indexed
+      take_indexed = subst₂ (AreIndexed s') (sym (removed by_question place key p_in p_is indexed.questions.apart)) (sym (removed by_arrival arrival_rank key t_in t_is indexed.arrivals.apart)) left_indexed
 
       pub take_items : waiting_under s' (remove by_arrival arrival_rank) ≡ remove (waiting_under s by_arrival) arrival_rank
       take_items =
-          same_under s s' (remove by_arrival arrival_rank) (subst (λ ks. All (λ n. get s' n ≡ get s n) ks) (sym (removed by_arrival arrival_rank key t_in t_is indexed.turns.apart)) (stay_others IsByTaken s s' by_arrival indexed.turns key updates))
-          ∙ remove_under s by_arrival arrival_rank indexed.turns.present t_in
+          same_under s s' (remove by_arrival arrival_rank) (subst (λ ks. All (λ n. get s' n ≡ get s n) ks) (sym (removed by_arrival arrival_rank key t_in t_is indexed.arrivals.apart)) (stay_others IsByTaken s s' by_arrival indexed.arrivals key updates))
+          ∙ remove_under s by_arrival arrival_rank indexed.arrivals.present t_in
 
   -- one that waits for the question goes: the others are the same
   pub others_stay : (q : Question) (i p arrival_rank : ℕ) → IsRange (to_question (question_key q)) s by_question i (suc p) → i ≤ p → arrival_rank < length by_arrival → slice_index by_question p ≡ slice_index by_arrival arrival_rank
       → filter (λ x. not (waits_for q x)) (remove (waiting_under s by_arrival) arrival_rank) ≡ filter (λ x. not (waits_for q x)) (waiting_under s by_arrival)
   others_stay q i p arrival_rank range le t_in one =
-      let a = value_of (get s (slice_index by_arrival arrival_rank)) (indexed.turns.present arrival_rank 0 t_in) in
+      let a = value_of (get s (slice_index by_arrival arrival_rank)) (indexed.arrivals.present arrival_rank 0 t_in) in
       let waits : waits_for q a.0 ≡ true =
       sym (ap (passes (waits_for q)) a.1) ∙ ap (waits_at s q) (sym one) ∙ waits_among s by_question indexed.questions.present q i (suc p) range p le (omega arith) in
-      filter_remove (λ x. not (waits_for q x)) (waiting_under s by_arrival) arrival_rank a.0 (omega (arith, length_under s by_arrival indexed.turns.present))
-      (at_under s by_arrival arrival_rank indexed.turns.present t_in ∙ a.1) (ap not waits)
+      filter_remove (λ x. not (waits_for q x)) (waiting_under s by_arrival) arrival_rank a.0 (omega (arith, length_under s by_arrival indexed.arrivals.present))
+      (at_under s by_arrival arrival_rank indexed.arrivals.present t_in ∙ a.1) (ap not waits)
 
 one_more : (n : ℕ) → nat_lt 0 n ≡ nat_lt 1 (suc n)
 one_more zero = refl
@@ -202,7 +202,7 @@ module _ (s : Slab Waiting) (by_question by_arrival : List ℕ) (indexed : AreIn
   first_stands_at x first key is i j range =
       let some : 0 < length by_arrival = by by_arrival first in
       first_stands s by_question by_arrival indexed x.wanted i j (subst (λ (k : QuestionKey). IsRange (to_question k) s by_question i j) is range) x some
-      (sym (at_under s by_arrival 0 indexed.turns.present some) ∙ first) (waits_itself x)
+      (sym (at_under s by_arrival 0 indexed.arrivals.present some) ∙ first) (waits_itself x)
     where
       by : (keys : List ℕ) → slice_get (waiting_under s keys) 0 ≡ Some x → 0 < length keys
       by [] e = absurd (none-some x e)
@@ -252,8 +252,8 @@ module _ (q : Question) (left : List Waiting) (s : Slab Waiting) (by_question by
     pub newest_in_turn : Contains by_arrival key
     newest_in_turn = subst (Contains by_arrival) stands (key_in_turn s keys by_arrival ending.indexed (place - 1) within)
 
-    pub newest_ends : (s' : Slab Waiting) → Updates s s' key None → (arrival_rank : ℕ) → arrival_rank < length by_arrival → slice_index by_arrival arrival_rank ≡ key → (turns : List ℕ) → turns ≡ remove by_arrival arrival_rank → IsEnding q left s' by_question turns i (place - 1) end
-    newest_ends s' updates arrival_rank t_in t_is turns are =
+    pub newest_ends : (s' : Slab Waiting) → Updates s s' key None → (arrival_rank : ℕ) → arrival_rank < length by_arrival → slice_index by_arrival arrival_rank ≡ key → (arrivals : List ℕ) → arrivals ≡ remove by_arrival arrival_rank → IsEnding q left s' by_question arrivals i (place - 1) end
+    newest_ends s' updates arrival_rank t_in t_is arrivals are =
         let last : place ≡ suc (place - 1) = omega (arith, some) in
         let le : i ≤ place - 1 = omega (arith, some) in
         let range : IsRange (to_question (question_key q)) s keys i (suc (place - 1)) = subst (λ (n : ℕ). IsRange (to_question (question_key q)) s keys i n) last ending.range in

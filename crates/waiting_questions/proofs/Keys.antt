@@ -102,7 +102,7 @@ module _ (L : Waiting → Waiting → Type 0) (s s' : Slab Waiting) (keys : List
   same_new b e = same_Some x b (sym updates.changed ∙ e)
 
   pub keys_put : (i : ℕ) → i ≤ length keys → All (λ j. (a : Waiting) → get s j ≡ Some a → L a x) (take i keys) → All (λ j. (a : Waiting) → get s j ≡ Some a → L x a) (drop i keys) → AreKeys L s' (insert keys i key)
-  keys_put i within before behind =
+  keys_put i within before later =
       let Present : ℕ → Type 0 = λ j. IsSome (get s' j) in
       let Kept : ℕ → Type 0 = λ j. get s' j ≡ get s j in
       let Ordered : ℕ → ℕ → Type 0 = λ j k. (a b : Waiting) → get s' j ≡ Some a → get s' k ≡ Some b → L a b in
@@ -110,7 +110,7 @@ module _ (L : Waiting → Waiting → Type 0) (s s' : Slab Waiting) (keys : List
       let low : All (λ j. Ordered j key) (take i keys) =
       λ j d less a b e f. subst (λ y. L a y) (same_new b f) (before j d less a (sym (All-take Kept i keys stay j d less) ∙ e)) in
       let high : All (λ j. Ordered key j) (drop i keys) =
-      λ j d less a b e f. subst (λ y. L y b) (same_new a e) (behind j d less b (sym (All-drop Kept i keys stay j d less) ∙ f)) in
+      λ j d less a b e f. subst (λ y. L y b) (same_new a e) (later j d less b (sym (All-drop Kept i keys stay j d less) ∙ f)) in
       record {
         present = all_insert Present keys i key (is_some_of (get s' key) x updates.changed) (λ j d less. subst (λ o. IsSome o) (sym (stay j d less)) (are.present j d less));
         apart = pairs_insert (λ j k. j ≢ k) keys i key within are.apart (All-take (λ j. j ≢ key) i keys not_among) (λ j d less same. All-drop (λ j. j ≢ key) i keys not_among j d less (sym same));

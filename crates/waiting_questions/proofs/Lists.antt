@@ -20,13 +20,13 @@ module _ {X : Type 0} where
 
   -- an element between those that it may follow and those that may follow it
   pub pairs_insert : (R : X → X → Type 0) (xs : List X) (i : ℕ) (y : X) → i ≤ length xs → AllPairs R xs → All (λ x. R x y) (take i xs) → All (R y) (drop i xs) → AllPairs R (insert xs i y)
-  pairs_insert R xs zero y within all before behind = AllPairs-cons R y xs behind all
-  pairs_insert R [] (suc i) y within all before behind = absurd (omega arith)
-  pairs_insert R (x ∷ xs) (suc i) y within all before behind =
+  pairs_insert R xs zero y within all before later = AllPairs-cons R y xs later all
+  pairs_insert R [] (suc i) y within all before later = absurd (omega arith)
+  pairs_insert R (x ∷ xs) (suc i) y within all before later =
       let here = pairs_head R x xs all in
       AllPairs-cons R x (insert xs i y)
       (All-append (R x) (take i xs) (y ∷ drop i xs) (All-take (R x) i xs here) (All-cons (R x) y (drop i xs) (All-head (λ z. R z y) x (take i xs) before) (All-drop (R x) i xs here)))
-      (pairs_insert R xs i y (omega arith) (pairs_tail R x xs all) (All-tail (λ z. R z y) x (take i xs) before) behind)
+      (pairs_insert R xs i y (omega arith) (pairs_tail R x xs all) (All-tail (λ z. R z y) x (take i xs) before) later)
 
   pub all_insert : (P : X → Type 0) (xs : List X) (i : ℕ) (y : X) → P y → All P xs → All P (insert xs i y)
   all_insert P xs i y new all = All-append P (take i xs) (y ∷ drop i xs) (All-take P i xs all) (All-cons P y (drop i xs) new (All-drop P i xs all))
@@ -82,13 +82,13 @@ module _ {X : Type 0} where
   -- those that pass are from place i up to place j
   pub filter_between : (p : X → Bool) (xs : List X) (i j : ℕ) (d : X) → i ≤ j → j ≤ length xs → ((k : ℕ) → k < i → p (slice_index_or xs k d) ≡ false) → ((k : ℕ) → i ≤ k → k < j → p (slice_index_or xs k d) ≡ true)
       → ((k : ℕ) → j ≤ k → k < length xs → p (slice_index_or xs k d) ≡ false) → filter p xs ≡ between i j xs
-  filter_between p xs i j d low high before among behind =
+  filter_between p xs i j d low high before among later =
       let front : filter p (take i xs) ≡ [] =
       filter_none p (take i xs) (All-from_get_or (λ x. p x ≡ false) (take i xs) d (λ k within. let less : k < i = omega (arith, length-take i xs) in ap p (get_or-take i xs k d less) ∙ before k less)) in
       let middle : filter p (between i j xs) ≡ between i j xs =
       filter_all p (between i j xs) (All-from_get_or (λ x. p x ≡ true) (between i j xs) d (λ k within. let less : i + k < j = omega (arith, length-between xs i j high) in ap p (get_or-between xs i j k d less) ∙ among (i + k) (omega arith) less)) in
       let back : filter p (drop j xs) ≡ [] =
-      filter_none p (drop j xs) (All-from_get_or (λ x. p x ≡ false) (drop j xs) d (λ k within. ap p (get_or-drop j xs k d) ∙ behind (j + k) (omega arith) (omega (arith, length-drop j xs)))) in
+      filter_none p (drop j xs) (All-from_get_or (λ x. p x ≡ false) (drop j xs) d (λ k within. ap p (get_or-drop j xs k d) ∙ later (j + k) (omega arith) (omega (arith, length-drop j xs)))) in
       ap (filter p) (split_between xs i j low)
       ∙ filter-append p (take i xs) (between i j xs ++ drop j xs)
       ∙ ap (λ ys. ys ++ filter p (between i j xs ++ drop j xs)) front

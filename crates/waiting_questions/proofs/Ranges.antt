@@ -96,7 +96,7 @@ module _ (s : Slab Waiting) (keys : List ℕ) (are : AreKeys IsByQuestion s keys
     high = j_in;
     before = λ k a less e. at (slice_index keys k) a e ∙ less_from (told (slice_index keys k)) (lower.0 k 0 (omega arith) less);
     among = λ k a from less e. at (slice_index keys k) a e ∙ equal_from (told (slice_index keys k)) (lower.1 k 0 from (omega (arith, j_in))) (upper.0 k 0 (omega arith) less);
-    behind = λ k a from within e. at (slice_index keys k) a e ∙ greater_from (told (slice_index keys k)) (upper.1 k 0 from within);
+    later = λ k a from within e. at (slice_index keys k) a e ∙ greater_from (told (slice_index keys k)) (upper.1 k 0 from within);
   }
     where
       by : (j < i) ⊎ (i ≤ j) → i ≤ j
@@ -106,14 +106,14 @@ module _ (s : Slab Waiting) (keys : List ℕ) (are : AreKeys IsByQuestion s keys
   -- the first that comes after what is sought
   pub ends_at : (j : ℕ) → j < length keys → ((k : ℕ) → k < j → is_le (told (slice_index keys k)) ≡ true) → is_le (told (slice_index keys j)) ≡ false
       → IsPartitionPoint (λ key. is_le (told key) ≡ true) (λ key. is_le (told key) ≡ false) keys j
-  ends_at j j_in before behind = (
+  ends_at j j_in before later = (
     (λ k d from less. ap (λ key. is_le (told key)) (get_or_default keys k d 0 (omega (arith, less, j_in))) ∙ before k less),
     (λ k d from within. by k d from within (is_le (told (slice_index_or keys k d))) refl),
   )
     where
       by : (k d : ℕ) → j ≤ k → k < length keys → (b : Bool) → is_le (told (slice_index_or keys k d)) ≡ b → is_le (told (slice_index_or keys k d)) ≡ false
       by k d from within false e = e
-      by k d from within true e = absurd (false≢true (sym (ap (λ key. is_le (told key)) (get_or_default keys j d 0 j_in) ∙ behind) ∙ upper_parted j k d from within e))
+      by k d from within true e = absurd (false≢true (sym (ap (λ key. is_le (told key)) (get_or_default keys j d 0 j_in) ∙ later) ∙ upper_parted j k d from within e))
 
   -- those that are no earlier, and no later, up to here
   pub not_behind : (i : ℕ) → ((k : ℕ) → k < i → is_lt (told (slice_index keys k)) ≡ true) → (k : ℕ) → k < i → is_le (told (slice_index keys k)) ≡ true
@@ -148,7 +148,7 @@ module _ (s : Slab Waiting) (keys : List ℕ) (present : ArePresent s keys) (q :
       filter_between (waits_at s q) keys i j 0 range.low range.high
       (λ k less. test k Less (omega (arith, range.low, range.high)) (λ a. range.before k a less))
       waits_among
-      (λ k from within. test k Greater within (λ a. range.behind k a from within))
+      (λ k from within. test k Greater within (λ a. range.later k a from within))
 
 -- ---- one key more
 
@@ -163,7 +163,7 @@ module _ (s : Slab Waiting) (keys : List ℕ) (present : ArePresent s keys) (x :
 
   pub goes_before : (k : ℕ) (a : Waiting) → j ≤ k → k < length keys → get s (slice_index keys k) ≡ Some a → IsByQuestion x a
   goes_before k a from within e is =
-      let o : key_cmp (question_key a.wanted) (question_key x.wanted) ≡ Greater = range.behind k a from within e in
+      let o : key_cmp (question_key a.wanted) (question_key x.wanted) ≡ Greater = range.later k a from within e in
       let back : key_cmp (question_key x.wanted) (question_key a.wanted) ≡ Less = question_keys_are_ordered.antisymm (question_key x.wanted) (question_key a.wanted) ∙ ap ordering_reverse o in
       cc
 
@@ -176,13 +176,13 @@ module _ (s : Slab Waiting) (keys : List ℕ) (present : ArePresent s keys) (x :
           let o : key_cmp (question_key a.wanted) (question_key x.wanted) ≡ Equal = range.among k a from less e in
           let back : key_cmp (question_key x.wanted) (question_key a.wanted) ≡ Equal = question_keys_are_ordered.antisymm (question_key x.wanted) (question_key a.wanted) ∙ ap ordering_reverse o in
           cc
-      by (inr behind) = goes_before k a behind within e is
+      by (inr later) = goes_before k a later within e is
 
   -- none that waits for the same comes after it
   pub none_behind : (q : Question) → waits_for q x ≡ true → (k : ℕ) → j ≤ k → k < length keys → waits_at s q (slice_index keys k) ≡ false
   none_behind q waits k from within =
       let a = value_of (get s (slice_index keys k)) (present k 0 within) in
-      let o : key_cmp (question_key a.0.wanted) (question_key x.wanted) ≡ Greater = range.behind k a.0 from within a.1 in
+      let o : key_cmp (question_key a.0.wanted) (question_key x.wanted) ≡ Greater = range.later k a.0 from within a.1 in
       let same : key_cmp (question_key x.wanted) (question_key q) ≡ Equal = eq_from (key_cmp (question_key x.wanted) (question_key q)) (sym (waits_by_key q x) ∙ waits) in
       ap (passes (waits_for q)) a.1 ∙ waits_by_key q a.0
       ∙ ap is_eq (sym (alike_right question_keys_are_ordered (question_key x.wanted) (question_key q) (question_key a.0.wanted) same) ∙ o)
@@ -215,5 +215,5 @@ range_left L s s' keys f i p are le range updates =
       high = omega (arith, short, range.high);
       before = λ k a less e. range.before k a less (below k a (omega arith) e);
       among = λ k a from less e. range.among k a from (omega arith) (below k a less e);
-      behind = λ k a from within e. range.behind (k + 1) a (omega arith) (omega (arith, short)) (above k a from within e);
+      later = λ k a from within e. range.later (k + 1) a (omega arith) (omega (arith, short)) (above k a from within e);
     }

@@ -68,7 +68,7 @@ module _ (s s' : Slab Waiting) (p t : List ℕ) (indexed : AreIndexed s p t) (ke
   placed_same : (q : Question) → filter (waits_at s' q) (insert p at key) ≡ filter (waits_at s' q) (insert t arrival_rank key)
   placed_same q =
       let p_stay = stay IsByQuestion s s' p indexed.questions key y was updates in
-      let t_stay = stay IsByTaken s s' t indexed.turns key y was updates in
+      let t_stay = stay IsByTaken s s' t indexed.arrivals key y was updates in
       let alike : (keys : List ℕ) → All (λ n. get s' n ≡ get s n) keys → filter (waits_at s' q) keys ≡ filter (waits_at s q) keys =
       λ keys stays. filter_alike (waits_at s' q) (waits_at s q) keys (λ k d less. ap (passes (waits_for q)) (stays k d less)) in
       let all : filter (waits_at s' q) p ≡ filter (waits_at s' q) t = alike p p_stay ∙ indexed.same q ∙ sym (alike t t_stay) in
@@ -92,9 +92,9 @@ module _ (s s' : Slab Waiting) (p t : List ℕ) (indexed : AreIndexed s p t) (ke
           ∙ sym (filter_insert_at (waits_at s' q) t arrival_rank key passed)
 
   pub placed_indexed : All (λ n. (a : Waiting) → get s n ≡ Some a → a.taken ≤ y.taken) (take arrival_rank t) → All (λ n. (a : Waiting) → get s n ≡ Some a → y.taken ≤ a.taken) (drop arrival_rank t) → AreIndexed s' (insert p at key) (insert t arrival_rank key)
-  placed_indexed before behind = record {
+  placed_indexed before later = record {
     questions = placed_questions;
-    turns = keys_put IsByTaken s s' t indexed.turns key y was updates arrival_rank arrival_rank_in before behind;
+    arrivals = keys_put IsByTaken s s' t indexed.arrivals key y was updates arrival_rank arrival_rank_in before later;
     same = placed_same;
   }
 
@@ -149,13 +149,13 @@ module _ (s s1 : Slab Waiting) (p t : List ℕ) (indexed : AreIndexed s p t) (ke
       before : All (λ n. (a : Waiting) → get s1 n ≡ Some a → a.taken ≤ y.taken) (take arrival_rank t)
       before = All-from_get_or (λ n. (a : Waiting) → get s1 n ≡ Some a → a.taken ≤ y.taken) (take arrival_rank t) 0 (λ k within a e.
           let less : k < arrival_rank = omega (arith, within, length-take arrival_rank t) in
-          let old : a.taken ≤ x.taken = indexed.turns.in_order k arrival_rank 0 less t_in a x (was_there (slice_index t k) a (sym (ap (get s1) (get_or-take arrival_rank t k 0 less)) ∙ e)) its_own in
+          let old : a.taken ≤ x.taken = indexed.arrivals.in_order k arrival_rank 0 less t_in a x (was_there (slice_index t k) a (sym (ap (get s1) (get_or-take arrival_rank t k 0 less)) ∙ e)) its_own in
           omega (arith, old, taken))
 
-      behind : All (λ n. (a : Waiting) → get s1 n ≡ Some a → y.taken ≤ a.taken) (drop (suc arrival_rank) t)
-      behind = All-from_get_or (λ n. (a : Waiting) → get s1 n ≡ Some a → y.taken ≤ a.taken) (drop (suc arrival_rank) t) 0 (λ k within a e.
+      later : All (λ n. (a : Waiting) → get s1 n ≡ Some a → y.taken ≤ a.taken) (drop (suc arrival_rank) t)
+      later = All-from_get_or (λ n. (a : Waiting) → get s1 n ≡ Some a → y.taken ≤ a.taken) (drop (suc arrival_rank) t) 0 (λ k within a e.
           let inside : suc arrival_rank + k < length t = omega (arith, within, length-drop (suc arrival_rank) t) in
-          let old : x.taken ≤ a.taken = indexed.turns.in_order arrival_rank (suc arrival_rank + k) 0 (omega arith) inside x a its_own (was_there (slice_index t (suc arrival_rank + k)) a (sym (ap (get s1) (get_or-drop (suc arrival_rank) t k 0)) ∙ e)) in
+          let old : x.taken ≤ a.taken = indexed.arrivals.in_order arrival_rank (suc arrival_rank + k) 0 (omega arith) inside x a its_own (was_there (slice_index t (suc arrival_rank + k)) a (sym (ap (get s1) (get_or-drop (suc arrival_rank) t k 0)) ∙ e)) in
           omega (arith, old, taken))
 
       its_place : at ≡ i + earlier (waits_at s1 y.wanted) (remove t arrival_rank) arrival_rank
@@ -172,7 +172,7 @@ module _ (s s1 : Slab Waiting) (p t : List ℕ) (indexed : AreIndexed s p t) (ke
           subst (λ (ts : List ℕ). AreIndexed s' (insert (remove p place) at key) ts) (put_back t arrival_rank key t_in t_is)
           (placed_indexed s1 s' (remove p place) (remove t arrival_rank) taken_out key y gone.changed put i j range arrival_rank at arrival_rank_in its_place
           (subst (All (λ n. (a : Waiting) → get s1 n ≡ Some a → a.taken ≤ y.taken)) (sym (front_stays t arrival_rank)) before)
-          (subst (All (λ n. (a : Waiting) → get s1 n ≡ Some a → y.taken ≤ a.taken)) (sym (back_stays t arrival_rank)) behind))
+          (subst (All (λ n. (a : Waiting) → get s1 n ≡ Some a → y.taken ≤ a.taken)) (sym (back_stays t arrival_rank)) later))
 
       pub sent_items : waiting_under s' t ≡ with_at (waiting_under s t) arrival_rank (Some y)
-      sent_items = changed_under s s' key y t arrival_rank indexed.turns.present indexed.turns.apart t_in t_is put.changed (λ n other. put.others n other ∙ gone.others n other)
+      sent_items = changed_under s s' key y t arrival_rank indexed.arrivals.present indexed.arrivals.apart t_in t_is put.changed (λ n other. put.others n other ∙ gone.others n other)

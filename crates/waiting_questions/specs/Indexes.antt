@@ -65,7 +65,7 @@ AreNumbered s items = All (λ item. (a : Waiting) → get s item.key ≡ Some a
 -- both lists have equal keys; the keys of one question are in the order of arrival in both
 pub record AreIndexed (s : Slab Waiting) (by_question by_arrival : List ℕ) : Type 0 where
   pub questions : AreKeys IsByQuestion s by_question
-  pub turns : AreKeys IsByTaken s by_arrival
+  pub arrivals : AreKeys IsByTaken s by_arrival
   pub same : (q : Question) → filter (λ key. passes (waits_for q) (get s key)) by_question
       ≡ filter (λ key. passes (waits_for q) (get s key)) by_arrival
 
@@ -81,7 +81,7 @@ pub record IsRange (f : Waiting → Ordering) (s : Slab Waiting) (keys : List �
   pub high : j ≤ length keys
   pub before : (k : ℕ) (a : Waiting) → k < i → get s (slice_index keys k) ≡ Some a → f a ≡ Less
   pub among : (k : ℕ) (a : Waiting) → i ≤ k → k < j → get s (slice_index keys k) ≡ Some a → f a ≡ Equal
-  pub behind : (k : ℕ) (a : Waiting) → j ≤ k → k < length keys → get s (slice_index keys k) ≡ Some a → f a ≡ Greater
+  pub later : (k : ℕ) (a : Waiting) → j ≤ k → k < length keys → get s (slice_index keys k) ≡ Some a → f a ≡ Greater
 
 -- a question waits under each key from place i up to place j
 pub record ArePlaces (s : Slab Waiting) (items : List NumberedKey) (start end : ℕ) : Type 0 where

@@ -32,8 +32,8 @@ pub(crate) fn range_of<A: Allocator>(
     (start, end_from(waiting, keys, question, start))
 }
 
-/// The place of the question with this turn in a range that is in the order of turns: after all
-/// questions with earlier turns. A binary search.
+/// The place of the question with this arrival rank in a range in order of arrival: after all
+/// earlier questions. A binary search.
 pub(crate) fn place_by_arrival<A: Allocator>(
     keys: &VecDeque<NumberedKey, A>,
     by_arrival: &ArrivalOrder<A>,

@@ -106,7 +106,7 @@ impl<A: Allocator> Table<A> {
         self.by_arrival.put(key);
     }
 
-    /// Removes the question whose key is at this place in the order of questions, and at this turn.
+    /// Removes the question whose key is at this place in the order of questions, and at this rank.
     pub(crate) fn take(&mut self, place: usize, arrival_rank: usize)
         requires indexed { IsIndexed self.old }
         requires place { place < length self.old.by_question.items }
@@ -168,7 +168,7 @@ impl<A: Allocator> Table<A> {
     }
 
     /// Redirects or removes the question whose key is at this place in the order of questions, and
-    /// at this turn.
+    /// at this arrival rank.
     fn settle_one(&mut self, place: usize, arrival_rank: usize, fate: Option<Onward<A>>)
         requires indexed { IsIndexed self.old }
         requires place { place < length self.old.by_question.items }
@@ -186,7 +186,7 @@ impl<A: Allocator> Table<A> {
     }
 
     /// Redirects the question whose key is at this place in the order of questions, and at this
-    /// turn, which stays.
+    /// arrival rank, which stays.
     fn send_on(&mut self, place: usize, arrival_rank: usize, onward: Onward<A>)
         requires indexed { IsIndexed self.old }
         requires place { place < length self.old.by_question.items }

@@ -53,8 +53,8 @@ impl<'a> Request<'a> {
         }
     }
 
-    /// Copies the request into a `Waiting`. With `redirected` the copy waits for this question instead
-    /// of its own.
+    /// Copies the request into a `Waiting`. With `redirected` the copy waits for this question
+    /// instead of its own.
     pub fn to_waiting<A: Allocator>(
         &self,
         alloc: A,

@@ -24,7 +24,7 @@ has_no_address : IsNoDataAt (coded 0 []) 0 a (no_address a)
 has_no_address = record {
   other = λ is. omega (arith, is);
   nothing = nothing_at_a 0;
-  told = told_by_a 0 [];
+  stated = told_by_a 0 [];
   owner = refl;
   kind_is = refl;
   soa = None;

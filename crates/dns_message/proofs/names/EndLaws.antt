@@ -2,7 +2,7 @@
 use Rattle.std.proofs.Common.{◌≡◌, ℕ, ◌+◌, ◌<◌, ◌≤◌, List, [], ◌∷◌, length, get_or, Result, Ok, Err, refl, ap, subst, ◌∙◌, arith}
 use Rattle.std.specs.Prelude.{IsOk}
 use Rattle.dns_message.specs.declared.names.fault.Fault.{Fault}
-use Rattle.dns_message.specs.Reading.{behind}
+use Rattle.dns_message.specs.Reading.{end_read}
 use Rattle.dns_message.specs.Names.{NameAt, at_root, at_label, at_pointer, name_at}
 use Rattle.dns_message.proofs.names.NameLaws.{name_sound}
 
@@ -12,10 +12,10 @@ pub record GoesOn (bytes : List ℕ) (f o : ℕ) : Type 0 where
   pub labels : List (List ℕ)
   pub e : ℕ
   pub at : NameAt bytes o f labels e
-  pub ends : behind (name_at bytes f) ≡ Ok e
+  pub ends : end_read (name_at bytes f) ≡ Ok e
 
 begins_by : (bytes : List ℕ) (f : ℕ) (r : Result (List (List ℕ) × ℕ) Fault) → name_at bytes f ≡ r → IsOk r → GoesOn bytes f f
-begins_by bytes f (Ok n) is ok = record { labels = n.0; e = n.1; at = (name_sound bytes f n.0 n.1 is).0; ends = ap behind is }
+begins_by bytes f (Ok n) is ok = record { labels = n.0; e = n.1; at = (name_sound bytes f n.0 n.1 is).0; ends = ap end_read is }
 begins_by bytes f (Err fault) is ok = absurd cc
 
 pub name_begins : (bytes : List ℕ) (f : ℕ) → IsOk (name_at bytes f) → GoesOn bytes f f
@@ -24,11 +24,11 @@ name_begins bytes f ok = begins_by bytes f (name_at bytes f) refl ok
 -- the octet at a place of a name's own octets, and where the name ends by it
 pub record Stands (bytes : List ℕ) (f o : ℕ) : Type 0 where
   pub there : o < length bytes
-  pub zero_octet : get_or bytes o 0 ≡ 0 → behind (name_at bytes f) ≡ Ok (o + 1)
-  pub pointer : 192 ≤ get_or bytes o 0 → behind (name_at bytes f) ≡ Ok (o + 2)
+  pub zero_octet : get_or bytes o 0 ≡ 0 → end_read (name_at bytes f) ≡ Ok (o + 1)
+  pub pointer : 192 ≤ get_or bytes o 0 → end_read (name_at bytes f) ≡ Ok (o + 2)
   pub label : 0 < get_or bytes o 0 → get_or bytes o 0 < 192 → GoesOn bytes f (o + (get_or bytes o 0 + 1))
 
-stands_by : (bytes : List ℕ) (f o e : ℕ) (ls : List (List ℕ)) → NameAt bytes o f ls e → behind (name_at bytes f) ≡ Ok e → Stands bytes f o
+stands_by : (bytes : List ℕ) (f o e : ℕ) (ls : List (List ℕ)) → NameAt bytes o f ls e → end_read (name_at bytes f) ≡ Ok e → Stands bytes f o
 stands_by bytes f o e [] (at_root inside none here) ends =
     record {
       there = inside;

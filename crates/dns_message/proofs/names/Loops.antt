@@ -3,7 +3,7 @@ use Rattle.std.proofs.Common.{◌≡◌, ℕ, List, [], ◌∷◌, ◌++◌, map
 use Rattle.std.specs.Char.{to_ascii_lowercase}
 use Rattle.dns_name.specs.Labels.{IsSame}
 use Rattle.dns_message.specs.declared.names.fault.Fault.{Fault}
-use Rattle.dns_message.specs.Reading.{behind}
+use Rattle.dns_message.specs.Reading.{end_read}
 use Rattle.dns_message.specs.Names.{with_label, NameIs}
 use Rattle.dns_message.specs.Runs.{with_front}
 
@@ -15,7 +15,7 @@ pub front_none : (r : Result (List (List ℕ) × ℕ) Fault) → with_front [] r
 front_none (Ok n) = refl
 front_none (Err fault) = refl
 
-pub behind_label : (l : List ℕ) (r : Result (List (List ℕ) × ℕ) Fault) → behind (with_label l r) ≡ behind r
+pub behind_label : (l : List ℕ) (r : Result (List (List ℕ) × ℕ) Fault) → end_read (with_label l r) ≡ end_read r
 behind_label l (Ok n) = refl
 behind_label l (Err fault) = refl
 

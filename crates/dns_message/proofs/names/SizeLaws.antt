@@ -10,9 +10,9 @@ use Rattle.dns_message.specs.declared.names.fault.Fault.TheVariants.{NameLong}
 use Rattle.dns_message.specs.declared.names.walk.NameOctet.TheVariants as steps
 use Rattle.dns_message.specs.declared.names.walk.Bound.{Bound}
 use Rattle.dns_message.specs.declared.names.walk.NameCursor.{NameCursor}
-use Rattle.dns_message.specs.Reading.{behind}
-use Rattle.dns_message.specs.Names.{target, NameAt, at_root, at_label, at_pointer, step, with_label, ending, walk_in, steps_left, whole, end_of, resume, behind_labels}
-use Rattle.dns_message.specs.Sizes.{size_read, size_behind, AreSizes}
+use Rattle.dns_message.specs.Reading.{end_read}
+use Rattle.dns_message.specs.Names.{target, NameAt, at_root, at_label, at_pointer, step, with_label, ending, walk_in, steps_left, whole, end_of, resume, after_labels}
+use Rattle.dns_message.specs.Sizes.{size_read, size_after, AreSizes}
 use Rattle.dns_message.proofs.names.ShortcutLaws.{get_or-zeros}
 use Rattle.dns_message.proofs.names.Loops.{behind_label}
 use Rattle.dns_message.proofs.names.NameLaws.{did, takes_label, resume_fault, resume_end, resume_label, resume_pointer, ends_after, some_size, length_step, back_step, long_step, complete, sound}
@@ -41,8 +41,8 @@ size_of_end (Some e) (Ok n) = refl
 size_of_end (Some e) (Err fault) = refl
 
 -- what is left from a pointer's target on
-pub size_from : (bytes : List ℕ) (p used : ℕ) (end : Option ℕ) → size_read (resume bytes (record { offset = p; run = p; used = used; bound = whole bytes; end = end })) ≡ size_behind bytes p used
-unfolding resume size_behind
+pub size_from : (bytes : List ℕ) (p used : ℕ) (end : Option ℕ) → size_read (resume bytes (record { offset = p; run = p; used = used; bound = whole bytes; end = end })) ≡ size_after bytes p used
+unfolding resume size_after
 size_from bytes p used end = size_of_end end (walk_in (steps_left p used) bytes (whole bytes) p p used)
 
 -- ---- a name that is known, after labels
@@ -81,19 +81,19 @@ sized_by bytes o f used size (Ok n) room read is =
     record { labels = n.0; e = n.1; at = h.0; is = same; fits = omega (arith, h.1, same) }
 sized_by bytes o f used size (Err fault) room read is = absurd cc
 
-pub sized : (bytes : List ℕ) (o used size : ℕ) → used ≤ 254 → size_behind bytes o used ≡ Ok size → Sized bytes o o used size
-unfolding size_behind
+pub sized : (bytes : List ℕ) (o used size : ℕ) → used ≤ 254 → size_after bytes o used ≡ Ok size → Sized bytes o o used size
+unfolding size_after
 sized bytes o used size room is = sized_by bytes o o used size (walk_in (steps_left o used) bytes (whole bytes) o o used) room refl is
 
-pub known_fits : (bytes : List ℕ) (o used size : ℕ) → used ≤ 254 → size_behind bytes o 0 ≡ Ok size → used + size ≤ 255 → size_behind bytes o used ≡ Ok size
-unfolding size_behind
+pub known_fits : (bytes : List ℕ) (o used size : ℕ) → used ≤ 254 → size_after bytes o 0 ≡ Ok size → used + size ≤ 255 → size_after bytes o used ≡ Ok size
+unfolding size_after
 known_fits bytes o used size room known fits =
     let n = sized bytes o 0 size (omega arith) known in
     let read = complete bytes (steps_left o used) (whole bytes) o o used n.e n.labels (ends_after bytes o o n.e n.labels n.at).1 (omega (arith, n.is)) (omega arith) n.at in
     ap size_read read ∙ ap (λ (x : ℕ). Ok x) n.is
 
-pub known_long : (bytes : List ℕ) (o used size : ℕ) → used ≤ 254 → size_behind bytes o 0 ≡ Ok size → 255 < used + size → size_behind bytes o used ≡ Err NameLong
-unfolding size_behind
+pub known_long : (bytes : List ℕ) (o used size : ℕ) → used ≤ 254 → size_after bytes o 0 ≡ Ok size → 255 < used + size → size_after bytes o used ≡ Err NameLong
+unfolding size_after
 known_long bytes o used size room known long =
     let n = sized bytes o 0 size (omega arith) known in
     ap size_read (too_long bytes (steps_left o used) (whole bytes) o o used n.e n.labels (ends_after bytes o o n.e n.labels n.at).1 room (omega (arith, n.is)) (omega arith) n.at)
@@ -107,8 +107,8 @@ later_run bytes o f f' e (l ∷ ls) le (at_label some short inside l-is rest) = 
 later_run bytes o f f' e ls le (at_pointer high inside back rest here) = at_pointer high inside (omega arith) rest here
 
 -- what was sized from a run's front on is sized as a name of its own
-pub size_own : (bytes : List ℕ) (o f used size : ℕ) → f ≤ o → Sized bytes o f used size → size_behind bytes o 0 ≡ Ok size
-unfolding size_behind
+pub size_own : (bytes : List ℕ) (o f used size : ℕ) → f ≤ o → Sized bytes o f used size → size_after bytes o 0 ≡ Ok size
+unfolding size_after
 size_own bytes o f used size le n =
     let own = later_run bytes o f o n.e n.labels le n.at in
     let read = complete bytes (steps_left o 0) (whole bytes) o o 0 n.e n.labels (ends_after bytes o o n.e n.labels own).1 (omega (arith, n.is, n.fits)) (omega arith) own in
@@ -116,15 +116,15 @@ size_own bytes o f used size le n =
 
 -- ---- the table
 
-pub kept : (bytes sizes : List ℕ) (place value : ℕ) → place < length sizes → AreSizes bytes sizes → (0 < value → size_behind bytes place 0 ≡ Ok value) → AreSizes bytes (set sizes place value)
+pub kept : (bytes sizes : List ℕ) (place value : ℕ) → place < length sizes → AreSizes bytes sizes → (0 < value → size_after bytes place 0 ≡ Ok value) → AreSizes bytes (set sizes place value)
 kept bytes sizes place value inside known is o some = ⊎_elim here elsewhere (cases_eq o place)
   where
-    here : o ≡ place → size_behind bytes o 0 ≡ Ok (get_or (set sizes place value) o 0)
+    here : o ≡ place → size_after bytes o 0 ≡ Ok (get_or (set sizes place value) o 0)
     here at =
         let put : get_or (set sizes place value) o 0 ≡ value = get_or-set_at sizes place o value 0 at inside in
         rw (put, at) (is (subst (λ (n : ℕ). 0 < n) put some))
 
-    elsewhere : (o ≡ place → ⊥) → size_behind bytes o 0 ≡ Ok (get_or (set sizes place value) o 0)
+    elsewhere : (o ≡ place → ⊥) → size_after bytes o 0 ≡ Ok (get_or (set sizes place value) o 0)
     elsewhere other =
         let stays : get_or (set sizes place value) o 0 ≡ get_or sizes o 0 = get_or-set_other sizes place o value 0 other in
         rw stays (known o (subst (λ (n : ℕ). 0 < n) stays some))
@@ -135,8 +135,8 @@ kept bytes sizes place value inside known is o some = ⊎_elim here elsewhere (c
 abbrev pub Left : List ℕ → NameCursor → ℕ → Result ℕ Fault → Type 0
 Left bytes w k all = more k (size_read (resume bytes w)) ≡ all
 
-pub left_first : (bytes : List ℕ) (o used k : ℕ) → k ≡ 0 → Left bytes (behind_labels bytes o used) k (size_behind bytes o used)
-left_first bytes o used k none = rw none (more_none (size_read (resume bytes (behind_labels bytes o used))) ∙ size_from bytes o used None)
+pub left_first : (bytes : List ℕ) (o used k : ℕ) → k ≡ 0 → Left bytes (after_labels bytes o used) k (size_after bytes o used)
+left_first bytes o used k none = rw none (more_none (size_read (resume bytes (after_labels bytes o used))) ∙ size_from bytes o used None)
 
 pub left_fault : (bytes : List ℕ) (w : NameCursor) (k : ℕ) (all : Result ℕ Fault) (fault : Fault) → w.used ≤ 254 → step bytes w.bound w.offset w.run w.used ≡ Err fault → Left bytes w k all → all ≡ Err fault
 left_fault bytes w k all fault room is left = sym left ∙ ap (λ (r : Result (List (List ℕ) × ℕ) Fault). more k (size_read r)) (resume_fault bytes w fault room is)
@@ -156,25 +156,25 @@ left_label bytes w len k j all room stop is so left =
     ap size_read (resume_label bytes w len room is) ∙ size_of_label label (resume bytes after) ∙ ap (λ (n : ℕ). more (n + 1) (size_read (resume bytes after))) long in
     rw so (sym (more_again k (len + 1) (size_read (resume bytes after))) ∙ ap (more k) (sym on) ∙ left)
 
-left_at : (bytes : List ℕ) (w : NameCursor) (p : ℕ) → w.used ≤ 254 → step bytes w.bound w.offset w.run w.used ≡ did (steps.Pointer p) → size_read (resume bytes w) ≡ size_behind bytes p w.used
+left_at : (bytes : List ℕ) (w : NameCursor) (p : ℕ) → w.used ≤ 254 → step bytes w.bound w.offset w.run w.used ≡ did (steps.Pointer p) → size_read (resume bytes w) ≡ size_after bytes p w.used
 left_at bytes w p room is = ap size_read (resume_pointer bytes w p room is) ∙ size_from bytes p w.used (Some (unwrap_or w.end (w.offset + 2)))
 
-pub left_pointer : (bytes : List ℕ) (w : NameCursor) (p k : ℕ) (all : Result ℕ Fault) → w.used ≤ 254 → step bytes w.bound w.offset w.run w.used ≡ did (steps.Pointer p) → Left bytes w k all → Left bytes (behind_labels bytes p w.used) k all
+pub left_pointer : (bytes : List ℕ) (w : NameCursor) (p k : ℕ) (all : Result ℕ Fault) → w.used ≤ 254 → step bytes w.bound w.offset w.run w.used ≡ did (steps.Pointer p) → Left bytes w k all → Left bytes (after_labels bytes p w.used) k all
 left_pointer bytes w p k all room is left = ap (more k) (size_from bytes p w.used None ∙ sym (left_at bytes w p room is)) ∙ left
 
-pub left_known : (bytes : List ℕ) (w : NameCursor) (p known k size : ℕ) (all : Result ℕ Fault) → w.used ≤ 254 → step bytes w.bound w.offset w.run w.used ≡ did (steps.Pointer p) → size_behind bytes p 0 ≡ Ok known → w.used + known ≤ 255 → size ≡ k + known
+pub left_known : (bytes : List ℕ) (w : NameCursor) (p known k size : ℕ) (all : Result ℕ Fault) → w.used ≤ 254 → step bytes w.bound w.offset w.run w.used ≡ did (steps.Pointer p) → size_after bytes p 0 ≡ Ok known → w.used + known ≤ 255 → size ≡ k + known
     → Left bytes w k all → all ≡ Ok size
 left_known bytes w p known k size all room is so fits sum left =
     sym left ∙ ap (more k) (left_at bytes w p room is ∙ known_fits bytes p w.used known room so fits) ∙ ap (λ (n : ℕ). Ok n) (sym sum)
 
-pub left_long : (bytes : List ℕ) (w : NameCursor) (p known k : ℕ) (all : Result ℕ Fault) → w.used ≤ 254 → step bytes w.bound w.offset w.run w.used ≡ did (steps.Pointer p) → size_behind bytes p 0 ≡ Ok known → 255 < w.used + known
+pub left_long : (bytes : List ℕ) (w : NameCursor) (p known k : ℕ) (all : Result ℕ Fault) → w.used ≤ 254 → step bytes w.bound w.offset w.run w.used ≡ did (steps.Pointer p) → size_after bytes p 0 ≡ Ok known → 255 < w.used + known
     → Left bytes w k all → all ≡ Err NameLong
 left_long bytes w p known k all room is so long left =
     sym left ∙ ap (more k) (left_at bytes w p room is ∙ known_long bytes p w.used known room so long)
 
 -- the place of a walk has what is left, as a name of its own
 pub record Here (bytes : List ℕ) (o used size : ℕ) : Type 0 where
-  pub own : size_behind bytes o 0 ≡ Ok (size - used)
+  pub own : size_after bytes o 0 ≡ Ok (size - used)
   pub short : size ≤ 255
   pub some : used < size
 
@@ -199,56 +199,56 @@ left_here bytes w size bound back room left =
 
 -- ---- a name that is skipped
 
-pub skipped : (r : Result (List (List ℕ) × ℕ) Fault) (e size : ℕ) → size_read r ≡ Ok size → behind (ending e r) ≡ Ok e
+pub skipped : (r : Result (List (List ℕ) × ℕ) Fault) (e size : ℕ) → size_read r ≡ Ok size → end_read (ending e r) ≡ Ok e
 skipped (Ok n) e size is = refl
 skipped (Err fault) e size is = absurd cc
 
-pub not_skipped : (r : Result (List (List ℕ) × ℕ) Fault) (e : ℕ) (fault : Fault) → size_read r ≡ Err fault → behind (ending e r) ≡ Err fault
+pub not_skipped : (r : Result (List (List ℕ) × ℕ) Fault) (e : ℕ) (fault : Fault) → size_read r ≡ Err fault → end_read (ending e r) ≡ Err fault
 not_skipped (Ok n) e fault is = absurd cc
 not_skipped (Err other) e fault is = cc
 
 -- after what was read so far, the name ends here
 abbrev pub Skips : List ℕ → NameCursor → Result ℕ Fault → Type 0
-Skips bytes w all = behind (resume bytes w) ≡ all
+Skips bytes w all = end_read (resume bytes w) ≡ all
 
 pub skip_fault : (bytes : List ℕ) (w : NameCursor) (fault : Fault) (all : Result ℕ Fault) → w.used ≤ 254 → step bytes w.bound w.offset w.run w.used ≡ Err fault → Skips bytes w all → Err fault ≡ all
-skip_fault bytes w fault all room is read = sym (ap behind (resume_fault bytes w fault room is)) ∙ read
+skip_fault bytes w fault all room is read = sym (ap end_read (resume_fault bytes w fault room is)) ∙ read
 
 pub skip_end : (bytes : List ℕ) (w : NameCursor) (all : Result ℕ Fault) → w.used ≤ 254 → w.end ≡ None → step bytes w.bound w.offset w.run w.used ≡ did steps.End → Skips bytes w all → Ok (w.offset + 1) ≡ all
 skip_end bytes w all room own is read =
     let here : unwrap_or w.end (w.offset + 1) ≡ w.offset + 1 = ap (λ (x : Option ℕ). unwrap_or x (w.offset + 1)) own in
-    sym (ap (λ (n : ℕ). Ok n) here) ∙ sym (ap behind (resume_end bytes w room is)) ∙ read
+    sym (ap (λ (n : ℕ). Ok n) here) ∙ sym (ap end_read (resume_end bytes w room is)) ∙ read
 
 pub skip_label : (bytes : List ℕ) (w : NameCursor) (len : ℕ) (all : Result ℕ Fault) → w.used ≤ 254 → step bytes w.bound w.offset w.run w.used ≡ did (steps.Label len) → Skips bytes w all
     → Skips bytes (record { offset = w.offset + 1 + len; run = w.run; used = w.used + len + 1; bound = w.bound; end = w.end }) all
 skip_label bytes w len all room is read =
     let after : NameCursor = record { offset = w.offset + 1 + len; run = w.run; used = w.used + len + 1; bound = w.bound; end = w.end } in
-    sym (ap behind (resume_label bytes w len room is) ∙ behind_label (take len (drop (w.offset + 1) bytes)) (resume bytes after)) ∙ read
+    sym (ap end_read (resume_label bytes w len room is) ∙ behind_label (take len (drop (w.offset + 1) bytes)) (resume bytes after)) ∙ read
 
 skip_at : (bytes : List ℕ) (w : NameCursor) (p : ℕ) → w.used ≤ 254 → w.end ≡ None → step bytes w.bound w.offset w.run w.used ≡ did (steps.Pointer p)
-    → behind (resume bytes w) ≡ behind (ending (w.offset + 2) (walk_in (steps_left p w.used) bytes (whole bytes) p p w.used))
+    → end_read (resume bytes w) ≡ end_read (ending (w.offset + 2) (walk_in (steps_left p w.used) bytes (whole bytes) p p w.used))
 unfolding resume
 skip_at bytes w p room own is =
-    ap behind (resume_pointer bytes w p room is) ∙ ap (λ (x : Option ℕ). behind (ending (unwrap_or x (w.offset + 2)) (walk_in (steps_left p w.used) bytes (whole bytes) p p w.used))) own
+    ap end_read (resume_pointer bytes w p room is) ∙ ap (λ (x : Option ℕ). end_read (ending (unwrap_or x (w.offset + 2)) (walk_in (steps_left p w.used) bytes (whole bytes) p p w.used))) own
 
-pub skip_pointer : (bytes : List ℕ) (w : NameCursor) (p size : ℕ) (all : Result ℕ Fault) → w.used ≤ 254 → w.end ≡ None → step bytes w.bound w.offset w.run w.used ≡ did (steps.Pointer p) → size_behind bytes p w.used ≡ Ok size → Skips bytes w all → Ok (w.offset + 2) ≡ all
-unfolding size_behind
+pub skip_pointer : (bytes : List ℕ) (w : NameCursor) (p size : ℕ) (all : Result ℕ Fault) → w.used ≤ 254 → w.end ≡ None → step bytes w.bound w.offset w.run w.used ≡ did (steps.Pointer p) → size_after bytes p w.used ≡ Ok size → Skips bytes w all → Ok (w.offset + 2) ≡ all
+unfolding size_after
 skip_pointer bytes w p size all room own is sized read =
     sym (skip_at bytes w p room own is ∙ skipped (walk_in (steps_left p w.used) bytes (whole bytes) p p w.used) (w.offset + 2) size sized) ∙ read
 
-pub skip_lost : (bytes : List ℕ) (w : NameCursor) (p : ℕ) (fault : Fault) (all : Result ℕ Fault) → w.used ≤ 254 → w.end ≡ None → step bytes w.bound w.offset w.run w.used ≡ did (steps.Pointer p) → size_behind bytes p w.used ≡ Err fault → Skips bytes w all → Err fault ≡ all
-unfolding size_behind
+pub skip_lost : (bytes : List ℕ) (w : NameCursor) (p : ℕ) (fault : Fault) (all : Result ℕ Fault) → w.used ≤ 254 → w.end ≡ None → step bytes w.bound w.offset w.run w.used ≡ did (steps.Pointer p) → size_after bytes p w.used ≡ Err fault → Skips bytes w all → Err fault ≡ all
+unfolding size_after
 skip_lost bytes w p fault all room own is lost read =
     sym (skip_at bytes w p room own is ∙ not_skipped (walk_in (steps_left p w.used) bytes (whole bytes) p p w.used) (w.offset + 2) fault lost) ∙ read
 
 -- ---- what the table says
 
-pub known_at : (bytes sizes : List ℕ) (o size : ℕ) → AreSizes bytes sizes → (0 < size) × (size ≡ get_or sizes o 0) → size_behind bytes o 0 ≡ Ok size
+pub known_at : (bytes sizes : List ℕ) (o size : ℕ) → AreSizes bytes sizes → (0 < size) × (size ≡ get_or sizes o 0) → size_after bytes o 0 ≡ Ok size
 known_at bytes sizes o size known is =
     let some : 0 < get_or sizes o 0 = omega (arith, is.0, is.1) in
     known o some ∙ ap (λ (n : ℕ). Ok n) (sym is.1)
 
-pub measured : (bytes : List ℕ) (o used size : ℕ) → used ≤ 254 → size_behind bytes o used ≡ Ok size → size_behind bytes o 0 ≡ Ok size
+pub measured : (bytes : List ℕ) (o used size : ℕ) → used ≤ 254 → size_after bytes o used ≡ Ok size → size_after bytes o 0 ≡ Ok size
 measured bytes o used size room is = size_own bytes o o used size (omega arith) (sized bytes o used size room is)
 
 -- nothing is known yet

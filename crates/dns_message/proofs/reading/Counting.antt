@@ -3,7 +3,7 @@ use Rattle.std.proofs.Common.{◌≡◌, ℕ, suc, ◌+◌, ◌-◌, ◌<◌, �
 use Rattle.std.proofs.lemmas.List.{append-nil}
 use Rattle.plain_values.proofs.CallerLemmas.{fault_of_part}
 use Rattle.dns_message.specs.declared.names.fault.Fault.{Fault}
-use Rattle.dns_message.specs.Reading.{◌>>=◌, wants_memory, Fails, behind}
+use Rattle.dns_message.specs.Reading.{◌>>=◌, wants_memory, Fails, end_read}
 use Rattle.dns_message.specs.Records.{with_first, counted}
 
 -- what is left after i of count
@@ -50,26 +50,26 @@ read_done {X = X} front read count i o total le so_far =
 
 -- ---- the same where only the places are kept
 
-keep : {X : Type 0} (x : X) (r : Result (List X × ℕ) Fault) → behind (with_first x r) ≡ behind r
+keep : {X : Type 0} (x : X) (r : Result (List X × ℕ) Fault) → end_read (with_first x r) ≡ end_read r
 keep x (Ok others) = refl
 keep x (Err f) = refl
 
-more_by : {X : Type 0} (r : Result (X × ℕ) Fault) (rest : ℕ → Result (List X × ℕ) Fault) (after : ℕ) → behind r ≡ Ok after → behind (r >>= λ first. with_first first.0 (rest first.1)) ≡ behind (rest after)
-more_by (Ok x) rest after is = let e : x.1 ≡ after = cc in keep x.0 (rest x.1) ∙ ap (λ (e : ℕ). behind (rest e)) e
+more_by : {X : Type 0} (r : Result (X × ℕ) Fault) (rest : ℕ → Result (List X × ℕ) Fault) (after : ℕ) → end_read r ≡ Ok after → end_read (r >>= λ first. with_first first.0 (rest first.1)) ≡ end_read (rest after)
+more_by (Ok x) rest after is = let e : x.1 ≡ after = cc in keep x.0 (rest x.1) ∙ ap (λ (e : ℕ). end_read (rest e)) e
 more_by (Err f) rest after is = absurd cc
 
-fault_by : {X : Type 0} (r : Result (X × ℕ) Fault) (rest : ℕ → Result (List X × ℕ) Fault) (f : Fault) → behind r ≡ Err f → behind (r >>= λ first. with_first first.0 (rest first.1)) ≡ Err f
+fault_by : {X : Type 0} (r : Result (X × ℕ) Fault) (rest : ℕ → Result (List X × ℕ) Fault) (f : Fault) → end_read r ≡ Err f → end_read (r >>= λ first. with_first first.0 (rest first.1)) ≡ Err f
 fault_by (Ok x) rest f is = absurd cc
 fault_by (Err e) rest f is = is
 
-pub skip_more : {X : Type 0} (read : ℕ → Result (X × ℕ) Fault) (count i o after : ℕ) → i < count → behind (read o) ≡ Ok after → behind (counted read (count - i) o) ≡ behind (counted read (count - (i + 1)) after)
+pub skip_more : {X : Type 0} (read : ℕ → Result (X × ℕ) Fault) (count i o after : ℕ) → i < count → end_read (read o) ≡ Ok after → end_read (counted read (count - i) o) ≡ end_read (counted read (count - (i + 1)) after)
 unfolding counted
 skip_more read count i o after lt is = rw (left count i lt) (more_by (read o) (counted read (count - (i + 1))) after is)
 
-pub skip_fault : {X : Type 0} (read : ℕ → Result (X × ℕ) Fault) (count i o : ℕ) (f : Fault) → i < count → behind (read o) ≡ Err f → behind (counted read (count - i) o) ≡ Err f
+pub skip_fault : {X : Type 0} (read : ℕ → Result (X × ℕ) Fault) (count i o : ℕ) (f : Fault) → i < count → end_read (read o) ≡ Err f → end_read (counted read (count - i) o) ≡ Err f
 unfolding counted
 skip_fault read count i o f lt is = rw (left count i lt) (fault_by (read o) (counted read (count - (i + 1))) f is)
 
-pub skip_done : {X : Type 0} (read : ℕ → Result (X × ℕ) Fault) (count i o : ℕ) → count ≤ i → behind (counted read (count - i) o) ≡ Ok o
+pub skip_done : {X : Type 0} (read : ℕ → Result (X × ℕ) Fault) (count i o : ℕ) → count ≤ i → end_read (counted read (count - i) o) ≡ Ok o
 unfolding counted
 skip_done read count i o le = rw (none_left count i le) refl

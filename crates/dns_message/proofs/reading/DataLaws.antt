@@ -6,7 +6,7 @@ use Rattle.plain_values.proofs.CallerLemmas.{fault_of_part}
 use Rattle.dns_message.specs.declared.names.fault.Fault.{Fault}
 use Rattle.dns_message.specs.declared.names.fault.Fault.TheVariants.{Rdata}
 use Rattle.dns_message.specs.declared.reading.shape.Part.{Part}
-use Rattle.dns_message.specs.Reading.{◌>>=◌, wants_memory, Fails, behind}
+use Rattle.dns_message.specs.Reading.{◌>>=◌, wants_memory, Fails, end_read}
 use Rattle.dns_name.specs.Labels.{octets_of, labels_of}
 use Rattle.dns_message.specs.Runs.{Begins}
 use Rattle.dns_message.specs.Names.{inside, skipped}
@@ -80,38 +80,38 @@ read_short front parts i bytes stop o total le other so_far =
 -- ---- parts that are skipped
 
 -- octets that are kept end where octets that are skipped end
-pub octets_behind : (bytes : List ℕ) (stop o count : ℕ) → behind (octets_within bytes stop o count) ≡ skipped (inside stop) o count
+pub octets_behind : (bytes : List ℕ) (stop o count : ℕ) → end_read (octets_within bytes stop o count) ≡ skipped (inside stop) o count
 unfolding octets_within
 octets_behind bytes stop o count = by_test (nat_lt stop (o + count))
   where
-    by_test : (beyond : Bool) → behind (cond beyond (Err Rdata) (Ok (take count (drop o bytes), o + count))) ≡ cond beyond (Err Rdata) (Ok (o + count))
+    by_test : (beyond : Bool) → end_read (cond beyond (Err Rdata) (Ok (take count (drop o bytes), o + count))) ≡ cond beyond (Err Rdata) (Ok (o + count))
     by_test true = refl
     by_test false = refl
 
-pub behind_prefixed : (front : List ℕ) (r : Result (List ℕ × ℕ) Fault) → behind (prefixed front r) ≡ behind r
+pub behind_prefixed : (front : List ℕ) (r : Result (List ℕ × ℕ) Fault) → end_read (prefixed front r) ≡ end_read r
 behind_prefixed front (Ok x) = refl
 behind_prefixed front (Err fault) = refl
 
-skip_by : (r : Result (List ℕ × ℕ) Fault) (rest : ℕ → Result (List ℕ × ℕ) Fault) (after : ℕ) → behind r ≡ Ok after → behind (r >>= λ first. prefixed first.0 (rest first.1)) ≡ behind (rest after)
-skip_by (Ok x) rest after is = let e : x.1 ≡ after = cc in behind_prefixed x.0 (rest x.1) ∙ ap (λ (e : ℕ). behind (rest e)) e
+skip_by : (r : Result (List ℕ × ℕ) Fault) (rest : ℕ → Result (List ℕ × ℕ) Fault) (after : ℕ) → end_read r ≡ Ok after → end_read (r >>= λ first. prefixed first.0 (rest first.1)) ≡ end_read (rest after)
+skip_by (Ok x) rest after is = let e : x.1 ≡ after = cc in behind_prefixed x.0 (rest x.1) ∙ ap (λ (e : ℕ). end_read (rest e)) e
 skip_by (Err fault) rest after is = absurd cc
 
-pub skip_more : (parts : List Part) (i : ℕ) (d : Part) (bytes : List ℕ) (stop o after : ℕ) → i < length parts → behind (part_at (get_or parts i d) bytes stop o) ≡ Ok after
-    → behind (parts_at (drop i parts) bytes stop o) ≡ behind (parts_at (drop (i + 1) parts) bytes stop after)
+pub skip_more : (parts : List Part) (i : ℕ) (d : Part) (bytes : List ℕ) (stop o after : ℕ) → i < length parts → end_read (part_at (get_or parts i d) bytes stop o) ≡ Ok after
+    → end_read (parts_at (drop i parts) bytes stop o) ≡ end_read (parts_at (drop (i + 1) parts) bytes stop after)
 unfolding parts_at
 skip_more parts i d bytes stop o after lt is = rw (drop_more parts i d lt) (skip_by (part_at (get_or parts i d) bytes stop o) (λ e. parts_at (drop (i + 1) parts) bytes stop e) after is)
 
-no_skip : (r : Result (List ℕ × ℕ) Fault) (rest : ℕ → Result (List ℕ × ℕ) Fault) (fault : Fault) → behind r ≡ Err fault → behind (r >>= λ first. prefixed first.0 (rest first.1)) ≡ Err fault
+no_skip : (r : Result (List ℕ × ℕ) Fault) (rest : ℕ → Result (List ℕ × ℕ) Fault) (fault : Fault) → end_read r ≡ Err fault → end_read (r >>= λ first. prefixed first.0 (rest first.1)) ≡ Err fault
 no_skip (Ok x) rest fault is = absurd cc
 no_skip (Err e) rest fault is = is
 
-pub skip_fault : (parts : List Part) (i : ℕ) (d : Part) (bytes : List ℕ) (stop o : ℕ) (fault : Fault) → i < length parts → behind (part_at (get_or parts i d) bytes stop o) ≡ Err fault
-    → behind (parts_at (drop i parts) bytes stop o) ≡ Err fault
+pub skip_fault : (parts : List Part) (i : ℕ) (d : Part) (bytes : List ℕ) (stop o : ℕ) (fault : Fault) → i < length parts → end_read (part_at (get_or parts i d) bytes stop o) ≡ Err fault
+    → end_read (parts_at (drop i parts) bytes stop o) ≡ Err fault
 unfolding parts_at
 skip_fault parts i d bytes stop o fault lt is = rw (drop_more parts i d lt) (no_skip (part_at (get_or parts i d) bytes stop o) (λ e. parts_at (drop (i + 1) parts) bytes stop e) fault is)
 
-pub skip_done : (parts : List Part) (i : ℕ) (bytes : List ℕ) (stop o : ℕ) → length parts ≤ i → o ≡ stop → behind (parts_at (drop i parts) bytes stop o) ≡ Ok o
-skip_done parts i bytes stop o le same = ap behind (parts_full parts i bytes stop o le same)
+pub skip_done : (parts : List Part) (i : ℕ) (bytes : List ℕ) (stop o : ℕ) → length parts ≤ i → o ≡ stop → end_read (parts_at (drop i parts) bytes stop o) ≡ Ok o
+skip_done parts i bytes stop o le same = ap end_read (parts_full parts i bytes stop o le same)
 
-pub skip_short : (parts : List Part) (i : ℕ) (bytes : List ℕ) (stop o : ℕ) → length parts ≤ i → (o ≡ stop → ⊥) → behind (parts_at (drop i parts) bytes stop o) ≡ Err Rdata
-skip_short parts i bytes stop o le other = ap behind (parts_short parts i bytes stop o le other)
+pub skip_short : (parts : List Part) (i : ℕ) (bytes : List ℕ) (stop o : ℕ) → length parts ≤ i → (o ≡ stop → ⊥) → end_read (parts_at (drop i parts) bytes stop o) ≡ Err Rdata
+skip_short parts i bytes stop o le other = ap end_read (parts_short parts i bytes stop o le other)

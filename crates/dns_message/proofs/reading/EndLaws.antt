@@ -2,7 +2,7 @@
 use Rattle.std.proofs.Common.{◌≡◌, ℕ, ◌+◌, ◌≤◌, List, length, Result, Ok, Err, refl, ap, subst, ◌∙◌}
 use Rattle.std.specs.Prelude.{IsOk}
 use Rattle.dns_message.specs.declared.names.fault.Fault.{Fault}
-use Rattle.dns_message.specs.Reading.{behind}
+use Rattle.dns_message.specs.Reading.{end_read}
 use Rattle.dns_message.specs.Numbers.{number16}
 use Rattle.dns_message.specs.Names.{name_at}
 use Rattle.dns_message.proofs.names.NameLaws.{name_complete}
@@ -12,7 +12,7 @@ use Rattle.dns_message.proofs.reading.SpellLaws.{read_as, record_sound}
 
 pub record Ends (bytes : List ℕ) (o after : ℕ) : Type 0 where
   pub there : after + 10 ≤ length bytes
-  pub ends : behind (record_at bytes o) ≡ Ok (after + 10 + number16 bytes (after + 8))
+  pub ends : end_read (record_at bytes o) ≡ Ok (after + 10 + number16 bytes (after + 8))
 
 record OwnerRead (bytes : List ℕ) (o : ℕ) : Type 0 where
   labels : List (List ℕ)
@@ -27,7 +27,7 @@ owner_by bytes o (Ok x) is ok =
       labels = x.0.owner;
       after = at.after;
       read = name_complete bytes o x.0.owner at.after at.owner at.fits;
-      ends = record { there = at.there; ends = ap behind is ∙ ap (λ (e : ℕ). Ok e) at.ends };
+      ends = record { there = at.there; ends = ap end_read is ∙ ap (λ (e : ℕ). Ok e) at.ends };
     }
 owner_by bytes o (Err fault) is ok = absurd cc
 
@@ -38,9 +38,9 @@ owner_read bytes o ok = owner_by bytes o (record_at bytes o) refl ok
 pub owner_readable : (bytes : List ℕ) (o : ℕ) → IsOk (record_at bytes o) → IsOk (name_at bytes o)
 owner_readable bytes o ok = rw (owner_read bytes o ok).read refl
 
-pub record_ends : (bytes : List ℕ) (o after : ℕ) → IsOk (record_at bytes o) → behind (name_at bytes o) ≡ Ok after → Ends bytes o after
+pub record_ends : (bytes : List ℕ) (o after : ℕ) → IsOk (record_at bytes o) → end_read (name_at bytes o) ≡ Ok after → Ends bytes o after
 record_ends bytes o after ok is =
     let own = owner_read bytes o ok in
-    let read = ap behind own.read in
+    let read = ap end_read own.read in
     let same : own.after ≡ after = cc in
     subst (λ (a : ℕ). Ends bytes o a) same own.ends

@@ -3,7 +3,7 @@ use Rattle.std.proofs.Common.{◌≡◌, ℕ, ◌-◌, ◌≤◌, List, length, 
 use Rattle.std.specs.Prelude.{IsOk}
 use Rattle.dns_message.specs.declared.names.fault.Fault.{Fault}
 use Rattle.dns_message.specs.Values.{Question}
-use Rattle.dns_message.specs.Reading.{◌>>=◌, behind}
+use Rattle.dns_message.specs.Reading.{◌>>=◌, end_read}
 use Rattle.dns_message.specs.Numbers.{number16}
 use Rattle.dns_message.specs.Header.{header_in, header_of}
 use Rattle.dns_message.specs.Records.{question_at, record_at, counted}
@@ -11,17 +11,17 @@ use Rattle.dns_message.specs.Messages.{or_short, read_of, message_at, first_ques
 use Rattle.dns_message.proofs.reading.Counting.{skip_more}
 use Rattle.dns_message.proofs.reading.RecordLaws.{behind_bind}
 
-pub question_read : (bytes : List ℕ) (o e : ℕ) → behind (question_at bytes o) ≡ Ok e → IsOk (read_of (question_at bytes o))
+pub question_read : (bytes : List ℕ) (o e : ℕ) → end_read (question_at bytes o) ≡ Ok e → IsOk (read_of (question_at bytes o))
 question_read bytes o e is = by_read (question_at bytes o) is
   where
-    by_read : (r : Result (Question × ℕ) Fault) → behind r ≡ Ok e → IsOk (read_of r)
+    by_read : (r : Result (Question × ℕ) Fault) → end_read r ≡ Ok e → IsOk (read_of r)
     by_read (Ok x) is = refl
     by_read (Err f) is = absurd cc
 
-pub question_fault : (bytes : List ℕ) (o : ℕ) (fault : Fault) → behind (question_at bytes o) ≡ Err fault → read_of (question_at bytes o) ≡ Err fault
+pub question_fault : (bytes : List ℕ) (o : ℕ) (fault : Fault) → end_read (question_at bytes o) ≡ Err fault → read_of (question_at bytes o) ≡ Err fault
 question_fault bytes o fault is = by_read (question_at bytes o) is
   where
-    by_read : (r : Result (Question × ℕ) Fault) → behind r ≡ Err fault → read_of r ≡ Err fault
+    by_read : (r : Result (Question × ℕ) Fault) → end_read r ≡ Err fault → read_of r ≡ Err fault
     by_read (Ok x) is = absurd cc
     by_read (Err f) is = let e : f ≡ fault = cc in cc
 
@@ -31,15 +31,15 @@ header_there : (bytes : List ℕ) → 12 ≤ length bytes → or_short (header_o
 unfolding header_of
 header_there bytes le = grind arith
 
-just : {X : Type 0} (r : Result (X × ℕ) Fault) → (behind r >>= λ e. Ok e) ≡ behind r
+just : {X : Type 0} (r : Result (X × ℕ) Fault) → (end_read r >>= λ e. Ok e) ≡ end_read r
 just (Ok x) = refl
 just (Err f) = refl
 
 pub message_behind : (bytes : List ℕ) → 12 ≤ length bytes
-    → behind (message_at bytes) ≡ (behind (counted (question_at bytes) (number16 bytes 4) 12)
-    >>= λ questions. behind (counted (record_at bytes) (number16 bytes 6) questions)
-    >>= λ answers. behind (counted (record_at bytes) (number16 bytes 8) answers)
-    >>= λ authority. behind (counted (record_at bytes) (number16 bytes 10) authority))
+    → end_read (message_at bytes) ≡ (end_read (counted (question_at bytes) (number16 bytes 4) 12)
+    >>= λ questions. end_read (counted (record_at bytes) (number16 bytes 6) questions)
+    >>= λ answers. end_read (counted (record_at bytes) (number16 bytes 8) answers)
+    >>= λ authority. end_read (counted (record_at bytes) (number16 bytes 10) authority))
 unfolding message_at
 message_behind bytes le =
     rw (header_there bytes le)
@@ -58,7 +58,7 @@ viewed_counts bytes v = let is = v.is in grind (arith, is)
 
 -- where the first question ends, the others begin
 pub others_behind : (bytes : List ℕ) (end : ℕ) → IsViewedTo bytes end
-    → behind (counted (question_at bytes) (number16 bytes 4 - 1) end) ≡ behind (counted (question_at bytes) (number16 bytes 4) 12)
+    → end_read (counted (question_at bytes) (number16 bytes 4 - 1) end) ≡ end_read (counted (question_at bytes) (number16 bytes 4) 12)
 others_behind bytes end view =
     let all : number16 bytes 4 - 0 ≡ number16 bytes 4 = omega arith in
     sym (rw all at (skip_more (question_at bytes) (number16 bytes 4) 0 12 end (viewed_counts bytes view.viewed) view.ends))

@@ -8,7 +8,7 @@ use Rattle.dns_name.specs.Labels.{label_octets, octets_of, size_of, labels_of, I
 use Rattle.dns_name.proofs.CallerLemmas.{labels_of_octets, octets_are_laid_out, octets_joined}
 use Rattle.dns_message.specs.declared.names.fault.Fault.{Fault}
 use Rattle.dns_message.specs.Names.{NameAt, at_root, at_label, at_pointer, name_at}
-use Rattle.dns_message.specs.Reading.{behind}
+use Rattle.dns_message.specs.Reading.{end_read}
 use Rattle.dns_message.proofs.names.NameLaws.{name_sound}
 use Rattle.dns_message.specs.Values.{Question}
 use Rattle.dns_message.specs.Messages.{IsUncompressed, IsViewedTo, first_question}
@@ -26,7 +26,7 @@ pub record GoesOn (bytes : List ℕ) (o p : ℕ) : Type 0 where
   pub after : o ≤ p
   pub octets : take (p - o) (drop o bytes) ≡ octets_of front
 
-begins_by : (bytes : List ℕ) (o e : ℕ) (r : Result (List (List ℕ) × ℕ) Fault) → name_at bytes o ≡ r → behind r ≡ Ok e → GoesOn bytes o o
+begins_by : (bytes : List ℕ) (o e : ℕ) (r : Result (List (List ℕ) × ℕ) Fault) → name_at bytes o ≡ r → end_read r ≡ Ok e → GoesOn bytes o o
 begins_by bytes o e (Ok n) is ends =
     let stands = name_sound bytes o n.0 n.1 is in
     let none : o - o ≡ 0 = omega arith in
@@ -42,7 +42,7 @@ begins_by bytes o e (Ok n) is ends =
     }
 begins_by bytes o e (Err fault) is ends = absurd cc
 
-pub name_begins : (bytes : List ℕ) (o e : ℕ) → behind (name_at bytes o) ≡ Ok e → GoesOn bytes o o
+pub name_begins : (bytes : List ℕ) (o e : ℕ) → end_read (name_at bytes o) ≡ Ok e → GoesOn bytes o o
 name_begins bytes o e ends = begins_by bytes o e (name_at bytes o) refl ends
 
 -- it ends with these octets, and without a pointer
@@ -190,14 +190,14 @@ ends_by bytes o p e front rest (at_pointer {e' = e'} high inside back far here) 
       plain = λ low. let octet = rw two at low (omega (arith, here, le)) in absurd (omega (arith, octet, high));
     }
 
-pub name_ends : (bytes : List ℕ) (o e : ℕ) → behind (name_at bytes o) ≡ Ok e → Ends bytes o e
+pub name_ends : (bytes : List ℕ) (o e : ℕ) → end_read (name_at bytes o) ≡ Ok e → Ends bytes o e
 name_ends bytes o e ends =
     let g = name_begins bytes o e ends in
-    let own = ap behind g.read in
+    let own = ap end_read g.read in
     let same : g.e ≡ e = cc in
     subst (λ (x : ℕ). Ends bytes o x) same (ends_by bytes o o g.e g.front g.rest g.at g.read g.name g.after g.octets)
 
-pub name_lies : (bytes : List ℕ) (o e : ℕ) → behind (name_at bytes o) ≡ Ok e → (o < e) × (e ≤ length bytes)
+pub name_lies : (bytes : List ℕ) (o e : ℕ) → end_read (name_at bytes o) ≡ Ok e → (o < e) × (e ≤ length bytes)
 name_lies bytes o e ends =
     let here = name_ends bytes o e ends in
     (here.some, here.there)
@@ -222,7 +222,7 @@ first_borrowed bytes end kind class (Some b) view kind_is class_is given =
     (v.is ∙ ap (λ (q : Question). Ok q) (sym same), subst (λ (q : Question). IsUncompressed bytes 12 q.name) (sym same) here.1)
 
 -- and its name ends before type and class
-pub first_name_ends : (bytes : List ℕ) (end : ℕ) → IsViewedTo bytes end → behind (name_at bytes 12) ≡ Ok (end - 4)
+pub first_name_ends : (bytes : List ℕ) (end : ℕ) → IsViewedTo bytes end → end_read (name_at bytes 12) ≡ Ok (end - 4)
 first_name_ends bytes end view =
     let name = rw view.viewed.is at (asked bytes end view).name in
     rw name refl

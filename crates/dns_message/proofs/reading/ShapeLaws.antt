@@ -12,7 +12,7 @@ use Rattle.dns_message.specs.Values.{Record, Message}
 use Rattle.dns_message.specs.declared.reading.header.Header.{Header}
 use Rattle.dns_message.specs.Shapes.{Shape, shape_of}
 use Rattle.dns_message.specs.Header.{FitsBits, header_in}
-use Rattle.dns_message.specs.Reading.{Gives, behind}
+use Rattle.dns_message.specs.Reading.{Gives, end_read}
 use Rattle.dns_message.specs.Names.{NameAt, at_root, at_label, at_pointer, target, name_at}
 use Rattle.dns_message.specs.Data.{name_octets, IsPart, HasParts, no_parts, more_parts, IsOfShape, IsShaped, PartAt, PartsAt, parts_end, parts_go_on, ShapedAt, DataAt, name_if_all, name_of_rdata}
 use Rattle.dns_message.specs.Records.{RecordAt, InRow}
@@ -172,7 +172,7 @@ pub record OnlyName (octets : List ℕ) (end : ℕ) : Type 0 where
   pub laid : IsLaidOut (take (end - 1) octets)
   pub name : name_of_rdata octets ≡ Some (labels_of (take (end - 1) octets))
 
-only_by : (octets : List ℕ) (end : ℕ) (r : Result (List (List ℕ) × ℕ) Fault) → name_at octets 0 ≡ r → behind r ≡ Ok end → end ≡ length octets → OnlyName octets end
+only_by : (octets : List ℕ) (end : ℕ) (r : Result (List (List ℕ) × ℕ) Fault) → name_at octets 0 ≡ r → end_read r ≡ Ok end → end ≡ length octets → OnlyName octets end
 unfolding name_of_rdata
 only_by octets end (Ok n) is ends all =
     let at : n.1 ≡ length octets = cc in
@@ -187,16 +187,16 @@ only_by octets end (Ok n) is ends all =
     }
 only_by octets end (Err fault) is ends all = absurd cc
 
-pub only_name : (octets : List ℕ) (end : ℕ) → behind (name_at octets 0) ≡ Ok end → end ≡ length octets → OnlyName octets end
+pub only_name : (octets : List ℕ) (end : ℕ) → end_read (name_at octets 0) ≡ Ok end → end ≡ length octets → OnlyName octets end
 only_name octets end ends all = only_by octets end (name_at octets 0) refl ends all
 
 other_end : (labels : List (List ℕ)) (e len : ℕ) → (e ≡ len → ⊥) → name_if_all len (Ok (labels, e)) ≡ None
 other_end labels e len other = grind (arith, other)
 
-no_name_by : (octets : List ℕ) (r : Result (List (List ℕ) × ℕ) Fault) → name_at octets 0 ≡ r → (behind r ≡ Ok (length octets) → ⊥) → name_of_rdata octets ≡ None
+no_name_by : (octets : List ℕ) (r : Result (List (List ℕ) × ℕ) Fault) → name_at octets 0 ≡ r → (end_read r ≡ Ok (length octets) → ⊥) → name_of_rdata octets ≡ None
 unfolding name_of_rdata
 no_name_by octets (Ok n) is other = ap (name_if_all (length octets)) is ∙ other_end n.0 n.1 (length octets) (λ e. other (ap (λ (x : ℕ). Ok x) e))
 no_name_by octets (Err fault) is other = ap (name_if_all (length octets)) is
 
-pub no_name : (octets : List ℕ) → (behind (name_at octets 0) ≡ Ok (length octets) → ⊥) → name_of_rdata octets ≡ None
+pub no_name : (octets : List ℕ) → (end_read (name_at octets 0) ≡ Ok (length octets) → ⊥) → name_of_rdata octets ≡ None
 no_name octets other = no_name_by octets (name_at octets 0) refl other

@@ -6,7 +6,7 @@ use Rattle.dns_message.specs.declared.names.fault.Fault.{Fault}
 use Rattle.dns_message.specs.declared.reading.spans.Span.{Span}
 use Rattle.dns_message.specs.declared.reading.spans.Left.{Left}
 use Rattle.dns_message.specs.Values.{Question, Record}
-use Rattle.dns_message.specs.Reading.{behind}
+use Rattle.dns_message.specs.Reading.{end_read}
 use Rattle.dns_message.specs.Numbers.{number16}
 use Rattle.dns_message.specs.Records.{QuestionAt, RecordAt, InRow, question_at, record_at, counted}
 use Rattle.dns_message.specs.Spans.{SpansAt, all_read, none_here, one_here, span_and_rest, sections_of, spans_at, counted_sections, spans_from, spans_of}
@@ -21,18 +21,18 @@ pub none_counted : (bytes : List ℕ) (o : ℕ) → length (spans_at bytes [] o)
 unfolding spans_at
 none_counted bytes o = refl
 
-pub none_counted_here : (bytes : List ℕ) (o section : ℕ) (sections : List ℕ) (fault : Fault) → behind (record_at bytes o) ≡ Err fault → length (spans_at bytes (section ∷ sections) o) ≡ 0
+pub none_counted_here : (bytes : List ℕ) (o section : ℕ) (sections : List ℕ) (fault : Fault) → end_read (record_at bytes o) ≡ Err fault → length (spans_at bytes (section ∷ sections) o) ≡ 0
 unfolding spans_at
 none_counted_here bytes o section sections fault is = rw is refl
 
-pub one_here_first : (bytes : List ℕ) (o e section : ℕ) (sections : List ℕ) → behind (record_at bytes o) ≡ Ok e → spans_at bytes (section ∷ sections) o ≡ span o e section ∷ spans_at bytes sections e
+pub one_here_first : (bytes : List ℕ) (o e section : ℕ) (sections : List ℕ) → end_read (record_at bytes o) ≡ Ok e → spans_at bytes (section ∷ sections) o ≡ span o e section ∷ spans_at bytes sections e
 unfolding spans_at
 one_here_first bytes o e section sections is = rw is refl
 
-pub one_counted_here : (bytes : List ℕ) (o e section : ℕ) (sections : List ℕ) → behind (record_at bytes o) ≡ Ok e → length (spans_at bytes (section ∷ sections) o) ≡ 1 + length (spans_at bytes sections e)
+pub one_counted_here : (bytes : List ℕ) (o e section : ℕ) (sections : List ℕ) → end_read (record_at bytes o) ≡ Ok e → length (spans_at bytes (section ∷ sections) o) ≡ 1 + length (spans_at bytes sections e)
 one_counted_here bytes o e section sections is = omega (arith, ap length (one_here_first bytes o e section sections is))
 
-some_by : (bytes : List ℕ) (o section : ℕ) (sections : List ℕ) (r : Result (Record × ℕ) Fault) → 0 < length (span_and_rest o section (spans_at bytes sections) (behind r)) → IsOk r
+some_by : (bytes : List ℕ) (o section : ℕ) (sections : List ℕ) (r : Result (Record × ℕ) Fault) → 0 < length (span_and_rest o section (spans_at bytes sections) (end_read r)) → IsOk r
 some_by bytes o section sections (Ok x) some = refl
 some_by bytes o section sections (Err fault) some = absurd (omega (arith, some))
 
@@ -49,7 +49,7 @@ sections_counted left =
 -- ---- the spans are those of the records
 
 sound_by : (bytes : List ℕ) (o section : ℕ) (sections : List ℕ) → ((e : ℕ) → SpansAt bytes sections e (spans_at bytes sections e)) → (r : Result (Record × ℕ) Fault) → record_at bytes o ≡ r
-    → SpansAt bytes (section ∷ sections) o (span_and_rest o section (spans_at bytes sections) (behind r))
+    → SpansAt bytes (section ∷ sections) o (span_and_rest o section (spans_at bytes sections) (end_read r))
 sound_by bytes o section sections rest (Ok x) is = one_here x.0 x.1 (record_sound bytes o x.0 x.1 is) (rest x.1)
 sound_by bytes o section sections rest (Err f) is =
     none_here (λ entry e at. let there = record_complete bytes o entry e at in absurd cc)
@@ -60,7 +60,7 @@ spans_sound bytes [] o = all_read
 spans_sound bytes (section ∷ sections) o = sound_by bytes o section sections (λ e. spans_sound bytes sections e) (record_at bytes o) refl
 
 none_by : (bytes : List ℕ) (o section : ℕ) (sections : List ℕ) → ((entry : Record) (e : ℕ) → RecordAt bytes o entry e → ⊥) → (r : Result (Record × ℕ) Fault) → record_at bytes o ≡ r
-    → [] ≡ span_and_rest o section (spans_at bytes sections) (behind r)
+    → [] ≡ span_and_rest o section (spans_at bytes sections) (end_read r)
 none_by bytes o section sections never (Ok x) is = absurd (never x.0 x.1 (record_sound bytes o x.0 x.1 is))
 none_by bytes o section sections never (Err f) is = refl
 
@@ -92,7 +92,7 @@ spans_are bytes questions o spans row len at = spans_unique bytes (counted_secti
 abbrev Never : List ℕ → Type 0
 Never bytes = (questions : List Question) (o : ℕ) → InRow (QuestionAt bytes) 12 questions o → length questions ≡ number16 bytes 4 → ⊥
 
-no_spans_by : (bytes : List ℕ) → Never bytes → (r : Result (List Question × ℕ) Fault) → counted (question_at bytes) (number16 bytes 4) 12 ≡ r → spans_from bytes (behind r) ≡ []
+no_spans_by : (bytes : List ℕ) → Never bytes → (r : Result (List Question × ℕ) Fault) → counted (question_at bytes) (number16 bytes 4) 12 ≡ r → spans_from bytes (end_read r) ≡ []
 no_spans_by bytes never (Ok x) is =
     let q = counted_sound (question_at bytes) (QuestionAt bytes) (λ p y e. question_sound bytes p y e) (number16 bytes 4) 12 x.0 x.1 is in
     absurd (never x.0 x.1 q.0 q.1)

@@ -5,7 +5,7 @@ use Rattle.dns_message.specs.declared.names.fault.Fault.{Fault}
 use Rattle.dns_message.specs.declared.names.fault.Fault.TheVariants.{Short, NoQuestion}
 use Rattle.dns_message.specs.declared.reading.header.Header.{Header}
 use Rattle.dns_message.specs.Values.{Question, Record, Message}
-use Rattle.dns_message.specs.Reading.{behind}
+use Rattle.dns_message.specs.Reading.{end_read}
 use Rattle.dns_message.specs.Numbers.{number16}
 use Rattle.dns_message.specs.Header.{header_in, header_of}
 use Rattle.dns_message.specs.Records.{QuestionAt, RecordAt, question_at, record_at, counted}
@@ -98,14 +98,14 @@ one_message bytes a b s t =
     let second = of_spelled bytes b t in
     cc
 
-pub whole_where_read : (bytes : List ℕ) → IsOk (behind (message_at bytes)) → IsWhole bytes
+pub whole_where_read : (bytes : List ℕ) → IsOk (end_read (message_at bytes)) → IsWhole bytes
 whole_where_read bytes is = by_read (message_at bytes) (λ m e here. message_sound bytes m e here) is
   where
-    by_read : (r : Result (Message × ℕ) Fault) → ((m : Message) (e : ℕ) → r ≡ read_as m e → Spells bytes m) → IsOk (behind r) → IsWhole bytes
+    by_read : (r : Result (Message × ℕ) Fault) → ((m : Message) (e : ℕ) → r ≡ read_as m e → Spells bytes m) → IsOk (end_read r) → IsWhole bytes
     by_read (Ok x) sound is = (x.0, sound x.0 x.1 refl)
     by_read (Err f) sound is = absurd cc
 
-pub read_where_whole : (bytes : List ℕ) → IsWhole bytes → IsOk (behind (message_at bytes))
+pub read_where_whole : (bytes : List ℕ) → IsWhole bytes → IsOk (end_read (message_at bytes))
 read_where_whole bytes whole = rw (message_complete bytes whole.0 whole.1) refl
 
 -- ---- the first question
@@ -153,7 +153,7 @@ asked bytes end view =
     let v = view.viewed in
     let first = first_sound bytes v.question v.is in
     let at = first.at in
-    let read = ap behind (question_complete bytes 12 v.question first.e at) in
+    let read = ap end_read (question_complete bytes 12 v.question first.e at) in
     let ends = view.ends in
     let same : first.e ≡ end = cc in
     let after : end - 4 ≡ at.after = omega (arith, at.ends, same) in

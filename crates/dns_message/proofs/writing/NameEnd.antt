@@ -4,7 +4,7 @@ use Rattle.std.proofs.lemmas.List.{length-take, length-drop}
 use Rattle.dns_name.specs.Labels.{size_of}
 use Rattle.dns_name.proofs.CallerLemmas.{size_at_least_one}
 use Rattle.dns_message.specs.declared.names.fault.Fault.{Fault}
-use Rattle.dns_message.specs.Reading.{behind}
+use Rattle.dns_message.specs.Reading.{end_read}
 use Rattle.dns_message.specs.Names.{NameAt, at_root, at_label, at_pointer, name_within, inside}
 use Rattle.dns_message.proofs.names.NameLaws.{within_sound, within_complete}
 use Rattle.dns_message.specs.declared.reading.shape.Part.TheVariants.{Name}
@@ -59,7 +59,7 @@ label_goes xs o p some short next so_far = record { back = λ e fits. so_far.bac
     shorter e fits = shorter_by e fits.labels fits.at fits.short
 
 -- the zero octet is at o
-pub ends_at : (xs : List ℕ) (o : ℕ) → o < length xs → o < 255 → get_or xs o 0 ≡ 0 → GoesBy xs o → Ok (o + 1) ≡ behind (name_within xs (inside (length xs)) 0)
+pub ends_at : (xs : List ℕ) (o : ℕ) → o < length xs → o < 255 → get_or xs o 0 ≡ 0 → GoesBy xs o → Ok (o + 1) ≡ end_read (name_within xs (inside (length xs)) 0)
 ends_at xs o in_ short none so_far =
     let whole = so_far.back (o + 1) (record { labels = []; at = at_root in_ none refl; short = omega (arith, short) }) in
     let fit = whole.short in

@@ -5,7 +5,7 @@ use Rattle.std.proofs.lemmas.Bool.Decides.{Decides-eqb, nat_tests}
 use Rattle.std.proofs.lemmas.List.{take-append-drop, drop_more, drop_all, length-drop}
 use Rattle.dns_message.specs.declared.names.fault.Fault.{Fault}
 use Rattle.dns_message.specs.Names.{name_within, inside}
-use Rattle.dns_message.specs.Reading.{behind}
+use Rattle.dns_message.specs.Reading.{end_read}
 use Rattle.dns_message.specs.declared.reading.shape.Part.{Part}
 use Rattle.dns_message.specs.declared.reading.shape.Part.TheVariants.{Name, Number16, SoaNumbers, Text}
 use Rattle.dns_message.specs.Fields.{plain, first_field, first_octets, fields_of, has_name, size_of_parts}
@@ -126,11 +126,11 @@ parts_size (SoaNumbers ∷ []) size xs is some = by_test (nat_lt (length xs) 20)
 
 -- where the parts after a name have one size, the name ends where they begin
 pub ends_before : (others : List Part) (size : ℕ) (xs : List ℕ) → size_of_parts others ≡ Some size → is_some (fields_of (Name ∷ others) xs) ≡ true
-    → (size ≤ length xs) × (Ok (length xs - size) ≡ behind (name_within xs (inside (length xs)) 0))
+    → (size ≤ length xs) × (Ok (length xs - size) ≡ end_read (name_within xs (inside (length xs)) 0))
 unfolding first_field
 ends_before others size xs is some = ends_by (name_within xs (inside (length xs)) 0) refl
   where
-    ends_by : (r : Result (List (List ℕ) × ℕ) Fault) → name_within xs (inside (length xs)) 0 ≡ r → (size ≤ length xs) × (Ok (length xs - size) ≡ behind (name_within xs (inside (length xs)) 0))
+    ends_by : (r : Result (List (List ℕ) × ℕ) Fault) → name_within xs (inside (length xs)) 0 ≡ r → (size ≤ length xs) × (Ok (length xs - size) ≡ end_read (name_within xs (inside (length xs)) 0))
     ends_by (Err fault) read =
         let not : is_some (fields_of (Name ∷ others) xs) ≡ false = no_part Name others xs (rw read refl) in
         absurd cc

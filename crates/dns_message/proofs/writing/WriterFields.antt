@@ -9,7 +9,7 @@ use Rattle.dns_name.proofs.CallerLemmas.{labels_of_octets, octets_are_laid_out}
 use Rattle.dns_message.specs.declared.names.fault.Fault.{Fault}
 use Rattle.dns_message.specs.declared.reading.shape.Part.{Part}
 use Rattle.dns_message.specs.declared.reading.shape.Part.TheVariants.{Name}
-use Rattle.dns_message.specs.Reading.{behind}
+use Rattle.dns_message.specs.Reading.{end_read}
 use Rattle.dns_message.specs.Names.{NameAt, at_root, at_label, at_pointer, name_within, inside}
 use Rattle.dns_message.proofs.names.NameLaws.{within_sound}
 use Rattle.dns_message.specs.Fields.{Field, first_field, fields_of}
@@ -47,10 +47,10 @@ pub record InFront (xs : List ℕ) (e : ℕ) : Type 0 where
 abbrev read_as : List (List ℕ) → ℕ → Result (List (List ℕ) × ℕ) Fault
 read_as ls e = Ok (ls, e)
 
-pub in_front : (xs : List ℕ) (e : ℕ) → Ok e ≡ behind (name_within xs (inside (length xs)) 0) → InFront xs e
+pub in_front : (xs : List ℕ) (e : ℕ) → Ok e ≡ end_read (name_within xs (inside (length xs)) 0) → InFront xs e
 in_front xs e is = front_by (name_within xs (inside (length xs)) 0) refl is
   where
-    front_by : (r : Result (List (List ℕ) × ℕ) Fault) → name_within xs (inside (length xs)) 0 ≡ r → Ok e ≡ behind r → InFront xs e
+    front_by : (r : Result (List (List ℕ) × ℕ) Fault) → name_within xs (inside (length xs)) 0 ≡ r → Ok e ≡ end_read r → InFront xs e
     front_by (Err fault) read ends = absurd cc
     front_by (Ok n) read ends =
         let e_is : e ≡ n.1 = cc in

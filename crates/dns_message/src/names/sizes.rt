@@ -5,7 +5,7 @@
 //! an empty slice, by each pointer.
 
 ghost use Rattle.std.specs.Prelude.{◌≡◌, ◌≤◌, ◌<◌, Ok, IfSome, slice_index};
-ghost use Rattle.dns_message.specs.Sizes.{AreSizes, size_behind};
+ghost use Rattle.dns_message.specs.Sizes.{AreSizes, size_after};
 
 use crate::names::fault::Fault;
 use crate::names::walk::{Bound, NameCursor, NameOctet, step_at};
@@ -20,7 +20,7 @@ pub(crate) fn size_of_name(
 ) -> Result<usize, Fault>
     requires room { used ≤ 254 }
     requires known { AreSizes bytes.now sizes.old }
-    ensures exact { result ≡ size_behind bytes.now start used }
+    ensures exact { result ≡ size_after bytes.now start used }
     ensures known { AreSizes bytes.now sizes.new }
 {
     if let Some(size) = known_size(sizes, start) {
@@ -39,9 +39,9 @@ pub(crate) fn size_of_name(
 fn measure(bytes: &[u8], sizes: &[u8], start: usize, used: usize) -> Result<usize, Fault>
     requires room { used ≤ 254 }
     requires known { AreSizes bytes.now sizes.now }
-    ensures { result ≡ size_behind bytes.now start used }
+    ensures { result ≡ size_after bytes.now start used }
 {
-    let mut walk = NameCursor::behind(bytes, start, used);
+    let mut walk = NameCursor::after(bytes, start, used);
     loop {
         match step_at(bytes, walk)? {
             NameOctet::End => return Ok(walk.used + 1 - used),
@@ -59,7 +59,7 @@ fn measure(bytes: &[u8], sizes: &[u8], start: usize, used: usize) -> Result<usiz
                     }
                     return Ok(walk.used + size - used);
                 }
-                walk = NameCursor::behind(bytes, target, walk.used);
+                walk = NameCursor::after(bytes, target, walk.used);
             }
         }
     }
@@ -79,10 +79,10 @@ fn known_size(sizes: &[u8], place: usize) -> Option<usize>
 /// first known.
 fn remember(bytes: &[u8], sizes: &mut [u8], start: usize, size: usize)
     requires known { AreSizes bytes.now sizes.old }
-    requires read { size_behind bytes.now start 0 ≡ Ok size }
+    requires read { size_after bytes.now start 0 ≡ Ok size }
     ensures { AreSizes bytes.now sizes.new }
 {
-    let mut walk = NameCursor::behind(bytes, start, 0);
+    let mut walk = NameCursor::after(bytes, start, 0);
     while walk.offset < sizes.len() && sizes[walk.offset] == 0 {
         let left = (size - walk.used) as u8;
         sizes[walk.offset] = left;
@@ -94,7 +94,7 @@ fn remember(bytes: &[u8], sizes: &mut [u8], start: usize, size: usize)
                     ..walk
                 };
             }
-            Ok(NameOctet::Pointer(target)) => walk = NameCursor::behind(bytes, target, walk.used),
+            Ok(NameOctet::Pointer(target)) => walk = NameCursor::after(bytes, target, walk.used),
             _ => return,
         }
     }

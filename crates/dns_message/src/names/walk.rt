@@ -3,7 +3,7 @@
 ghost use Rattle.std.specs.Prelude.{◌≡◌, ◌≤◌, ◌+◌, length, take, drop, IfOk, Err, None};
 ghost use Rattle.dns_message.specs.declared.names.fault.Fault.TheVariants.{Memory};
 ghost use Rattle.dns_message.specs.Shortcuts.{AreShortcuts};
-ghost use Rattle.dns_message.specs.Names.{whole, inside, skipped, behind_labels, step, Stays, Resumes, resume};
+ghost use Rattle.dns_message.specs.Names.{whole, inside, skipped, after_labels, step, Stays, Resumes, resume};
 ghost use Rattle.dns_message.specs.Names.{name_within};
 
 use crate::names::fault::Fault;
@@ -89,13 +89,13 @@ impl NameCursor {
     {
         NameCursor {
             bound,
-            ..NameCursor::behind(bytes, offset, 0)
+            ..NameCursor::after(bytes, offset, 0)
         }
     }
 
     /// The beginning of a pointer's target name, after labels of `used` octets.
-    pub(crate) fn behind(bytes: &[u8], offset: usize, used: usize) -> NameCursor
-        ensures { result ≡ behind_labels bytes.now offset used }
+    pub(crate) fn after(bytes: &[u8], offset: usize, used: usize) -> NameCursor
+        ensures { result ≡ after_labels bytes.now offset used }
     {
         NameCursor {
             offset,

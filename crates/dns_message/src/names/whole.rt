@@ -2,7 +2,7 @@
 
 ghost use Rattle.std.specs.Prelude.{◌≡◌, ◌≤◌, ◌↔◌, IsTrue, IsOk, MatchOption, Ok, Err, length, map};
 ghost use Rattle.std.specs.Char.{to_ascii_lowercase};
-ghost use Rattle.dns_message.specs.Reading.{Gives, behind};
+ghost use Rattle.dns_message.specs.Reading.{Gives, end_read};
 ghost use Rattle.dns_message.specs.Shortcuts.{AreShortcuts};
 ghost use Rattle.dns_message.specs.Sizes.{AreSizes};
 ghost use Rattle.dns_message.specs.Names.{name_at, name_within, NameIs, keyed};
@@ -48,7 +48,7 @@ pub fn skip_name(
 ) -> Result<usize, Fault>
     requires inside { bound.stop ≤ length bytes.now }
     requires known { AreSizes bytes.now sizes.old }
-    ensures exact { result ≡ behind (name_within bytes.now bound offset) }
+    ensures exact { result ≡ end_read (name_within bytes.now bound offset) }
     ensures known { AreSizes bytes.now sizes.new }
 {
     let mut walk = NameCursor::new(bytes, bound, offset);
@@ -75,7 +75,7 @@ pub fn skip_name(
 #[tactic(auto, using(crate::proofs::names::EndLaws::name_begins, crate::proofs::names::EndLaws::goes_on))]
 pub(crate) fn readable_name_end(bytes: &[u8], offset: usize) -> usize
     requires { IsOk (name_at bytes.now offset) }
-    ensures { behind (name_at bytes.now offset) ≡ Ok result }
+    ensures { end_read (name_at bytes.now offset) ≡ Ok result }
 {
     let mut at = offset;
     loop {
@@ -98,7 +98,7 @@ pub(crate) fn skip_same_name<A: Allocator>(
     name: &Name<A>,
 ) -> Option<usize>
     ensures { MatchOption result (NameIs (name_at bytes.now offset) name.now
-        → ⊥) (λ end. NameIs (name_at bytes.now offset) name.now × (behind (name_at bytes.now offset) ≡ Ok end)) }
+        → ⊥) (λ end. NameIs (name_at bytes.now offset) name.now × (end_read (name_at bytes.now offset) ≡ Ok end)) }
 {
     let mut walk = NameCursor::new(bytes, Bound::whole(bytes), offset);
     let mut labels = name.labels();

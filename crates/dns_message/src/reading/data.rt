@@ -1,7 +1,7 @@
 //! The data of records, by the shape of its type.
 
 ghost use Rattle.std.specs.Prelude.{◌≡◌, ◌≤◌, Err, IfOk, MatchResult, OnErr, None, length};
-ghost use Rattle.dns_message.specs.Reading.{Gives, behind};
+ghost use Rattle.dns_message.specs.Reading.{Gives, end_read};
 ghost use Rattle.dns_message.specs.Shortcuts.{AreShortcuts};
 ghost use Rattle.dns_message.specs.Sizes.{AreSizes};
 ghost use Rattle.dns_message.specs.Names.{name_within, inside};
@@ -152,7 +152,7 @@ fn read_octets<A: Allocator>(
 pub(crate) fn skip_data(bytes: &[u8], sizes: &mut [u8], place: DataPlace) -> Result<usize, Fault>
     requires inside { place.offset ≤ length bytes.now }
     requires known { AreSizes bytes.now sizes.old }
-    ensures exact { result ≡ behind (data_at place.kind bytes.now place.offset place.len) }
+    ensures exact { result ≡ end_read (data_at place.kind bytes.now place.offset place.len) }
     ensures known { AreSizes bytes.now sizes.new }
 {
     let DataPlace { kind, offset, len } = place;
@@ -171,7 +171,7 @@ pub(crate) fn skip_data(bytes: &[u8], sizes: &mut [u8], place: DataPlace) -> Res
 fn skip_parts(bytes: &[u8], sizes: &mut [u8], parts: &[Part], rest: Rest) -> Result<usize, Fault>
     requires inside { rest.stop ≤ length bytes.now }
     requires known { AreSizes bytes.now sizes.old }
-    ensures exact { result ≡ behind (parts_at parts.now bytes.now rest.stop rest.offset) }
+    ensures exact { result ≡ end_read (parts_at parts.now bytes.now rest.stop rest.offset) }
     ensures known { AreSizes bytes.now sizes.new }
 {
     let Rest { offset, stop } = rest;
@@ -190,7 +190,7 @@ fn skip_parts(bytes: &[u8], sizes: &mut [u8], parts: &[Part], rest: Rest) -> Res
 fn skip_part(bytes: &[u8], sizes: &mut [u8], part: Part, rest: Rest) -> Result<usize, Fault>
     requires inside { rest.stop ≤ length bytes.now }
     requires known { AreSizes bytes.now sizes.old }
-    ensures exact { result ≡ behind (part_at part bytes.now rest.stop rest.offset) }
+    ensures exact { result ≡ end_read (part_at part bytes.now rest.stop rest.offset) }
     ensures known { AreSizes bytes.now sizes.new }
 {
     let bound = Bound::data(rest.stop);

@@ -3,7 +3,7 @@
 ghost use Rattle.std.specs.Prelude.{◌≡◌, Ok, IfOk, MatchOption, length};
 ghost use Rattle.dns_name.specs.Labels.{labels_of, lowered, IsLaidOut};
 ghost use Rattle.dns_message.specs.Names.{name_at};
-ghost use Rattle.dns_message.specs.Reading.{behind};
+ghost use Rattle.dns_message.specs.Reading.{end_read};
 ghost use Rattle.dns_message.specs.Messages.{IsUncompressed};
 
 use crate::names::part;
@@ -61,7 +61,7 @@ impl<'a> QuestionRef<'a> {
         kind: u16,
         class: u16,
     ) -> Option<QuestionRef<'a>>
-        requires { behind (name_at bytes.now offset) ≡ Ok end }
+        requires { end_read (name_at bytes.now offset) ≡ Ok end }
         ensures { MatchOption result (IfOk (name_at bytes.now offset) (λ n. IsUncompressed bytes.now offset n.0 → ⊥))
             (λ question. IfOk (name_at bytes.now offset) (λ n. (question
             ≡ record { name = n.0; kind = kind; class = class }) × IsUncompressed bytes.now offset n.0)) }
@@ -128,7 +128,7 @@ impl<'a> QuestionRef<'a> {
 /// the name's last is not, the last is the final zero of a name without a pointer.
 #[tactic(auto, using(crate::proofs::reading::NameLaws::name_begins, crate::proofs::reading::NameLaws::goes_on, crate::proofs::reading::NameLaws::name_lies))]
 fn uncompressed_name(bytes: &[u8], offset: usize, end: usize) -> Option<&[u8]>
-    requires { behind (name_at bytes.now offset) ≡ Ok end }
+    requires { end_read (name_at bytes.now offset) ≡ Ok end }
     ensures { MatchOption result (IfOk (name_at bytes.now offset) (λ n. IsUncompressed bytes.now offset n.0 → ⊥))
         (λ octets. IsLaidOut octets.now × IfOk (name_at bytes.now offset) (λ n. (n.0 ≡ labels_of octets.now)
         × IsUncompressed bytes.now offset n.0)) }

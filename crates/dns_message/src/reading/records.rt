@@ -2,7 +2,7 @@
 
 ghost use Rattle.std.specs.Prelude.{◌≡◌, ◌+◌, IsOk, Ok, Err, MatchResult};
 ghost use Rattle.dns_message.specs.Numbers.{number16};
-ghost use Rattle.dns_message.specs.Reading.{Gives, behind};
+ghost use Rattle.dns_message.specs.Reading.{Gives, end_read};
 ghost use Rattle.dns_message.specs.Shortcuts.{AreShortcuts};
 ghost use Rattle.dns_message.specs.Sizes.{AreSizes};
 ghost use Rattle.dns_message.specs.Records.{octets_end, question_at, record_at, counted};
@@ -44,7 +44,7 @@ pub(crate) fn read_question<A: Allocator>(
 #[tactic(auto, using(crate::proofs::reading::RecordLaws::question_behind))]
 pub(crate) fn skip_question(bytes: &[u8], sizes: &mut [u8], offset: usize) -> Result<usize, Fault>
     requires { AreSizes bytes.now sizes.old }
-    ensures exact { result ≡ behind (question_at bytes.now offset) }
+    ensures exact { result ≡ end_read (question_at bytes.now offset) }
     ensures known { AreSizes bytes.now sizes.new }
 {
     let after = skip_name(bytes, sizes, Bound::whole(bytes), offset)?;
@@ -85,7 +85,7 @@ pub(crate) fn read_record<A: Allocator + Copy>(
 #[tactic(auto, unfolding(crate::specs::Records::octets_end), using(crate::proofs::reading::RecordLaws::record_behind))]
 pub(crate) fn skip_record(bytes: &[u8], sizes: &mut [u8], offset: usize) -> Result<usize, Fault>
     requires { AreSizes bytes.now sizes.old }
-    ensures exact { result ≡ behind (record_at bytes.now offset) }
+    ensures exact { result ≡ end_read (record_at bytes.now offset) }
     ensures known { AreSizes bytes.now sizes.new }
 {
     let after = skip_name(bytes, sizes, Bound::whole(bytes), offset)?;
@@ -112,7 +112,7 @@ fn data_place(bytes: &[u8], after: usize) -> Result<DataPlace, Fault>
 #[tactic(auto, using(crate::proofs::reading::EndLaws::owner_readable, crate::proofs::reading::EndLaws::record_ends))]
 pub(crate) fn readable_record_end(bytes: &[u8], offset: usize) -> usize
     requires { IsOk (record_at bytes.now offset) }
-    ensures { behind (record_at bytes.now offset) ≡ Ok result }
+    ensures { end_read (record_at bytes.now offset) ≡ Ok result }
 {
     let after = readable_name_end(bytes, offset);
     after + 10 + number16(bytes, after + 8) as usize
@@ -173,7 +173,7 @@ pub(crate) fn skip_questions(
     count: u16,
 ) -> Result<usize, Fault>
     requires { AreSizes bytes.now sizes.old }
-    ensures exact { result ≡ behind (counted (question_at bytes.now) count offset) }
+    ensures exact { result ≡ end_read (counted (question_at bytes.now) count offset) }
     ensures known { AreSizes bytes.now sizes.new }
 {
     let mut at = offset;
@@ -192,7 +192,7 @@ pub(crate) fn skip_records(
     count: u16,
 ) -> Result<usize, Fault>
     requires { AreSizes bytes.now sizes.old }
-    ensures exact { result ≡ behind (counted (record_at bytes.now) count offset) }
+    ensures exact { result ≡ end_read (counted (record_at bytes.now) count offset) }
     ensures known { AreSizes bytes.now sizes.new }
 {
     let mut at = offset;

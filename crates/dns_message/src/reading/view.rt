@@ -1,7 +1,7 @@
 //! A message, read in place. Only the calls that make values allocate.
 
 ghost use Rattle.std.specs.Prelude.{◌≡◌, ◌↔◌, IsTrue, IsOk, Ok, Err, Some, MatchResult, MatchOption, IfOk};
-ghost use Rattle.dns_message.specs.Reading.{Gives, behind};
+ghost use Rattle.dns_message.specs.Reading.{Gives, end_read};
 ghost use Rattle.dns_name.specs.Labels.{lowered};
 ghost use Rattle.dns_message.specs.Header.{FitsBits, header_of};
 ghost use Rattle.dns_message.specs.Records.{question_at};
@@ -157,7 +157,7 @@ impl<'a> MessageRef<'a> {
 fn first_question_end(bytes: &[u8]) -> Result<usize, Fault>
     ensures first { MatchResult result (λ _. IsOk (first_question bytes.now)) (λ fault. first_question bytes.now
         ≡ Err fault) }
-    ensures end { IfOk result (λ end. behind (question_at bytes.now 12) ≡ Ok end) }
+    ensures end { IfOk result (λ end. end_read (question_at bytes.now 12) ≡ Ok end) }
 {
     if bytes.len() < 12 {
         return Err(Fault::Short);
@@ -188,7 +188,7 @@ fn first_question_is<A: Allocator>(bytes: &[u8], question: &Question<A>) -> bool
 #[tactic(auto, using(crate::proofs::names::SizeLaws::none_kept))]
 fn skip_message(bytes: &[u8], question_end: usize) -> Result<usize, Fault>
     requires { IsViewedTo bytes.now question_end }
-    ensures { result ≡ behind (message_at bytes.now) }
+    ensures { result ≡ end_read (message_at bytes.now) }
 {
     if bytes.len() > SMALL {
         return skip_large_message(bytes, question_end);
@@ -202,7 +202,7 @@ fn skip_message(bytes: &[u8], question_end: usize) -> Result<usize, Fault>
 #[inline(never)]
 fn skip_large_message(bytes: &[u8], question_end: usize) -> Result<usize, Fault>
     requires { IsViewedTo bytes.now question_end }
-    ensures { result ≡ behind (message_at bytes.now) }
+    ensures { result ≡ end_read (message_at bytes.now) }
 {
     let mut sizes = [0u8; PLACES];
     skip_sections(bytes, &mut sizes, question_end)
@@ -214,7 +214,7 @@ fn skip_large_message(bytes: &[u8], question_end: usize) -> Result<usize, Fault>
 fn skip_sections(bytes: &[u8], sizes: &mut [u8], question_end: usize) -> Result<usize, Fault>
     requires viewed { IsViewedTo bytes.now question_end }
     requires known { AreSizes bytes.now sizes.old }
-    ensures { result ≡ behind (message_at bytes.now) }
+    ensures { result ≡ end_read (message_at bytes.now) }
 {
     let at = skip_questions(bytes, sizes, question_end, number16(bytes, 4) - 1)?;
     let at = skip_records(bytes, sizes, at, number16(bytes, 6))?;

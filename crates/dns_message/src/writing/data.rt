@@ -5,7 +5,7 @@ ghost use Rattle.std.specs.Prelude.{MatchOption, None, Ok, Err};
 ghost use Rattle.dns_message.specs.declared.names.fault.Fault.TheVariants.{Memory};
 ghost use Rattle.dns_name.specs.Labels.{IsLaidOut};
 ghost use Rattle.dns_message.specs.Names.{name_within, inside};
-ghost use Rattle.dns_message.specs.Reading.{behind};
+ghost use Rattle.dns_message.specs.Reading.{end_read};
 ghost use Rattle.dns_message.specs.Data.{IsShaped};
 ghost use Rattle.dns_message.specs.Fields.{fields_of, first_field, has_name, size_of_parts};
 ghost use Rattle.dns_message.specs.Writing.{octets16, as_is, with_length, data_text, field_text, by_fields};
@@ -51,7 +51,7 @@ fn are_parts(parts: &[Part], octets: &[u8]) -> bool
     for part in parts {
         match split_part(*part, rest) {
             None => return false,
-            Some((_, behind)) => rest = behind,
+            Some((_, after)) => rest = after,
         }
     }
     rest.is_empty()
@@ -116,12 +116,12 @@ fn put_parts<'a, A: Allocator + Copy>(
         let Some((part, others)) = left.split_first() else {
             unreachable!()
         };
-        let Some((first, behind)) = split_before(*part, others, rest) else {
+        let Some((first, after)) = split_before(*part, others, rest) else {
             unreachable!()
         };
         put_part(writer, *part, first)?;
         left = others;
-        rest = behind;
+        rest = after;
     }
     writer.put(rest)?;
     Ok(())
@@ -181,18 +181,18 @@ fn split_part(part: Part, octets: &[u8]) -> Option<(&[u8], &[u8])>
 
 /// The name in front of octets, up to this end, without the final zero; and the octets after.
 fn split_name(octets: &[u8], end: usize) -> (&[u8], &[u8])
-    requires { Ok end ≡ behind (name_within octets.now (inside (length octets.now)) 0) }
+    requires { Ok end ≡ end_read (name_within octets.now (inside (length octets.now)) 0) }
     ensures { IsFirst Part.Name octets.now result.0.now result.1.now }
 {
-    let (name, behind) = octets.split_at(end);
-    (&name[..end - 1], behind)
+    let (name, after) = octets.split_at(end);
+    (&name[..end - 1], after)
 }
 
 /// The place after the name in front of octets without pointers: after its zero octet.
 #[tactic(auto, unfolding(crate::specs::Fields::first_field))]
 fn name_end(octets: &[u8]) -> Option<usize>
     ensures { MatchOption result (first_field Part.Name octets.now ≡ None) (λ end. Ok end
-        ≡ behind (name_within octets.now (inside (length octets.now)) 0)) }
+        ≡ end_read (name_within octets.now (inside (length octets.now)) 0)) }
 {
     let most = octets.len().min(NAME_MOST);
     let mut at = 0;

@@ -241,7 +241,7 @@ fn put_head<'a, A: Allocator + Copy>(
 {
     let numbers = numbers_of(head);
     match known {
-        Some(pointer) => writer.put(&behind_pointer(pointer, numbers))?,
+        Some(pointer) => writer.put(&after_pointer(pointer, numbers))?,
         None => {
             writer.put_name(head.owner)?;
             writer.put(&numbers)?;
@@ -271,7 +271,7 @@ fn kind_and_class(kind: u16, class: u16) -> [u8; 4]
 }
 
 /// The pointer to an owner, followed by these octets.
-fn behind_pointer(pointer: u16, numbers: [u8; 8]) -> [u8; 10]
+fn after_pointer(pointer: u16, numbers: [u8; 8]) -> [u8; 10]
     ensures { result ≡ octets16 pointer ++ numbers }
 {
     let mut octets = [0; 10];

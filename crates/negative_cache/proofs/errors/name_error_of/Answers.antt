@@ -13,7 +13,7 @@ returns-then-not-has_name_error-clause-found g c =
     let key = lowered name in
     let size : length c.args.octets.now ≡ length (octets_of key) = sym (size_same key name (lowered_is_same name) ∙ ap length c.requires.whole) in
     rw (← c.at.view_is) (sym (no_name_error c.at.inside.moment c.args.class key c.at.inside.cache.now.entries
-    (subst (λ (n : ℕ). has_name_error n c.at.inside.cache.now.entries ≡ false) size (sym c.has_name_error.ensures.told ∙ c.if-not-has_name_error.true))))
+    (subst (λ (n : ℕ). has_name_error n c.at.inside.cache.now.entries ≡ false) size (sym c.has_name_error.ensures.says ∙ c.if-not-has_name_error.true))))
 
 pub returns-clause-found : goal.returns-clause-found
 returns-clause-found g c =

@@ -9,7 +9,7 @@ pub returns-then-not-may_deny-clause-found : goal.returns-then-not-may_deny-clau
 returns-then-not-may_deny-clause-found g c =
     let key = lowered c.args.question.now.name in
     rw (← c.at.view_is) (sym (none_near c.at.inside.config.now.routes (route_of c.at.inside.config.now.routes key) c.at.inside.moment c.args.question.now.class c.at.inside.cache.now.entries key
-    (subst (λ (n : ℕ). may_deny_at n c.at.inside.cache.now.entries ≡ false) c.requires (sym c.may_deny.ensures.told ∙ c.if-not-may_deny.true))))
+    (subst (λ (n : ℕ). may_deny_at n c.at.inside.cache.now.entries ≡ false) c.requires (sym c.may_deny.ensures.says ∙ c.if-not-may_deny.true))))
 
 pub returns-in-Some-clause-found : goal.returns-in-Some-clause-found
 returns-in-Some-clause-found g c =

@@ -14,7 +14,7 @@ returns-then-not-has_name_error-clause-forgotten g c =
     let name = labels_of c.args.octets.now in
     let key = lowered name in
     let size : length c.args.octets.now ≡ length (octets_of key) = sym (size_same key name (lowered_is_same name) ∙ ap length c.requires.whole) in
-    let none = subst (λ (n : ℕ). has_name_error n entries ≡ false) size (sym c.has_name_error.ensures.told ∙ c.if-not-has_name_error.true) in
+    let none = subst (λ (n : ℕ). has_name_error n entries ≡ false) size (sym c.has_name_error.ensures.says ∙ c.if-not-has_name_error.true) in
     let with_entries : List Held → Cache = λ es. record { capacity = c.args.cache.now.capacity; entries = es } in
     ap with_entries (sym (nothing_to_forget (error_slot c.args.class key) entries (no_error_entry c.args.class key entries none)))
 

@@ -12,7 +12,7 @@ returns-then-not-may_deny g c =
     let with_entries : List Held → Cache = λ es. record { capacity = c.args.cache.now.capacity; entries = es } in
     ap with_entries (sym (nothing_shown c.args.name.now c.args.class c.args.cache.now.entries c.may_deny.ensures.held.formed
     (subst (λ (name : List (List ℕ)). may_deny (lowered name) c.args.cache.now.entries ≡ false) c.octets-rest.ensures.labels
-    (subst (λ (n : ℕ). may_deny_at n c.args.cache.now.entries ≡ false) c.ending.ensures.ending (sym c.may_deny.ensures.told ∙ c.if-not-may_deny.true)))))
+    (subst (λ (n : ℕ). may_deny_at n c.args.cache.now.entries ≡ false) c.ending.ensures.ending (sym c.may_deny.ensures.says ∙ c.if-not-may_deny.true)))))
 
 pub returns : goal.returns
 returns g c =

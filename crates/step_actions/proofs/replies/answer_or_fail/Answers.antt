@@ -7,8 +7,8 @@ use Rattle.step_values.specs.declared.action.Why.TheVariants.{ChainLong}
 use Rattle.step_table.specs.Steps.{failed}
 use Rattle.step_actions.proofs.replies.answer_or_fail.Goals as goal
 
-pub returns-then-saturating_add-clause-told : goal.returns-then-saturating_add-clause-told
-returns-then-saturating_add-clause-told g c =
+pub returns-then-saturating_add-clause-says : goal.returns-then-saturating_add-clause-says
+returns-then-saturating_add-clause-says g c =
     let many : 9 < length c.args.waiting.now.held + length c.args.answers.now.chain =
     let held : length c.aliases.result.now ≡ length c.args.waiting.now.held = ap (λ (hs : List Held). length hs) c.aliases.ensures.aliases in
     let sum = c.saturating_add.ensures in let test = c.if-saturating_add.true in let pieces = c.pieces.ensures in omega (arith, held, sum, test, pieces) in

@@ -6,7 +6,7 @@ use Rattle.dns_message.proofs.names.sizes.measure.Goals as goal
 
 pub loop-len-init : goal.loop-len-init
 loop-len-init c =
-    rw c.behind-walk.ensures
+    rw c.after-walk.ensures
     (record { read = left_first c.args.bytes.now c.args.start c.args.used _ (omega arith); from = omega arith; room = c.requires.room; bound = refl })
 
 pub returns-in_err-step_at : goal.returns-in_err-step_at
@@ -47,7 +47,7 @@ returns-in-Some c =
 pub loop-len-preserved : goal.loop-len-preserved
 loop-len-preserved c =
     let now = c.loop-len.invariant in
-    rw c.behind-walk-in-Pointer.ensures
+    rw c.after-walk-in-Pointer.ensures
     (record {
       read = left_pointer c.args.bytes.now c.loop-len.walk c.in-Pointer.target _ _ now.room (rw c.in-Pointer.is at (sym c.in_ok-step_at.ensures.exact)) now.read;
       from = now.from;

@@ -6,7 +6,7 @@ use Rattle.dns_message.proofs.names.sizes.remember.Goals as goal
 pub loop-walk-init : goal.loop-walk-init
 loop-walk-init c =
     let first = left_first c.args.bytes.now c.args.start 0 0 refl in
-    rw c.behind-walk.ensures (record { read = first ∙ c.requires.read; back = omega arith; room = omega arith; bound = refl; known = c.requires.known })
+    rw c.after-walk.ensures (record { read = first ∙ c.requires.read; back = omega arith; room = omega arith; bound = refl; known = c.requires.known })
 
 pub overflow_sub-left : goal.overflow_sub-left
 overflow_sub-left c =
@@ -40,7 +40,7 @@ loop-walk-preserved c =
     let now = c.loop-walk.invariant in
     let here = left_here c.args.bytes.now c.loop-walk.walk c.args.size now.bound now.back now.room now.read in
     let exact = rw c.in-Ok-Pointer.field-0-is at c.in-Ok-Pointer.ensures.exact in
-    rw c.behind-walk-in-Ok-Pointer.ensures
+    rw c.after-walk-in-Ok-Pointer.ensures
     (record {
       read = left_pointer c.args.bytes.now c.loop-walk.walk c.in-Ok-Pointer.target _ _ now.room (sym exact) now.read;
       back = omega arith;

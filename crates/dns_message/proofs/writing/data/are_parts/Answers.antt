@@ -6,7 +6,7 @@ pub returns-in-None : goal.returns-in-None
 returns-in-None c = sym (sym c.loop-part.invariant ∙ none_at c.args.parts.now c.loop-part.part-index _ c.loop-part.rest.now c.loop-part-test.true c.in-None.ensures)
 
 pub loop-part-preserved : goal.loop-part-preserved
-loop-part-preserved c = sym (more_at c.args.parts.now c.loop-part.part-index _ c.loop-part.rest.now c.in-Some.field-0-0.now c.in-Some.behind.now c.loop-part-test.true c.in-Some.ensures) ∙ c.loop-part.invariant
+loop-part-preserved c = sym (more_at c.args.parts.now c.loop-part.part-index _ c.loop-part.rest.now c.in-Some.field-0-0.now c.in-Some.after.now c.loop-part-test.true c.in-Some.ensures) ∙ c.loop-part.invariant
 
 pub returns : goal.returns
 returns c = c.is_empty.ensures ∙ sym (done_at c.args.parts.now c.loop-part.part-index c.loop-part.rest.now c.loop-part-test.false) ∙ c.loop-part.invariant

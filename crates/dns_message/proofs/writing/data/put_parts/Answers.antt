@@ -17,10 +17,10 @@ loop-left-preserved g c =
     let now = c.loop-left.invariant in
     let whole : Writing = parts_text c.args.parts.now c.args.octets.now in
     let left = along c.args.writer.now c.loop-left.writer (parts_text c.loop-left.left.now c.loop-left.rest.now) _ whole
-    (left_first c.loop-left.left.now c.in-Some.others.now c.in-Some.part.now c.loop-left.rest.now c.in-Some-split_before.first.now c.in-Some-split_before.behind.now c.in-Some.ensures.cases.0 c.in-Some-split_before.ensures now.parts) now.left in
+    (left_first c.loop-left.left.now c.in-Some.others.now c.in-Some.part.now c.loop-left.rest.now c.in-Some-split_before.first.now c.in-Some-split_before.after.now c.in-Some.ensures.cases.0 c.in-Some-split_before.ensures now.parts) now.left in
     record {
-      parts = sym (more_first c.loop-left.left.now c.in-Some.others.now c.in-Some.part.now c.loop-left.rest.now c.in-Some-split_before.first.now c.in-Some-split_before.behind.now c.in-Some.ensures.cases.0 c.in-Some-split_before.ensures) ∙ now.parts;
-      left = goes_on c.args.writer.now c.loop-left.writer c.put_part.new.writer _ (parts_text c.in-Some.others.now c.in-Some-split_before.behind.now) whole left c.in_ok-put_part.ensures;
+      parts = sym (more_first c.loop-left.left.now c.in-Some.others.now c.in-Some.part.now c.loop-left.rest.now c.in-Some-split_before.first.now c.in-Some-split_before.after.now c.in-Some.ensures.cases.0 c.in-Some-split_before.ensures) ∙ now.parts;
+      left = goes_on c.args.writer.now c.loop-left.writer c.put_part.new.writer _ (parts_text c.in-Some.others.now c.in-Some-split_before.after.now) whole left c.in_ok-put_part.ensures;
     }
 
 pub returns : goal.returns

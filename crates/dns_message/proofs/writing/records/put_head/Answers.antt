@@ -10,7 +10,7 @@ pub returns-in_ok-put-in-Some : goal.returns-in_ok-put-in-Some
 returns-in_ok-put-in-Some g c = λ rdata.
     head_written c.args.writer.now c.put.new.self (record_of (labels_of c.args.head.now.owner.now) c.args.head.now.kind c.args.head.now.class c.args.head.now.ttl rdata) c.numbers_of-numbers.result c.numbers_of-numbers.ensures
     (known_written c.args.writer.now c.put.new.self c.args.head.now.owner.now c.in-Some.pointer c.numbers_of-numbers.result c.requires.laid (rw c.in-Some.is at c.requires.known)
-    (writes_as c.args.writer.now c.put.new.self _ _ (ap as_is c.behind_pointer.ensures) c.in_ok-put-in-Some.ensures))
+    (writes_as c.args.writer.now c.put.new.self _ _ (ap as_is c.after_pointer.ensures) c.in_ok-put-in-Some.ensures))
 
 pub returns-in_ok-put-in-None : goal.returns-in_ok-put-in-None
 returns-in_ok-put-in-None g c = λ rdata.

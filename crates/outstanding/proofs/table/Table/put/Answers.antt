@@ -64,5 +64,5 @@ returns-clause-list g c =
 pub put-requires-clause-other : goal.put-requires-clause-other
 put-requires-clause-other g c =
     All-from_get_or (λ k. k ≢ c.insert_reserved-key.result) c.args.self.now.by_arrival.keys 0
-    (not_among c.args.self.now.by_arrival.keys (length c.args.self.now.by_arrival.keys) c.insert_reserved-key.result (omega arith) c.args.self.now.asks c.insert_reserved-key.new.self (Some c.args.ask) c.requires.indexed.keys.turns
+    (not_among c.args.self.now.by_arrival.keys (length c.args.self.now.by_arrival.keys) c.insert_reserved-key.result (omega arith) c.args.self.now.asks c.insert_reserved-key.new.self (Some c.args.ask) c.requires.indexed.keys.arrivals
     c.insert_reserved-key.ensures.was_vacant c.insert_reserved-key.ensures.updates)

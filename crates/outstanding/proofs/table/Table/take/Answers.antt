@@ -36,7 +36,7 @@ unreachable-requires g c =
 -- its key is in turn
 pub place_of-arrival_rank-requires : goal.place_of-arrival_rank-requires
 place_of-arrival_rank-requires g c =
-    let v = c.requires.keys.turns.complete c.key-key.result (is_some_of (get c.args.self.now.asks c.key-key.result) c.index-2.result.now c.index-2.ensures) in
+    let v = c.requires.keys.arrivals.complete c.key-key.result (is_some_of (get c.args.self.now.asks c.key-key.result) c.index-2.result.now c.index-2.ensures) in
     (v.0, v.1, get_or_default c.args.self.now.by_arrival.keys v.0 c.key-key.result 0 v.1 ∙ v.2)
 
 placed : (g : given.Over) (c : goal.After-remove g)

@@ -13,16 +13,16 @@ the_second : (a b : Bool) → a ≡ false → b ≡ (a || b)
 the_second true b is = cc
 the_second false b is = refl
 
-pub returns-then-has-clause-told : goal.returns-then-has-clause-told
-returns-then-has-clause-told g c =
+pub returns-then-has-clause-says : goal.returns-then-has-clause-says
+returns-then-has-clause-says g c =
     let es = values_of c.self.inside.entries.entries in
     let n = c.args.ending in
     let first : c.has.result ≡ has_number name_error_ending 0 es = c.has.ensures ∙ ap (nat_lt 0) (c.self.invariant.endings 0) ∙ some_number name_error_ending 0 es in
     first ∙ the_first (has_number name_error_ending 0 es) (has_number name_error_ending n es) (sym first ∙ c.if-has.true)
     ∙ ap (λ (cache : Cache). may_deny_at n cache.entries) c.self.view_is
 
-pub returns-else-has-clause-told : goal.returns-else-has-clause-told
-returns-else-has-clause-told g c =
+pub returns-else-has-clause-says : goal.returns-else-has-clause-says
+returns-else-has-clause-says g c =
     let es = values_of c.self.inside.entries.entries in
     let n = c.args.ending in
     let first : c.has.result ≡ has_number name_error_ending 0 es = c.has.ensures ∙ ap (nat_lt 0) (c.self.invariant.endings 0) ∙ some_number name_error_ending 0 es in

@@ -40,4 +40,4 @@ returns-clause-list g c =
 -- the key is new
 pub put-requires-clause-other : goal.put-requires-clause-other
 put-requires-clause-other g c =
-    not_among IsByTaken c.args.self.now.waiting c.insert_reserved-key.new.self c.args.self.now.by_arrival.keys c.requires.indexed.lists.turns c.insert_reserved-key.result c.args.waiting c.insert_reserved-key.ensures.was_vacant c.insert_reserved-key.ensures.updates
+    not_among IsByTaken c.args.self.now.waiting c.insert_reserved-key.new.self c.args.self.now.by_arrival.keys c.requires.indexed.lists.arrivals c.insert_reserved-key.result c.args.waiting c.insert_reserved-key.ensures.was_vacant c.insert_reserved-key.ensures.updates

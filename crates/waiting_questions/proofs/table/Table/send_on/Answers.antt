@@ -146,6 +146,6 @@ returns-clause-list g c = λ z is.
     let at_is : c.place_by_arrival-at.result ≡ i + earlier (waits_at s1 y.wanted) t c.args.arrival_rank =
     c.place_by_arrival-at.ensures (waits_at s1 y.wanted)
     (in_turns s s1 (keys_of items) t c.requires.indexed.lists key x y c.args.place c.args.arrival_rank p_in c.requires.arrival_rank read t_is c.remove-keyed.ensures.value c.remove-keyed.ensures.updates i j range ∙ ap (λ (ks : List ℕ). between i j ks) (sym out)) in
-    let same : x ≡ z = same_Some x z (sym (at_under s t c.args.arrival_rank c.requires.indexed.lists.turns.present c.requires.arrival_rank ∙ ap (get s) t_is ∙ c.remove-keyed.ensures.value) ∙ is) in
+    let same : x ≡ z = same_Some x z (sym (at_under s t c.args.arrival_rank c.requires.indexed.lists.arrivals.present c.requires.arrival_rank ∙ ap (get s) t_is ∙ c.remove-keyed.ensures.value) ∙ is) in
     sent_items s s1 (keys_of items) t c.requires.indexed.lists key x y c.args.place c.args.arrival_rank p_in c.requires.arrival_rank read t_is c.remove-keyed.ensures.value c.remove-keyed.ensures.updates i j range s' put taken c.place_by_arrival-at.result at_is
     ∙ ap (λ (w : Waiting). with_at (waiting_under s t) c.args.arrival_rank (Some w)) (c.send_on.ensures ∙ ap (redirected c.args.onward) same)

@@ -1,7 +1,7 @@
 use Rattle.std.proofs.Common.{◌≡◌, ◌+◌, ◌≤◌, take}
 use Rattle.std.specs.Prelude.{count_by}
 use Rattle.suffix_routes.specs.Positions.{begins_character, is_line_feed, last_line}
-use Rattle.suffix_routes.proofs.position.Position.behind.Given as goal
+use Rattle.suffix_routes.proofs.position.Position.after.Given as goal
 
 abbrev pub invariant-loop-octet : goal.invariant-loop-octet
 invariant-loop-octet l =

@@ -3,8 +3,8 @@ use Rattle.std.specs.Prelude.{count_by}
 use Rattle.std.proofs.lemmas.List.Sums.{count_by_more_yes, count_by_more_no}
 use Rattle.suffix_routes.specs.Positions.{is_line_feed, begins_character, last_line}
 use Rattle.suffix_routes.proofs.PositionLaws.{line_begins, column_begins, column_goes_on, no_line_feed}
-use Rattle.suffix_routes.proofs.position.Position.behind.Goals as goal
-use Rattle.suffix_routes.proofs.position.Position.behind.Goals.{then-octet-eq10, else-octet-eq10+then-begins_character, else-octet-eq10+else-begins_character}
+use Rattle.suffix_routes.proofs.position.Position.after.Goals as goal
+use Rattle.suffix_routes.proofs.position.Position.after.Goals.{then-octet-eq10, else-octet-eq10+then-begins_character, else-octet-eq10+else-begins_character}
 
 pub loop-octet-preserved : goal.loop-octet-preserved
 loop-octet-preserved c =
