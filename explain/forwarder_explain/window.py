@@ -5,7 +5,6 @@ from typing import NamedTuple
 
 from . import comparing
 from .answering import exchange
-from .best import Best
 from .lines import FIRST_MOMENT, Maker
 from .messages import question_in
 from .pairing import Pairing
@@ -150,13 +149,7 @@ class Window:
         self.lines.remove(self.maker.line_of.pop(question))
 
     def settle(self):
-        """Runs the script until neither pairs nor lines change, and takes the best run."""
-        best = Best()
-        self.run_on(best)
-        best.put_back(self)
-
-    def run_on(self, best):
-        """Runs the script, each time with other pairs or lines, as long as there are any."""
+        """Runs the script until neither pairs nor lines change."""
         repairs, seen = Repairs(self), Counter()
         while True:
             self.lines.sort(key=lambda line: line.order)
@@ -167,7 +160,6 @@ class Window:
             made = [each for each in self.outcome.asked if each.line.note != "before"]
             self.pairing = Pairing(self.queries, made, self.latest, self.maker.moment)
             self.answers = comparing.replies_of(self.questions, self.outcome, self.maker.line_of)
-            best.offer(self)
             moved = {query: line for query, line in self.pairing.line_of.items() if self.pairs.get(query) is not line}
             self.pairs.update(moved)
             if self.runs >= MOST_RUNS or max(seen.values()) > MOST_EQUAL:
