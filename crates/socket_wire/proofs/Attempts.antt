@@ -77,31 +77,31 @@ module _ {A : Type 0} where
 
   pub ready_given : (most tried now : ℕ) (origin : Origin) (came : Result (Tried A) AllocError)
       (result : Result (Option (Arrival A)) AllocError)
-      (begun ready between between after : SeenSockets A)
+      (begun ready between attempted after : SeenSockets A)
       → tried < most → ReadyAll most tried now begun ready → GivesNext (Some origin) ready between
-      → Attempts origin now came between between
+      → Attempts origin now came between attempted
       → ComesOf came origin result (λ left. TriesReady (most - (tried + 1)) now result left after)
-      between after
+      attempted after
       → TriesReady most now result begun after
-  ready_given most tried now origin came result begun ready between between after h so_far gives
+  ready_given most tried now origin came result begun ready between attempted after h so_far gives
       attempts comes =
       ready_next most tried now result begun ready after h so_far (record {
         given = Some origin;
         between = between;
         gives = gives;
-        tries = record { tried = came; between = between; attempts = attempts; comes = comes };
+        tries = record { tried = came; attempted = attempted; attempts = attempts; comes = comes };
       })
 
   -- Where nothing was there the next is tried.
   pub ready_more : (most tried now : ℕ) (origin : Origin)
-      (begun ready between between left : SeenSockets A)
+      (begun ready between attempted left : SeenSockets A)
       → tried < most → ReadyAll most tried now begun ready → GivesNext (Some origin) ready between
-      → Attempts origin now (Ok Nothing) between between → Drops origin between left
+      → Attempts origin now (Ok Nothing) between attempted → Drops origin attempted left
       → ReadyAll most (tried + 1) now begun left
-  ready_more most tried now origin begun ready between between left h so_far gives attempts drops =
+  ready_more most tried now origin begun ready between attempted left h so_far gives attempts drops =
       record {
         all = λ result after tries.
-            ready_given most tried now origin (Ok Nothing) result begun ready between between after h
+            ready_given most tried now origin (Ok Nothing) result begun ready between attempted after h
             so_far gives attempts
             (record { left = left; drops = drops; later = tries });
       }

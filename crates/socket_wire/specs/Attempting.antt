@@ -68,9 +68,9 @@ pub record TriesGiven {A : Type 0} (origin : Origin) (now : ℕ)
     (result : Result (Option (Arrival A)) AllocError) (Later : SeenSockets A → Type 0)
     (before after : SeenSockets A) : Type 0 where
   pub tried : Result (Tried A) AllocError
-  pub between : SeenSockets A
-  pub attempts : Attempts origin now tried before between
-  pub comes : ComesOf tried origin result Later between after
+  pub attempted : SeenSockets A
+  pub attempts : Attempts origin now tried before attempted
+  pub comes : ComesOf tried origin result Later attempted after
 
 -- The given socket is tried; without one, none is ready any more.
 abbrev pub TriesIfGiven : {A : Type 0} → Option Origin → (now : ℕ)

@@ -84,10 +84,10 @@ pub record TakesTurn {A : Type 0} (now : ℕ) (result : Result (Arrival A) Alloc
     (before after : SeenSockets A) : Type 0 where
   pub came : Result (Option (Arrival A)) AllocError
   pub looked : SeenSockets A
-  pub between : SeenSockets A
+  pub attempted : SeenSockets A
   pub looks : Looks now before looked
-  pub tries : TriesReady 64 now came looked between
-  pub ends : GivesOrEnds came result between after
+  pub tries : TriesReady 64 now came looked attempted
+  pub ends : GivesOrEnds came result attempted after
 
 -- If no end is to be reported, a turn is taken.
 pub record TakesTurnAtOnce {A : Type 0} (now : ℕ) (result : Result (Arrival A) AllocError)

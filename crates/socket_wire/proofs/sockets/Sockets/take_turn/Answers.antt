@@ -10,7 +10,7 @@ returns-in_err-arrival g c =
     record {
       came = Err c.in_err-arrival.field-0.0;
       looked = c.look.new.self;
-      between = c.try_ready.new.self;
+      attempted = c.try_ready.new.self;
       looks = c.look.ensures;
       tries = subst (λ came. TriesReady 64 c.args.now came c.look.new.self c.try_ready.new.self) came
           c.try_ready.ensures;
@@ -23,7 +23,7 @@ returns-in-Some g c =
     record {
       came = Ok (Some c.in-Some.arrival);
       looked = c.look.new.self;
-      between = c.try_ready.new.self;
+      attempted = c.try_ready.new.self;
       looks = c.look.ensures;
       tries = subst (λ came. TriesReady 64 c.args.now came c.look.new.self c.try_ready.new.self) came
           c.try_ready.ensures;
@@ -36,7 +36,7 @@ returns-in-None g c =
     record {
       came = Ok None;
       looked = c.look.new.self;
-      between = c.try_ready.new.self;
+      attempted = c.try_ready.new.self;
       looks = c.look.ensures;
       tries = subst (λ came. TriesReady 64 c.args.now came c.look.new.self c.try_ready.new.self) came
           c.try_ready.ensures;
