@@ -37,7 +37,7 @@ no_data_with_a_set = (
   λ nothing. record {
     other = λ is. omega (arith, is);
     nothing = nothing;
-    told = told_by_a 0 (of_a ∷ []);
+    stated = told_by_a 0 (of_a ∷ []);
     owner = refl;
     kind_is = refl;
     soa = None;
@@ -51,7 +51,7 @@ no_data_of_b = (
   λ owner. record {
     other = λ is. omega (arith, is);
     nothing = nothing_at_a 0;
-    told = told_by_a 0 [];
+    stated = told_by_a 0 [];
     owner = owner;
     kind_is = refl;
     soa = None;
@@ -66,7 +66,7 @@ no_data_of_type_28 = (
   λ kind. record {
     other = λ is. omega (arith, is);
     nothing = nothing_at_a 0;
-    told = told_by_a 0 [];
+    stated = told_by_a 0 [];
     owner = refl;
     kind_is = kind;
     soa = None;
@@ -81,7 +81,7 @@ no_data_as_an_error = (
   λ h. record {
     other = λ is. omega (arith, is);
     nothing = nothing_at_a 0;
-    told = told_by_a 0 [];
+    stated = told_by_a 0 [];
     owner = refl;
     kind_is = refl;
     soa = h.0;
