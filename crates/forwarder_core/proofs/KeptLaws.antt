@@ -1,12 +1,10 @@
 -- What a forwarder keeps still holds after each change.
 use Rattle.std.proofs.Common.{◌≡◌, ℕ, zero, suc, ◌+◌, ◌<◌, List, [], ◌∷◌, ◌++◌, length, false, refl, sym, ap, ◌∙◌, subst, arith, None}
 use Rattle.std.specs.Prelude.{◌||◌, take, drop, map, slice_set, nat_le}
-use Rattle.std.specs.Prelude.{Result, Ok, Err, OnErr}
-use Rattle.std.specs.declared.alloc.AllocError.{AllocError}
 use Rattle.std.specs.List.{AllByRecursion, list_any}
 use Rattle.suffix_routes.specs.Values.{Config, Route, IsConfig}
 use Rattle.outstanding.specs.Values.{Ask, Inquiries}
-use Rattle.step_table.specs.State.{State, Running}
+use Rattle.step_table.specs.State.{State}
 use Rattle.waiting_questions.specs.Values.{Waiting}
 use Rattle.step_table.specs.Ticks.{deadline_of}
 use Rattle.step_table.specs.Replies.{timeout_of}
@@ -101,11 +99,3 @@ room_is i m n is same = subst (λ (k : ℕ). i ≡ record { capacity = k; asks =
 -- no entries, with this much room
 pub cache_is : (e : Cache) (m n : ℕ) → e ≡ record { capacity = m; entries = [] } → m ≡ n → e ≡ record { capacity = n; entries = [] }
 cache_is e m n is same = subst (λ (k : ℕ). e ≡ record { capacity = k; entries = [] }) same is
-
-abbrev running : Config → State → Running
-running c s = record { config = c; state = s }
-
--- if an error leaves the state, it leaves this configuration and the state
-pub same_state : (result : Result (Unit {0}) AllocError) (c : Config) (s s' : State) → OnErr result (s' ≡ s) → OnErr result (running c s' ≡ running c s)
-same_state (Ok done) c s s' is = tt
-same_state (Err refused) c s s' is = λ i. record { config = c; state = is i }

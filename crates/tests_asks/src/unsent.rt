@@ -1,6 +1,7 @@
 //! The octets that a TCP stream is still to take: one that takes a part, nothing, all, and one that
 //! fails.
 
+use linked_list_allocator::LocalHeap;
 use plain_values::PlainList;
 use refusing_allocator::Refusing;
 use std::alloc::Global;
@@ -66,11 +67,17 @@ fn a_stream_takes_a_part_and_nothing_and_fails(rt: HostRuntime) -> Result<(), Fa
     Ok(())
 }
 
+/// The octets of a memory that counts those in use.
+const MEMORY: usize = 1 << 16;
+
 /// A stream that took most of what it was given: those octets are forgotten with the next that are
-/// put after them, which takes one allocation; where that is refused, all is as it was.
+/// put after them, which takes one allocation; where that is refused, all is as it was. Once the
+/// stream took all, their memory is free again.
 #[test]
 fn what_a_stream_took_is_forgotten(rt: HostRuntime) -> Result<(), Fail> {
-    let heap = Refusing::new(rt.alloc());
+    let memory = LocalHeap::new(rt.alloc(), MEMORY)?;
+    let heap = Refusing::new(&memory);
+    let before = memory.used();
     for is_alone in &[false, true] {
         heap.allow(u64::MAX);
         let mut unsent = Unsent::new(&heap);
@@ -80,6 +87,7 @@ fn what_a_stream_took_is_forgotten(rt: HostRuntime) -> Result<(), Fail> {
             took: Vec::new(rt.alloc()),
         };
         assert_eq!(rt; unsent.send(&mut stream).ok(), Some(6));
+        assert!(rt; memory.used() > before);
         let more = PlainList::copied(&heap, b"ij")?;
         let again = PlainList::copied(&heap, b"ij")?;
         if *is_alone {
@@ -93,6 +101,7 @@ fn what_a_stream_took_is_forgotten(rt: HostRuntime) -> Result<(), Fail> {
         unsent.push(again)?;
         assert_eq!(rt; unsent.send(&mut stream).ok(), Some(4));
         assert_eq!(rt; stream.took.as_slice(), b"abcdefghij".as_slice());
+        assert_eq!(rt; memory.used(), before);
     }
     Ok(())
 }

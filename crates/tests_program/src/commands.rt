@@ -15,13 +15,27 @@ use std::test::Fail;
 use std::time::Duration;
 use std::{fs, io, net};
 
-/// This machine's system, with arguments and input of the test's own. What is printed is kept.
+/// This machine's system, with arguments and input of the test's own. What is printed is kept, and
+/// the random octets that are asked for are counted.
 #[derive(Drop)]
 struct Host<'a> {
     system: &'a HostRuntime,
     arguments: Arguments<'a>,
     input: &'a [u8],
     printed: Cell<Vec<u8>>,
+    octets: Cell<usize>,
+}
+
+impl<'a> Host<'a> {
+    fn new(system: &'a HostRuntime, words: &'a [&'a [u8]], input: &'a [u8]) -> Host<'a> {
+        Host {
+            system,
+            arguments: Arguments(words),
+            input,
+            printed: Cell::new(Vec::new(system.alloc())),
+            octets: Cell::new(0),
+        }
+    }
 }
 
 impl Env for Host<'_> {
@@ -98,6 +112,7 @@ impl Clock for Host<'_> {
 
 impl RandomSource for Host<'_> {
     fn fill_bytes(&self, buf: &mut [u8]) -> io::Result<()> {
+        self.octets.set(self.octets.get().saturating_add(buf.len()));
         self.system.fill_bytes(buf)
     }
 }
@@ -147,12 +162,7 @@ fn ended_by(
     input: &[u8],
     wanted: Wanted<'_>,
 ) -> (Result<(), Fault>, bool) {
-    let host = Host {
-        system: rt,
-        arguments: Arguments(words),
-        input,
-        printed: Cell::new(Vec::new(rt.alloc())),
-    };
+    let host = Host::new(rt, words, input);
     let ended = run(&host);
     let printed = host.printed.replace(Vec::new(rt.alloc()));
     (ended, is_wanted(&printed, wanted))
@@ -289,6 +299,17 @@ fn serve_prints_what_it_counted(rt: HostRuntime) -> Result<(), Fail> {
     let (ended, prints_counts) = ended_by(&rt, &words, b"", Wanted::Just(COUNTED));
     assert_eq!(rt; ended, Ok(()));
     assert!(rt; prints_counts);
+    Ok(())
+}
+
+/// A wire's words have a seed of 32 octets, and the hasher of a forwarder a key of 128 bits.
+#[test]
+fn serve_draws_a_seed_and_a_key(rt: HostRuntime) -> Result<(), Fail> {
+    fs::write(&rt, "drawn", SERVED)?;
+    let words = [b"forwarder".as_slice(), b"serve", b"drawn", b"0"];
+    let host = Host::new(&rt, &words, b"");
+    assert_eq!(rt; run(&host), Ok(()));
+    assert_eq!(rt; host.octets.get(), 48);
     Ok(())
 }
 

@@ -1,4 +1,4 @@
-//! Puts a decision in place: its change, and its part in the cache.
+//! What a step changes besides the lists: the moment and the cache.
 
 ghost use Rattle.std.specs.Prelude.{◌≡◌, ◌^◌, ◌<◌, ◌≤◌, Bool, List, length};
 ghost use Rattle.std.specs.List.{AllByRecursion};
@@ -6,14 +6,12 @@ ghost use Rattle.alias_chains.specs.LookingUp.{promoted_all};
 ghost use Rattle.alias_chains.specs.Offering.{put_all, unkept_of, pieces_of};
 ghost use Rattle.step_table.specs.Steps.{with_entries};
 ghost use Rattle.step_actions.specs.Decision.{IsRouted};
-ghost use Rattle.forwarder_core.specs.Acting.{CanApply, Applies};
 
 use crate::forwarder::Forwarder;
 use alias_chains::{Slots, offer_all, promote_all};
 use record_cache::Held;
-use std::alloc::{AllocError, Allocator};
+use std::alloc::Allocator;
 use std::hash::BuildHasher;
-use step_actions::Change;
 
 impl<H: BuildHasher + Drop, A: Allocator + Copy> Forwarder<H, A> {
     /// The moment has come.
@@ -23,14 +21,6 @@ impl<H: BuildHasher + Drop, A: Allocator + Copy> Forwarder<H, A> {
         ensures { self.new ≡ record { config = self.old.config; state = record self.old.state { moment = moment } } }
     {
         self.kept.moment = moment;
-    }
-
-    /// Puts a change in place. An `Err` changes nothing.
-    pub(crate) fn apply(&mut self, moment: u64, change: Change<A>) -> Result<(), AllocError>
-        requires { CanApply self.old moment change }
-        ensures { Applies self.old moment change result self.new }
-    {
-        self.kept.put(moment, change)
     }
 
     /// Promotes the entries used by a look-up, then offers the pieces of an accepted reply. Returns

@@ -200,7 +200,7 @@ impl<H: BuildHasher + Drop, A: Allocator + Copy> Forwarder<H, A> {
             self.restart();
             return Ok(self.nothing_done());
         };
-        self.apply(moment, change)?;
+        self.kept.put(moment, change)?;
         let unkept = self.keep(&used, carried);
         let more = self.is_due();
         Ok(Outcome {
