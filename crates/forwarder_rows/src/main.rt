@@ -6,6 +6,7 @@ mod comparison;
 mod folder;
 mod manner;
 mod narrow;
+mod printed;
 mod probing;
 mod restarting;
 mod rows;

@@ -1,12 +1,12 @@
 //! How the file of a row is run.
 
 use crate::narrow::is_wide;
+use crate::printed::Printed;
 use crate::probing::run_stepped;
 use crate::script::Way;
-use forwarder_commands::write_checked;
-use replay_script::{ReplayFault, read_config, replay_run};
+use forwarder_commands::{load, write_checked};
+use replay_script::{ReplayFault, replay_run};
 use std::alloc::Global;
-use std::io::{Read, Write};
 use std::rt::Files;
 use std::{fs, io};
 
@@ -56,13 +56,14 @@ pub(crate) fn output_of<R: Files + AllocGlobal>(
     row: &str,
 ) -> io::Result<Output> {
     let alloc = rt.alloc();
-    let file = fs::read(rt, row)?;
-    let mut reader = file.as_slice();
     let mut stdout = Vec::new(alloc);
     let ended = match manner {
-        Manner::Plain => replay_run(alloc, alloc, &mut reader, &mut stdout),
-        Manner::Stepped(way) => run_stepped(alloc, reader, way, &mut stdout),
-        Manner::Check => check(alloc, &mut reader, &mut stdout),
+        Manner::Check => check(alloc, row, &mut stdout),
+        Manner::Plain => {
+            let file = fs::read(rt, row)?;
+            replay_run(alloc, alloc, &mut file.as_slice(), &mut stdout)
+        }
+        Manner::Stepped(way) => run_stepped(alloc, &fs::read(rt, row)?, way, &mut stdout),
     };
     let stderr = match ended {
         Ok(()) => String::new(alloc),
@@ -71,13 +72,18 @@ pub(crate) fn output_of<R: Files + AllocGlobal>(
     Ok(Output { stdout, stderr })
 }
 
-/// Checks the reader's configuration, and writes the line of the command.
-fn check<R: Read, W: Write>(
-    alloc: Global,
-    reader: &mut R,
-    writer: &mut W,
-) -> Result<(), ReplayFault> {
-    let config = read_config(alloc, alloc, reader)?;
-    write_checked(&config, writer)?;
+/// Checks the configuration of a row as the command does, by the file's name, and gives what the
+/// command prints on standard output.
+fn check(alloc: Global, row: &str, stdout: &mut Vec<u8>) -> Result<(), ReplayFault> {
+    let printed = Printed::new(alloc);
+    let ended = print_checked(&printed, row.as_bytes());
+    *stdout = printed.into_octets();
+    ended
+}
+
+/// Prints the line of a configuration in the file with this name, or why it is refused.
+fn print_checked(rt: &Printed, name: &[u8]) -> Result<(), ReplayFault> {
+    let config = load(rt, name)?;
+    write_checked(&config, &mut io::writer(rt))?;
     Ok(())
 }
