@@ -2,9 +2,6 @@
 -- then took its place, and it is of the name's route. Of each neighbour one of these fails alone.
 use Rattle.std.proofs.Common.{◌≡◌, ℕ, ◌+◌, ◌*◌, ◌<◌, List, [], ◌∷◌, ◌++◌, length, false, Option, Some, refl, sym, ap, subst, ◌⊎◌}
 use Rattle.std.proofs.Common.{inl, inr, arith}
-use Rattle.dns_message.specs.Names.{step as name_step, walk_in, name_within}
-use Rattle.dns_message.specs.Records.{octets_end, question_at}
-use Rattle.dns_message.specs.Messages.{first_question}
 use Rattle.dns_message.proofs.CallerLemmas.{message_read_is_spelled}
 use Rattle.suffix_routes.specs.Values.{Config, AllDiffer}
 use Rattle.suffix_routes.specs.Routes.{route_of}
@@ -19,8 +16,9 @@ use Rattle.step_history.specs.Carried.{CarriedInEra, NotReplaced, Justified}
 use Rattle.step_history.proofs.CallerLemmas.{walk_accepted}
 use Rattle.step_table.proofs.Played.{a, b, address, server, config}
 use Rattle.worked_claims.proofs.Texts.{question_text, client, step_of}
-use Rattle.worked_claims.proofs.Silent.{nothing_heard}
-use Rattle.worked_claims.proofs.Accepted.{asked, answered, ask, reply_text, says, reply_is_read, piece, held, carried_now}
+use Rattle.worked_claims.proofs.Silent.{nothing_heard, justified_at_once}
+use Rattle.worked_claims.proofs.Accepted.{asked, answered, ask, reply_text, says, reply_is_read, piece}
+use Rattle.worked_claims.proofs.Accepted.{reply_matches, held, carried_now}
 use Rattle.worked_claims.proofs.Carried.{one_era}
 use Rattle.worked_claims.proofs.SecondReply.{c, heard_again, five_seconds, second_carries}
 use Rattle.worked_claims.proofs.Whole.{history}
@@ -33,19 +31,14 @@ asks_at now = step_of now [] (from_client client (question_text 7 1)) []
 abbrev at_once : Config → ℕ → List Step → Look
 at_once c now before = record { config = c; asked = asks_at now; before = before; now = asks_at now ∷ before }
 
--- the question carries nothing
-so_far : (c : Config) (now : ℕ) (before : List Step) (os : List Held) → CarriedInEra c before os
-    → CarriedInEra c (asks_at now ∷ before) os
-so_far c now before os carried = inr (inl (refl, nothing_heard c (asks_at now) before refl, carried))
-
--- so a piece that it justifies came before it, was not replaced, and was alive
+-- a piece that it justifies came before it, was not replaced, and was alive
 justified_before : (c : Config) (now : ℕ) (before : List Step) (os : List Held) (name : List (List ℕ)) (o : Held)
     → AllDiffer c.routes → CarriedInEra c before os → Justified (at_once c now before) name o
     → NotReplaced o os × (moment_at (asks_at now ∷ before) < o.accepted + 1000 * o.piece.lifetime)
 justified_before c now before os name o differ carried j = by j.new none_since j.counts
   where
     all : CarriedInEra c (asks_at now ∷ before) os
-    all = so_far c now before os carried
+    all = inr (inl (refl, nothing_heard c (asks_at now) before refl, carried))
 
     old_is : j.old ≡ os
     old_is = one_era c (asks_at now ∷ before) j.old os differ j.carried_before all
@@ -73,14 +66,8 @@ justified_before c now before os name o differ carried j = by j.new none_since j
 but_for_its_life : (now : ℕ) → moment_at (asks_at now ∷ history) < 61020
     → Justified (at_once config now history) a held
 unfolding route_of
-but_for_its_life now alive = record {
-  old = held ∷ [];
-  new = [];
-  carried_before = so_far config now history (held ∷ []) (carried_now 4 0);
-  carried_now = so_far config now history (held ∷ []) (carried_now 4 0);
-  on_route = serves_exactly.only config a 0 refl;
-  counts = inl (inl refl, alive);
-}
+but_for_its_life now alive = justified_at_once config (asks_at now) history (held ∷ []) a held refl refl
+    (carried_now 4 0) (serves_exactly.only config a 0 refl) (inl refl) alive
 
 in_its_last_millisecond : Justified (at_once config 61019 history) a held
 in_its_last_millisecond = but_for_its_life 61019 (omega arith)
@@ -116,14 +103,8 @@ both_carried = inr (inr (
 but_for_its_place : (o : Held) → o.piece.route ≡ 0 → NotReplaced o (newer ∷ held ∷ [])
     → 3000 < o.accepted + 1000 * o.piece.lifetime → Justified (at_once c 3000 renewed) a o
 unfolding route_of
-but_for_its_place o route kept alive = record {
-  old = newer ∷ held ∷ [];
-  new = [];
-  carried_before = so_far c 3000 renewed (newer ∷ held ∷ []) both_carried;
-  carried_now = so_far c 3000 renewed (newer ∷ held ∷ []) both_carried;
-  on_route = subst (IsServedBy c a) (sym route) (serves_exactly.only c a 0 refl);
-  counts = inl (kept, alive);
-}
+but_for_its_place o route kept alive = justified_at_once c (asks_at 3000) renewed (newer ∷ held ∷ []) a o refl refl
+    both_carried (subst (IsServedBy c a) (sym route) (serves_exactly.only c a 0 refl)) kept alive
 
 the_newer_one : Justified (at_once c 3000 renewed) a newer
 the_newer_one = but_for_its_place newer refl (inl refl) (omega arith)
@@ -152,25 +133,13 @@ differ : AllDiffer two_routes.routes
 differ = ((λ same. (let labels : 0 ≡ 2 = ap length same in omega (arith, labels)), tt), (tt, tt))
 
 carries_still : Carries two_routes answered (asked ∷ []) (piece ∷ [])
-unfolding first_question question_at octets_end name_within walk_in name_step route_of walk_from servers_from
+unfolding route_of walk_from servers_from
 carries_still = record {
   pieces = piece ∷ [];
   servers = [];
   accepts = walk_accepted two_routes answered (asked ∷ []) ask (address a) 0 reply_text (says 60) differ
-      (record {
-        delivered = refl;
-        is_listed = refl;
-        is_live = omega arith;
-        long_enough = omega arith;
-        not_too_long = omega arith;
-        is_reply = refl;
-        opcode = refl;
-        identifier = refl;
-        ask_reads = refl;
-        question = address a;
-        reads = refl;
-        same_question_as_ask = refl;
-      }) (message_read_is_spelled reply_text (says 60) reply_is_read) refl (inl refl) refl refl;
+      (reply_matches two_routes answered (asked ∷ []) refl (refl, refl, omega arith))
+      (message_read_is_spelled reply_text (says 60) reply_is_read) refl (inl refl) refl refl;
   are = refl;
 }
 
@@ -186,14 +155,8 @@ carried_still = inr (inr (
 
 but_for_its_route : (name : List (List ℕ)) → IsServedBy two_routes name 0
     → Justified (at_once two_routes 2000 history) name held
-but_for_its_route name on = record {
-  old = held ∷ [];
-  new = [];
-  carried_before = so_far two_routes 2000 history (held ∷ []) carried_still;
-  carried_now = so_far two_routes 2000 history (held ∷ []) carried_still;
-  on_route = on;
-  counts = inl (inl refl, omega arith);
-}
+but_for_its_route name on = justified_at_once two_routes (asks_at 2000) history (held ∷ []) name held refl refl
+    carried_still on (inl refl) (omega arith)
 
 on_its_own_route : Justified (at_once two_routes 2000 history) a held
 unfolding route_of

@@ -29,7 +29,10 @@ mod StaleLimits
 mod Tries
 mod Inquiries
 mod Transports
+mod Brought
 mod FirstStep
+mod Waiting
+mod FromAddress
 mod Truly
 mod NotTruly
 mod Unused

@@ -2,7 +2,7 @@
 -- b.e, of which a reply says that it is an alias of a.e. The look-up of this name uses the slot of
 -- the address, and the answer has both. `LookedElsewhere` has its neighbours.
 use Rattle.std.proofs.Common.{◌≡◌, ◌≢◌, ◌∙◌, ℕ, zero, suc, List, [], ◌∷◌, Option, Some, Ok}
-use Rattle.std.proofs.Common.{false, refl, sym, ap, subst, inl, inr, arith}
+use Rattle.std.proofs.Common.{refl, sym, ap, subst, inl, inr, arith}
 use Rattle.std.specs.Prelude.{flat_map}
 use Rattle.std.specs.List.{AllByRecursion}
 use Rattle.dns_message.specs.Names.{step as name_step, walk_in, name_within}
@@ -38,13 +38,13 @@ use Rattle.theorem_use.specs.Recent.{IsReadyEnd, IsReadyAlias, IsAnsweredByRecen
 use Rattle.theorem_use.specs.Service.{ServesTruly}
 use Rattle.theorem_use.specs.Touched.{Touched, TouchedInEra, LooksAlong, LooksOn}
 use Rattle.theorem_use.specs.Use.{AsksToLookUp, IsKnown, UsesWhatStands}
-use Rattle.worked_claims.proofs.Texts.{client, step_of, none_listed}
+use Rattle.worked_claims.proofs.Texts.{client, step_of}
 use Rattle.worked_claims.proofs.Silent.{nothing_heard}
 use Rattle.worked_claims.proofs.Accepted.{asked, answered, piece, held, carries, carried_now}
 use Rattle.worked_claims.proofs.Carried.{one_era}
 use Rattle.worked_claims.proofs.Touches.{touched_nothing, touched_these, CameIn, recent_came, the_one_brought}
-use Rattle.worked_claims.proofs.Truly.{handed_on, recent_so_far}
-use Rattle.worked_claims.proofs.FirstStep.{word, asked_for, not_sent, request_is, question_is}
+use Rattle.worked_claims.proofs.Truly.{nobody_waits, handed_on, recent_so_far}
+use Rattle.worked_claims.proofs.Brought.{request_is, not_sent, question_is, waits_for_new}
 use Rattle.worked_claims.proofs.Whole.{history, it_is_sound, it_asks_well, it_tells_that_nothing_is_due}
 
 -- ---- the address of b.e is asked for
@@ -303,27 +303,11 @@ wants_b = record {
 
 b_waits : AsksForWaiting config asks_b history (0 ∷ [])
 unfolding first_question question_at octets_end name_within walk_in name_step
-b_waits = record {
-  wanted = address b ∷ [];
-  each = (wants_b, tt);
-  asked = (inl b_is_asked, tt);
-  wanting = (inl b_is_asked, tt);
-  spelled = (
-    inr (record {
-      question = address b;
-      reads = refl;
-      from = inl (record { anew = λ closes quiet. none_listed closes.is_listed; spelled = inl refl });
-    }),
-    tt,
-  );
-}
+b_waits = waits_for_new config asks_b history (0 ∷ []) ask (address b) refl refl refl wants_b refl refl
 
 waits_on : AsksForThoseWhoWait config now owners
 waits_on = (
-  (
-    ((tt, asked_for config false word), record { wanted = []; each = tt; asked = tt; wanting = tt; spelled = tt }),
-    b_waits,
-  ),
+  (nobody_waits, b_waits),
   record { wanted = []; each = tt; asked = tt; wanting = tt; spelled = tt },
 )
 

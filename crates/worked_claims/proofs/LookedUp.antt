@@ -29,7 +29,7 @@ use Rattle.worked_claims.proofs.Silent.{nothing_followed}
 use Rattle.worked_claims.proofs.Accepted.{asked}
 use Rattle.worked_claims.proofs.Aliases.{alias, loop, loops, no_alias_asked}
 use Rattle.worked_claims.proofs.Reasons.{denies_a}
-use Rattle.worked_claims.proofs.FirstStep.{request_is, question_is}
+use Rattle.worked_claims.proofs.Brought.{request_is, question_is, looks_up, wants_it}
 
 -- ---- messages that are looked up
 
@@ -37,17 +37,7 @@ abbrev brings : List ℕ → Step
 brings octets = step_of 1000 [] (from_client client octets) []
 
 a_standard_query : AsksToLookUp config (brings (question_text 7 1)) client (address a)
-unfolding first_question question_at octets_end name_within walk_in name_step route_of
-a_standard_query = record {
-  octets = question_text 7 1;
-  sends = refl;
-  taken = refl;
-  opcode = refl;
-  reads = refl;
-  served = refl;
-  route = 0;
-  on_route = refl;
-}
+a_standard_query = looks_up (brings (question_text 7 1)) 7 refl
 
 -- the octets are those of the event
 own_octets : (c : Config) (octets : List ℕ) (asker : Client) (q : Question)
@@ -96,20 +86,7 @@ abbrev one_asked : List Step
 one_asked = asked ∷ []
 
 it_wants_its_own : Wants config one_asked 0 (address a)
-unfolding first_question question_at octets_end name_within walk_in name_step
-it_wants_its_own = record {
-  asked = asked;
-  before = [];
-  in_era = inl refl;
-  number = refl;
-  client = client;
-  request = question_text 7 1;
-  sent = refl;
-  question = address a;
-  reads = refl;
-  aliases = [];
-  leads = record { few = omega arith; follows = refl };
-}
+it_wants_its_own = wants_it config asked 7 [] one_asked refl (inl refl)
 
 -- the first letter of a name
 abbrev letter_of : List (List ℕ) → ℕ

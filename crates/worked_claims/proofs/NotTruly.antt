@@ -9,7 +9,6 @@ use Rattle.std.proofs.lemmas.Bool.{true≢false}
 use Rattle.dns_message.specs.Names.{step as name_step, walk_in, name_within}
 use Rattle.dns_message.specs.Records.{octets_end, question_at}
 use Rattle.dns_message.specs.Messages.{first_question}
-use Rattle.dns_message.specs.Questions.{one_question}
 use Rattle.dns_message.specs.Values.{Question}
 use Rattle.dns_message.specs.Writing.{each}
 use Rattle.suffix_routes.specs.Values.{Config}
@@ -17,21 +16,22 @@ use Rattle.trust_rank.specs.declared.slot.Slot.{Slot}
 use Rattle.record_cache.specs.Values.{Held}
 use Rattle.step_values.specs.declared.event.Client.{Client}
 use Rattle.step_values.specs.declared.action.Why.TheVariants.{Deadline}
-use Rattle.step_values.specs.Values.{Request, from_client, tick, Event, send_reply, Step}
+use Rattle.step_values.specs.Values.{from_client, tick, Event, send_reply, Step}
 use Rattle.step_history.specs.History.{ShownAsk}
 use Rattle.step_history.specs.Asked.{AsksWell}
 use Rattle.step_history.specs.Accounting.{TellsMore}
 use Rattle.step_history.specs.Sound.{Replies, Sound, unanswered}
 use Rattle.step_table.proofs.Played.{a, address, config}
-use Rattle.theorem_use.specs.Asking.{AnyByRecursion, Wants, EachWants, Asks, AsksForWaiting, AsksForThoseWhoWait}
+use Rattle.theorem_use.specs.Asking.{AnyByRecursion, EachWants, Asks, AsksForWaiting, AsksForThoseWhoWait}
 use Rattle.theorem_use.specs.Service.{ServesTruly}
 use Rattle.theorem_use.specs.Use.{AsksToLookUp, IsKnown, UsesWhatStands}
 use Rattle.theorem_use.specs.Touched.{Touched, TouchedInEra}
 use Rattle.theorem_use.specs.Recent.{IsRecent, IsAnsweredByRecent, UsesWhatIsRecent}
 use Rattle.worked_claims.proofs.Texts.{question_text, client, step_of}
 use Rattle.worked_claims.proofs.Silent.{nothing_heard, nothing_carried}
-use Rattle.worked_claims.proofs.FirstStep.{first, word, asks_it, with_questions, wants_it, asked_for, asks_right}
-use Rattle.worked_claims.proofs.FirstStep.{request_is, question_is, uses_nothing, uses_no_slot, only_asks}
+use Rattle.worked_claims.proofs.Brought.{looks_up_no_other, wants_it}
+use Rattle.worked_claims.proofs.FirstStep.{first, word, asks_it, with_questions, asked_for, asks_right}
+use Rattle.worked_claims.proofs.FirstStep.{uses_nothing, uses_no_slot, only_asks}
 
 -- ---- a reply that is not right: the failure of a deadline, in a step that is no tick
 
@@ -111,29 +111,16 @@ too_many_wait h =
     (none_owned one_may_wait h.sound.owners h.sound.sound) h.sound.few in
     omega (arith, few)
 
-second_wants : Wants one_may_wait (joins ∷ first false word asks_it ∷ []) 1 (address a)
-unfolding first_question question_at octets_end name_within walk_in name_step
-second_wants = record {
-  asked = joins;
-  before = first false word asks_it ∷ [];
-  in_era = inl refl;
-  number = refl;
-  client = client;
-  request = question_text 9 1;
-  sent = refl;
-  question = address a;
-  reads = refl;
-  aliases = [];
-  leads = record { few = omega arith; follows = refl };
-}
+abbrev joined : List Step
+joined = joins ∷ first false word asks_it ∷ []
 
 both_asked_for : AsksForWaiting one_may_wait joins (first false word asks_it ∷ []) []
 unfolding first_question question_at octets_end name_within walk_in name_step
 both_asked_for = record {
   wanted = address a ∷ address a ∷ [];
   each = (
-    wants_it one_may_wait false word asks_it (joins ∷ first false word asks_it ∷ []) (inr (refl, inl refl)),
-    (second_wants, tt),
+    wants_it one_may_wait (first false word asks_it) 7 [] joined refl (inr (refl, inl refl)),
+    (wants_it one_may_wait joins 9 (first false word asks_it ∷ []) joined refl (inl refl), tt),
   );
   asked = (
     inl (record { question = address a; reads = refl; same = refl }),
@@ -155,10 +142,7 @@ joins_unknown = (
     by : (asker : Client) (q : Question) (nothing : List Held) → AsksToLookUp one_may_wait joins asker q
         → nothing ≡ [] → IsKnown one_may_wait joins (first false word asks_it ∷ []) nothing q → ⊥
     by asker q nothing looks none known =
-        let own : Request = record { client = client; octets = question_text 9 1 } in
-        let octets : question_text 9 1 ≡ looks.octets = ap (λ (r : Request). r.octets)
-        (request_is own (record { client = asker; octets = looks.octets }) looks.sends) in
-        let q_is : address a ≡ q = question_is (address a) q (ap one_question octets ∙ looks.reads) in
+        let q_is : address a ≡ q = looks_up_no_other one_may_wait joins 9 refl asker q looks in
         subst (λ (z : Question × List Held). IsKnown one_may_wait joins (first false word asks_it ∷ []) z.1 z.0)
         (λ k. (sym q_is k, none k)) known
 

@@ -30,7 +30,7 @@ use Rattle.step_history.specs.Answers.{EndsChain, Chain, Answers}
 use Rattle.step_history.specs.Sound.{RightReply}
 use Rattle.step_table.proofs.Played.{a, b, example, address, server, config}
 use Rattle.worked_claims.proofs.Texts.{question_text, client, step_of}
-use Rattle.worked_claims.proofs.Accepted.{asked, ask, piece, carried_before}
+use Rattle.worked_claims.proofs.Accepted.{asked, ask, ReachesAsk, piece, carried_before}
 
 -- ---- a denial with e's SOA
 
@@ -84,14 +84,15 @@ unfolding message_at header_of counted question_at octets_end record_at data_at 
     name_within walk_in name_step
 error_is_read = refl
 
--- ---- both are accepted
+-- ---- both denials match the open ask, in whatever step
 
-matches : (code low : ℕ) → Matches config (heard code low) (asked ∷ []) ask (server_text code) (address a)
+matches : (code : ℕ) (s : Step) (past : List Step) → ReachesAsk s past (server_text code)
+    → Matches config s past ask (server_text code) (address a)
 unfolding first_question question_at octets_end name_within walk_in name_step
-matches code low = record {
-  delivered = refl;
-  is_listed = refl;
-  is_live = omega arith;
+matches code s past reaches = record {
+  delivered = reaches.0;
+  is_listed = reaches.1;
+  is_live = reaches.2;
   long_enough = omega arith;
   not_too_long = omega arith;
   is_reply = refl;
@@ -131,33 +132,49 @@ name_error = record {
   accepted = 1020;
 }
 
-none_carries : Carries config there_is_none (asked ∷ []) (no_address.piece ∷ [])
+pub none_carries : (s : Step) (past : List Step) → ReachesAsk s past (server_text 0)
+    → Carries config s past (no_address.piece ∷ [])
 unfolding route_of walk_from servers_from
-none_carries = record {
+none_carries s past reaches = record {
   pieces = no_address.piece ∷ [];
   servers = [];
-  accepts = walk_accepted config there_is_none (asked ∷ []) ask (address a) 0 (server_text 0) (says (server_text 0) 60)
-      (tt, tt) (matches 0 128) (message_read_is_spelled (server_text 0) (says (server_text 0) 60) none_is_read)
-      refl (inl refl) refl refl;
+  accepts = walk_accepted config s past ask (address a) 0 (server_text 0) (says (server_text 0) 60) (tt, tt)
+      (matches 0 s past reaches)
+      (message_read_is_spelled (server_text 0) (says (server_text 0) 60) none_is_read) refl (inl refl) refl refl;
   are = refl;
 }
 
-error_carries : Carries config is_not_there (asked ∷ []) (name_error.piece ∷ [])
+pub error_carries : (s : Step) (past : List Step) → ReachesAsk s past (server_text 3)
+    → Carries config s past (name_error.piece ∷ [])
 unfolding route_of walk_from servers_from
-error_carries = record {
+error_carries s past reaches = record {
   pieces = name_error.piece ∷ [];
   servers = [];
-  accepts = walk_accepted config is_not_there (asked ∷ []) ask (address a) 0 (server_text 3) (says (server_text 3) 60)
-      (tt, tt) (matches 3 131) (message_read_is_spelled (server_text 3) (says (server_text 3) 60) error_is_read)
-      refl (inr refl) refl refl;
+  accepts = walk_accepted config s past ask (address a) 0 (server_text 3) (says (server_text 3) 60) (tt, tt)
+      (matches 3 s past reaches)
+      (message_read_is_spelled (server_text 3) (says (server_text 3) 60) error_is_read) refl (inr refl) refl refl;
   are = refl;
 }
 
 pub none_carried : CarriedInEra config (there_is_none ∷ asked ∷ []) (no_address ∷ [])
-none_carried = inr (inr (refl, no_address.piece ∷ [], [], none_carries, carried_before 4 0, refl))
+none_carried = inr (inr (
+  refl,
+  no_address.piece ∷ [],
+  [],
+  none_carries there_is_none (asked ∷ []) (refl, refl, omega arith),
+  carried_before 4 0,
+  refl,
+))
 
 pub error_carried : CarriedInEra config (is_not_there ∷ asked ∷ []) (name_error ∷ [])
-error_carried = inr (inr (refl, name_error.piece ∷ [], [], error_carries, carried_before 4 0, refl))
+error_carried = inr (inr (
+  refl,
+  name_error.piece ∷ [],
+  [],
+  error_carries is_not_there (asked ∷ []) (refl, refl, omega arith),
+  carried_before 4 0,
+  refl,
+))
 
 -- ---- they answer
 

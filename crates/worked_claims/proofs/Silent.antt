@@ -1,12 +1,14 @@
--- Where no server was heard, nothing was carried, and no alias leads on.
-use Rattle.std.proofs.Common.{◌≡◌, ℕ, ◌<◌, List, [], ◌∷◌, ◌++◌, None, refl, sym, ◌∙◌, subst, ◌⊎◌, inl, inr}
+-- Where no server was heard, nothing was carried, and no alias leads on. A piece carried before may
+-- serve at once.
+use Rattle.std.proofs.Common.{◌≡◌, ℕ, ◌<◌, List, [], ◌∷◌, ◌++◌, false, None, refl, sym, ◌∙◌, subst, ◌⊎◌, inl, inr}
 use Rattle.suffix_routes.specs.Values.{Config}
 use Rattle.dns_message.specs.Values.{Question}
 use Rattle.record_cache.specs.Values.{Held}
 use Rattle.record_cache.specs.Ageing.{end_of}
 use Rattle.record_cache.specs.Laws.{Among}
 use Rattle.step_values.specs.Values.{delivery_in, Step}
-use Rattle.step_history.specs.History.{Look, NothingAccepted, moment_at}
+use Rattle.cache_laws.specs.Serving.{IsServedBy}
+use Rattle.step_history.specs.History.{is_restart, Look, NothingAccepted, moment_at}
 use Rattle.step_history.specs.Carried.{CarriedInEra, NotReplaced, Justified}
 use Rattle.step_history.specs.Answers.{FollowsAliases}
 use Rattle.worked_claims.proofs.Texts.{no_delivery}
@@ -40,3 +42,17 @@ pub nothing_followed : (l : Look) (q last : Question) (aliases : List Held) → 
     → FollowsAliases l q aliases last → (aliases ≡ []) × (last ≡ q)
 nothing_followed l q last [] silent h = (refl, h)
 nothing_followed l q last (o ∷ os) silent h = absurd (nothing_justified l q.name o silent h.1)
+
+-- in such a step a piece carried before may serve at once, if alive and not replaced
+pub justified_at_once : (c : Config) (s : Step) (before : List Step) (os : List Held) (name : List (List ℕ)) (o : Held)
+    → delivery_in s.input.event ≡ None → is_restart s ≡ false → CarriedInEra c before os
+    → IsServedBy c name o.piece.route → NotReplaced o os → moment_at (s ∷ before) < end_of o
+    → Justified (record { config = c; asked = s; before = before; now = s ∷ before }) name o
+justified_at_once c s before os name o none runs carried on kept alive = record {
+  old = os;
+  new = [];
+  carried_before = inr (inl (runs, nothing_heard c s before none, carried));
+  carried_now = inr (inl (runs, nothing_heard c s before none, carried));
+  on_route = on;
+  counts = inl (kept, alive);
+}

@@ -3,14 +3,13 @@
 -- alive, although it was not believed when it came (RFC 2181 5.4.1), and a denial answers only if
 -- no living alias leads on.
 use Rattle.std.proofs.Common.{◌≡◌, ◌∙◌, ℕ, zero, suc, List, [], ◌∷◌, length, Option, Some, None, Ok}
-use Rattle.std.proofs.Common.{false, refl, sym, ap, subst, ◌⊎◌, inl, inr, arith}
+use Rattle.std.proofs.Common.{true, refl, sym, ap, subst, ◌⊎◌, inl, inr, arith}
 use Rattle.dns_message.specs.Names.{step as name_step, walk_in, name_within}
 use Rattle.dns_message.specs.Data.{octets_within, parts_at, data_at, name_of_rdata}
 use Rattle.dns_message.specs.Shapes.{shape_of}
 use Rattle.dns_message.specs.Header.{header_of, header_in}
 use Rattle.dns_message.specs.Records.{octets_end, question_at, record_at, counted}
 use Rattle.dns_message.specs.Messages.{message_at, message_of, first_question}
-use Rattle.dns_message.specs.Questions.{one_question}
 use Rattle.dns_message.specs.Values.{Question, Message}
 use Rattle.dns_message.proofs.CallerLemmas.{message_read_is_spelled}
 use Rattle.suffix_routes.specs.Routes.{route_of}
@@ -18,29 +17,24 @@ use Rattle.trust_rank.specs.declared.slot.Slot.{Slot}
 use Rattle.trust_rank.specs.Values.{rows}
 use Rattle.trust_rank.specs.Walks.{walk_from, servers_from}
 use Rattle.record_cache.specs.Values.{Held}
-use Rattle.outstanding.specs.declared.ask.Path.TheVariants.{Udp}
-use Rattle.step_values.specs.declared.event.Client.{Client}
-use Rattle.step_values.specs.Values.{Request, from_client, delivery, Step}
+use Rattle.step_values.specs.Values.{from_client, Step}
 use Rattle.cache_laws.proofs.CallerLemmas.{keeps_place}
-use Rattle.step_history.specs.History.{InEra, Carries}
+use Rattle.step_history.specs.History.{Matches, Carries}
 use Rattle.step_history.specs.Carried.{CarriedInEra}
-use Rattle.step_history.specs.Sound.{Sound}
-use Rattle.step_history.specs.Accounting.{TellsMore}
-use Rattle.step_history.specs.Asked.{AsksWell}
 use Rattle.step_history.proofs.CallerLemmas.{walk_accepted}
-use Rattle.step_table.proofs.Played.{a, address, name_data, server, config}
-use Rattle.theorem_use.specs.Asking.{Wants, Asks, AsksForWaiting}
+use Rattle.step_table.proofs.Played.{a, address, name_data, config}
+use Rattle.theorem_use.specs.Asking.{AsksForWaiting}
 use Rattle.theorem_use.specs.Recent.{IsBelieved, LeadsNowhere, IsReadyEnd, IsReadyAlias, IsAnsweredByRecent, UsesWhatIsRecent}
 use Rattle.theorem_use.specs.Service.{ServesTruly}
 use Rattle.theorem_use.specs.Touched.{Touched, TouchedInEra, IsLiving}
-use Rattle.theorem_use.specs.Use.{HasRoom, AsksToLookUp, IsKnown, UsesWhatStands}
+use Rattle.theorem_use.specs.Use.{HasRoom, IsKnown, UsesWhatStands}
 use Rattle.worked_claims.proofs.Texts.{question_text, client, step_of}
 use Rattle.worked_claims.proofs.Silent.{nothing_heard}
-use Rattle.worked_claims.proofs.Accepted.{asked, ask, carried_before}
-use Rattle.worked_claims.proofs.ServerDenials.{server_text, says as denies, none_is_read, no_address}
+use Rattle.worked_claims.proofs.Accepted.{asked, ask, ReachesAsk, carried_before}
+use Rattle.worked_claims.proofs.ServerDenials.{server_text, no_address, none_carries}
 use Rattle.worked_claims.proofs.Touches.{touched_nothing, touched_these, CameIn, recent_came, the_one_brought}
-use Rattle.worked_claims.proofs.FirstStep.{word, asked_for, wants_it, asks_it, not_sent, request_is, question_is, uses_no_slot, only_asks}
-use Rattle.worked_claims.proofs.Whole.{it_asks_well}
+use Rattle.worked_claims.proofs.Brought.{looks_up, looks_up_no_other, wants_it}
+use Rattle.worked_claims.proofs.Waiting.{hears, asked_for_it, WaitsAlone, when_asked, when_heard}
 
 -- ---- a.e is an alias of b.e
 
@@ -77,9 +71,6 @@ unfolding message_at header_of counted question_at octets_end record_at data_at 
 long_is_read = refl
 
 -- three replies come to one ask: both aliases, and a denial after the first one has expired
-abbrev hears : ℕ → List ℕ → Step
-hears now octets = step_of now [] (delivery (Udp 1032) server octets) []
-
 abbrev heard_short : Step
 heard_short = hears 1020 short_text
 
@@ -122,76 +113,50 @@ after_long = heard_long ∷ after_short
 abbrev after_none : List Step
 after_none = heard_none ∷ after_long
 
+-- a reply with an alias matches the ask
+alias_matches : (s : Step) (past : List Step) (high ttl : ℕ) → (header_in (alias_text high ttl)).qr ≡ true
+    → (header_in (alias_text high ttl)).opcode ≡ 0 → ReachesAsk s past (alias_text high ttl)
+    → Matches config s past ask (alias_text high ttl) (address a)
+unfolding first_question question_at octets_end name_within walk_in name_step
+alias_matches s past high ttl reply query reaches = record {
+  delivered = reaches.0;
+  is_listed = reaches.1;
+  is_live = reaches.2;
+  long_enough = omega arith;
+  not_too_long = omega arith;
+  is_reply = reply;
+  opcode = query;
+  identifier = refl;
+  ask_reads = refl;
+  question = address a;
+  reads = refl;
+  same_question_as_ask = refl;
+}
+
 short_carries : Carries config heard_short (asked ∷ []) (short.piece ∷ [])
-unfolding first_question question_at octets_end name_within walk_in name_step route_of walk_from servers_from
-    name_of_rdata
+unfolding name_within walk_in name_step route_of walk_from servers_from name_of_rdata
 short_carries = record {
   pieces = short.piece ∷ [];
   servers = [];
   accepts = walk_accepted config heard_short (asked ∷ []) ask (address a) 0 short_text (says short_text 1) (tt, tt)
-      (record {
-        delivered = refl;
-        is_listed = refl;
-        is_live = omega arith;
-        long_enough = omega arith;
-        not_too_long = omega arith;
-        is_reply = refl;
-        opcode = refl;
-        identifier = refl;
-        ask_reads = refl;
-        question = address a;
-        reads = refl;
-        same_question_as_ask = refl;
-      }) (message_read_is_spelled short_text (says short_text 1) short_is_read) refl (inl refl) refl refl;
+      (alias_matches heard_short (asked ∷ []) 133 1 refl refl (refl, refl, omega arith))
+      (message_read_is_spelled short_text (says short_text 1) short_is_read) refl (inl refl) refl refl;
   are = refl;
 }
 
 long_carries : Carries config heard_long after_short (long.piece ∷ [])
-unfolding first_question question_at octets_end name_within walk_in name_step route_of walk_from servers_from
-    name_of_rdata
+unfolding name_within walk_in name_step route_of walk_from servers_from name_of_rdata
 long_carries = record {
   pieces = long.piece ∷ [];
   servers = [];
   accepts = walk_accepted config heard_long after_short ask (address a) 0 long_text (says long_text 60) (tt, tt)
-      (record {
-        delivered = refl;
-        is_listed = refl;
-        is_live = omega arith;
-        long_enough = omega arith;
-        not_too_long = omega arith;
-        is_reply = refl;
-        opcode = refl;
-        identifier = refl;
-        ask_reads = refl;
-        question = address a;
-        reads = refl;
-        same_question_as_ask = refl;
-      }) (message_read_is_spelled long_text (says long_text 60) long_is_read) refl (inl refl) refl refl;
+      (alias_matches heard_long after_short 129 60 refl refl (refl, refl, omega arith))
+      (message_read_is_spelled long_text (says long_text 60) long_is_read) refl (inl refl) refl refl;
   are = refl;
 }
 
-none_carries : Carries config heard_none after_long (none.piece ∷ [])
-unfolding first_question question_at octets_end name_within walk_in name_step route_of walk_from servers_from
-none_carries = record {
-  pieces = none.piece ∷ [];
-  servers = [];
-  accepts = walk_accepted config heard_none after_long ask (address a) 0 (server_text 0) (denies (server_text 0) 60) (tt, tt)
-      (record {
-        delivered = refl;
-        is_listed = refl;
-        is_live = omega arith;
-        long_enough = omega arith;
-        not_too_long = omega arith;
-        is_reply = refl;
-        opcode = refl;
-        identifier = refl;
-        ask_reads = refl;
-        question = address a;
-        reads = refl;
-        same_question_as_ask = refl;
-      }) (message_read_is_spelled (server_text 0) (denies (server_text 0) 60) none_is_read) refl (inl refl) refl refl;
-  are = refl;
-}
+none_now_carries : Carries config heard_none after_long (none.piece ∷ [])
+none_now_carries = none_carries heard_none after_long (refl, refl, omega arith)
 
 abbrev pieces : List Held
 pieces = none ∷ long ∷ short ∷ []
@@ -201,7 +166,7 @@ all_carried = inr (inr (
   refl,
   none.piece ∷ [],
   long ∷ short ∷ [],
-  none_carries,
+  none_now_carries,
   inr (inr (
     refl,
     long.piece ∷ [],
@@ -220,19 +185,6 @@ joins = step_of 2200 [] (from_client client (question_text 9 1)) []
 
 abbrev now : List Step
 now = joins ∷ after_none
-
-looks_up : AsksToLookUp config joins client (address a)
-unfolding first_question question_at octets_end name_within walk_in name_step route_of
-looks_up = record {
-  octets = question_text 9 1;
-  sends = refl;
-  taken = refl;
-  opcode = refl;
-  reads = refl;
-  served = refl;
-  route = 0;
-  on_route = refl;
-}
 
 room : HasRoom config after_none pieces
 room = record {
@@ -254,7 +206,7 @@ not_used h = by h.sound.owners h.uses
     by : (w : List (List ℕ)) → UsesWhatStands config now w → ⊥
     by [] uses = uses
     by (is ∷ w) uses =
-        let once = uses.1 client (address a) pieces looks_up all_carried room known in
+        let once = uses.1 client (address a) pieces (looks_up joins 9 refl) all_carried room known in
         let one : 0 ≡ 1 = ap length once.actions in
         omega (arith, one)
 
@@ -267,7 +219,8 @@ touched =
 
 touched_so : (ts : List Touched) → TouchedInEra config after_none ([] ∷ [] ∷ [] ∷ [] ∷ []) ts → ts ≡ touched
 touched_so ts era =
-    let third = touched_these config heard_none after_long (none.piece ∷ []) [] ([] ∷ [] ∷ [] ∷ []) ts (tt, tt) refl none_carries era in
+    let third = touched_these config heard_none after_long (none.piece ∷ []) [] ([] ∷ [] ∷ [] ∷ []) ts (tt, tt) refl
+    none_now_carries era in
     let second = touched_these config heard_long after_short (long.piece ∷ []) [] ([] ∷ [] ∷ []) third.before (tt, tt) refl long_carries third.era in
     let first = touched_these config heard_short (asked ∷ []) (short.piece ∷ []) [] ([] ∷ []) second.before (tt, tt) refl short_carries second.era in
     let asking = touched_nothing config asked [] [] [] first.before refl (nothing_heard config asked [] refl) first.era in
@@ -341,139 +294,38 @@ none_ready zero (o, end) = no_end o end
 none_ready (suc more) (inl (o, end)) = no_end o end
 none_ready (suc more) (inr (o, name, alias, rest)) = no_alias o name alias
 
-asks_for_a : (asker : Client) (q : Question) → AsksToLookUp config joins asker q → address a ≡ q
-unfolding first_question question_at octets_end name_within walk_in name_step
-asks_for_a asker q looks =
-    let own : Request = record { client = client; octets = question_text 9 1 } in
-    let octets : question_text 9 1 ≡ looks.octets = ap (λ (r : Request). r.octets)
-    (request_is own (record { client = asker; octets = looks.octets }) looks.sends) in
-    question_is (address a) q (ap one_question octets ∙ looks.reads)
-
 abbrev no_owners : List (List ℕ)
 no_owners = [] ∷ [] ∷ [] ∷ [] ∷ [] ∷ []
 
 abbrev no_slots : List (List Slot)
 no_slots = [] ∷ [] ∷ [] ∷ [] ∷ [] ∷ []
 
+-- until then the first question waits alone
+waits : WaitsAlone after_none ([] ∷ [] ∷ [] ∷ [] ∷ []) ([] ∷ [] ∷ [] ∷ [] ∷ [])
+waits = when_heard 2100 (server_text 0) after_long ([] ∷ [] ∷ [] ∷ []) ([] ∷ [] ∷ [] ∷ []) refl
+    (when_heard 1030 long_text after_short ([] ∷ [] ∷ []) ([] ∷ [] ∷ []) refl
+    (when_heard 1020 short_text (asked ∷ []) ([] ∷ []) ([] ∷ []) refl when_asked))
+
 it_uses_what_is_recent : UsesWhatIsRecent config now no_owners no_slots
 it_uses_what_is_recent = (
-  (
-    (
-      (
-        uses_no_slot config false word asks_it [] only_asks,
-        λ ts era. (
-          inr (inr (record { none = refl; silent = λ q octets from. absurd from.0 })),
-          λ asker q asks recent. absurd (not_sent asks.sends),
-        ),
-      ),
-      λ ts era. (
-        inr (inr (record { none = refl; silent = λ q octets from. absurd from.0 })),
-        λ asker q asks recent. absurd (not_sent asks.sends),
-      ),
-    ),
-    λ ts era. (
-      inr (inr (record { none = refl; silent = λ q octets from. absurd from.0 })),
-      λ asker q asks recent. absurd (not_sent asks.sends),
-    ),
-  ),
+  waits.recent,
   λ ts era. (
     inr (inr (record { none = refl; silent = λ q octets from. absurd from.1 })),
-    λ asker q asks recent. absurd (none_ready 8 (subst (λ (z : List Touched × Question). IsAnsweredByRecent config 2200 z.0 8 z.1)
-        (λ i. (touched_so ts era i, sym (asks_for_a asker q asks) i)) recent)),
+    λ asker q looks recent. absurd (none_ready 8
+        (subst (λ (z : List Touched × Question). IsAnsweredByRecent config 2200 z.0 8 z.1)
+        (λ i. (touched_so ts era i, sym (looks_up_no_other config joins 9 refl asker q looks) i)) recent)),
   ),
 )
 
 -- ---- and all else holds
 
-sound : Sound config now no_owners
-sound = (
-  (
-    (
-      (
-        (tt, refl, λ q octets hit. tt),
-        refl,
-        λ q octets hit. absurd hit.0,
-      ),
-      refl,
-      λ q octets hit. absurd hit.0,
-    ),
-    refl,
-    λ q octets hit. absurd hit.0,
-  ),
-  refl,
-  λ q octets hit. absurd hit.1,
-)
-
-it_tells : TellsMore config now no_owners
-it_tells = (((((tt, refl), refl), refl), refl), refl)
-
-it_asks_well_on : AsksWell config now
-it_asks_well_on = (
-  (
-    ((it_asks_well.0, (tt, tt), omega arith, tt), (tt, tt), omega arith, tt),
-    (tt, tt),
-    omega arith,
-    tt,
-  ),
-  (tt, tt),
-  omega arith,
-  tt,
-)
-
-wants_first : (later : List Step) → InEra (asked ∷ []) later → Wants config later 0 (address a)
-wants_first later in_era = wants_it config false word asks_it later in_era
-
-asked_for_it : Asks ask (address a)
-unfolding first_question question_at octets_end name_within walk_in name_step
-asked_for_it = record { question = address a; reads = refl; same = refl }
-
-waits_short : AsksForWaiting config heard_short (asked ∷ []) []
-waits_short = record {
-  wanted = address a ∷ [];
-  each = (wants_first after_short (inr (refl, inl refl)), tt);
-  asked = (inl asked_for_it, tt);
-  wanting = (inl asked_for_it, tt);
-  spelled = (inl (inl refl), tt);
-}
-
-waits_long : AsksForWaiting config heard_long after_short []
-waits_long = record {
-  wanted = address a ∷ [];
-  each = (wants_first after_long (inr (refl, inr (refl, inl refl))), tt);
-  asked = (inl asked_for_it, tt);
-  wanting = (inl asked_for_it, tt);
-  spelled = (inl (inl refl), tt);
-}
-
-waits_none : AsksForWaiting config heard_none after_long []
-waits_none = record {
-  wanted = address a ∷ [];
-  each = (wants_first after_none (inr (refl, inr (refl, inr (refl, inl refl)))), tt);
-  asked = (inl asked_for_it, tt);
-  wanting = (inl asked_for_it, tt);
-  spelled = (inl (inl refl), tt);
-}
-
-wants_second : Wants config now 4 (address a)
-unfolding first_question question_at octets_end name_within walk_in name_step
-wants_second = record {
-  asked = joins;
-  before = after_none;
-  in_era = inl refl;
-  number = refl;
-  client = client;
-  request = question_text 9 1;
-  sent = refl;
-  question = address a;
-  reads = refl;
-  aliases = [];
-  leads = record { few = omega arith; follows = refl };
-}
-
 waits_both : AsksForWaiting config joins after_none []
 waits_both = record {
   wanted = address a ∷ address a ∷ [];
-  each = (wants_first now (inr (refl, inr (refl, inr (refl, inr (refl, inl refl))))), (wants_second, tt));
+  each = (
+    wants_it config asked 7 [] now refl (inr (refl, waits.in_era)),
+    (wants_it config joins 9 after_none now refl (inl refl), tt),
+  );
   asked = (inl asked_for_it, (inl asked_for_it, tt));
   wanting = (inl asked_for_it, tt);
   spelled = (inl (inl refl), tt);
@@ -482,9 +334,14 @@ waits_both = record {
 but_for_its_use : UsesWhatStands config now no_owners
     → ServesTruly config (asked ∷ heard_short ∷ heard_long ∷ heard_none ∷ joins ∷ [])
 but_for_its_use uses = record {
-  sound = record { owners = no_owners; sound = sound; tells = it_tells; few = omega arith };
-  asks = it_asks_well_on;
-  waiting = (((((tt, asked_for config false word), waits_short), waits_long), waits_none), waits_both);
+  sound = record {
+    owners = no_owners;
+    sound = (waits.sound, refl, λ q octets hit. absurd hit.1);
+    tells = (waits.tells, refl);
+    few = omega arith;
+  };
+  asks = (waits.asks, (tt, tt), omega arith, tt);
+  waiting = (waits.waiting, waits_both);
   uses = uses;
   used = no_slots;
   recent = it_uses_what_is_recent;

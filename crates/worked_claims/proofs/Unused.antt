@@ -16,39 +16,26 @@ use Rattle.step_history.specs.History.{ShownAsk, listed}
 use Rattle.cache_laws.proofs.CallerLemmas.{serves_exactly}
 use Rattle.step_history.specs.Asked.{AsksRight}
 use Rattle.step_history.specs.Draws.{drawn}
-use Rattle.step_history.specs.Sound.{Replies}
+use Rattle.step_history.specs.Sound.{Replies, unanswered}
 use Rattle.step_table.proofs.Played.{a, address, server, config}
-use Rattle.theorem_use.specs.Asking.{Wants, AsksForWaiting}
+use Rattle.theorem_use.specs.Asking.{AsksForWaiting}
 use Rattle.theorem_use.specs.Service.{ServesTruly}
-use Rattle.theorem_use.specs.Use.{FoundMemory, HasRoom, AsksToLookUp, UsesWhatStands}
+use Rattle.theorem_use.specs.Use.{FoundMemory, HasRoom, UsesWhatStands}
 use Rattle.theorem_use.specs.Touched.{Touched, TouchedInEra, LooksOn, Uses}
 use Rattle.theorem_use.specs.Recent.{IsAnsweredByRecent, UsesWhatIsRecent}
-use Rattle.worked_claims.proofs.Texts.{question_text, client, step_of, no_delivery, none_listed}
+use Rattle.worked_claims.proofs.Texts.{question_text, client, step_of, no_delivery}
 use Rattle.worked_claims.proofs.Silent.{nothing_heard}
 use Rattle.worked_claims.proofs.Accepted.{asked, answered, piece, carries, held, carried_now}
 use Rattle.worked_claims.proofs.OnlyThis.{leads_nowhere}
 use Rattle.worked_claims.proofs.Whole.{history, it_is_sound, it_asks_well, it_tells_that_nothing_is_due}
-use Rattle.worked_claims.proofs.FirstStep.{first, word, asked_for, not_sent}
-use Rattle.worked_claims.proofs.Truly.{handed_on}
+use Rattle.worked_claims.proofs.Brought.{not_sent, looks_up, wants_it, waits_for_new}
+use Rattle.worked_claims.proofs.Truly.{nobody_waits, handed_on}
 
 -- ---- what stands, and is recent, is not used: the question is asked again
 
 abbrev asks_again : Step
 asks_again = step_of 2000 (1048592 ∷ []) (from_client client (question_text 7 1))
     (ask_udp 1040 server (question_text 16 1) ∷ [])
-
-looks_up : AsksToLookUp config asks_again client (address a)
-unfolding first_question question_at octets_end name_within walk_in name_step route_of
-looks_up = record {
-  octets = question_text 7 1;
-  sends = refl;
-  taken = refl;
-  opcode = refl;
-  reads = refl;
-  served = refl;
-  route = 0;
-  on_route = refl;
-}
 
 room : HasRoom config history (held ∷ [])
 room = record {
@@ -66,42 +53,19 @@ not_used h = by h.sound.owners h.uses
     by : (w : List (List ℕ)) → UsesWhatStands config (asks_again ∷ history) w → ⊥
     by [] uses = uses
     by (is ∷ w) uses =
-        let once = uses.1 client (address a) (held ∷ []) looks_up (carried_now 4 0) room tt in
+        let once = uses.1 client (address a) (held ∷ []) (looks_up asks_again 7 refl) (carried_now 4 0) room tt in
         true≢false (sym (ap is_reply once.actions))
 
--- it wants the address again, behind this history
-wants_again : (past : List Step) → Wants config (asks_again ∷ past) (length past) (address a)
-unfolding first_question question_at octets_end name_within walk_in name_step
-wants_again past = record {
-  asked = asks_again;
-  before = past;
-  in_era = inl refl;
-  number = refl;
-  client = client;
-  request = question_text 7 1;
-  sent = refl;
-  question = address a;
-  reads = refl;
-  aliases = [];
-  leads = record { few = omega arith; follows = refl };
-}
+abbrev ask_again : ShownAsk
+ask_again = record { path = Udp 1040; server = server; octets = question_text 16 1; moment = 2000 }
 
-waits_again : AsksForWaiting config asks_again history (0 ∷ [])
+-- the question waits, behind a history without an ask
+waits_again : (past : List Step) → listed past ≡ [] → listed (asks_again ∷ past) ≡ ask_again ∷ []
+    → unanswered (asks_again ∷ past) (0 ∷ []) ≡ length past ∷ [] → AsksForWaiting config asks_again past (0 ∷ [])
 unfolding first_question question_at octets_end name_within walk_in name_step
-waits_again = record {
-  wanted = address a ∷ [];
-  each = (wants_again history, tt);
-  asked = (inl (record { question = address a; reads = refl; same = refl }), tt);
-  wanting = (inl (record { question = address a; reads = refl; same = refl }), tt);
-  spelled = (
-    inr (record {
-      question = address a;
-      reads = refl;
-      from = inl (record { anew = λ closes quiet. none_listed closes.is_listed; spelled = inl refl });
-    }),
-    tt,
-  );
-}
+waits_again past none_before one_now one_waits =
+    waits_for_new config asks_again past (0 ∷ []) ask_again (address a) none_before one_now one_waits
+    (wants_it config asks_again 7 past (asks_again ∷ past) refl (inl refl)) refl refl
 
 asks_again_right : (past : List Step) → listed past ≡ []
     → AsksRight config asks_again past (record { path = Udp 1040; server = server; octets = question_text 16 1 })
@@ -130,13 +94,7 @@ but_for_its_use uses recent = record {
     few = omega arith;
   };
   asks = (it_asks_well, (tt, tt), omega arith, ((asks_again_right history refl, refl), tt));
-  waiting = (
-    (
-      (tt, asked_for config false word),
-      record { wanted = []; each = tt; asked = tt; wanting = tt; spelled = tt },
-    ),
-    waits_again,
-  );
+  waiting = (nobody_waits, waits_again history refl refl refl);
   uses = uses;
   used = [] ∷ [] ∷ [] ∷ [];
   recent = recent;
@@ -230,25 +188,9 @@ not_recent h = by h.sound.owners h.used h.recent
         (λ looks. leads_nowhere looks.pieces looks.servers looks.accepts looks.name looks.end) (uses.0.0.1 _ (asked_touched first used)).0 in
         let nothing : third ≡ [] = uses_none stumbles history _ third (λ r. not_sent) (λ looks. no_delivery looks.accepts.matches.delivered)
         (uses.0.1 _ (answered_touched first second used)).0 in
-        let once = (uses.1 (touched first second third) (all_touched first second third used)).1 client (address a) looks_up (known first second third none nothing) in
+        let once = (uses.1 (touched first second third) (all_touched first second third used)).1 client (address a)
+        (looks_up asks_again 7 refl) (known first second third none nothing) in
         true≢false (sym (ap is_reply once.actions))
-
-waits_behind : AsksForWaiting config asks_again stumbled (0 ∷ [])
-unfolding first_question question_at octets_end name_within walk_in name_step
-waits_behind = record {
-  wanted = address a ∷ [];
-  each = (wants_again stumbled, tt);
-  asked = (inl (record { question = address a; reads = refl; same = refl }), tt);
-  wanting = (inl (record { question = address a; reads = refl; same = refl }), tt);
-  spelled = (
-    inr (record {
-      question = address a;
-      reads = refl;
-      from = inl (record { anew = λ closes quiet. none_listed closes.is_listed; spelled = inl refl });
-    }),
-    tt,
-  );
-}
 
 -- of that era the other claim of use says nothing
 out_of_memory : UsesWhatStands config (asks_again ∷ stumbled) ([] ∷ [] ∷ (0 ∷ []) ∷ [] ∷ [])
@@ -273,14 +215,8 @@ but_for_what_is_recent recent = record {
   };
   asks = ((it_asks_well, tt, omega arith, tt), (tt, tt), omega arith, ((asks_again_right stumbled refl, refl), tt));
   waiting = (
-    (
-      (
-        (tt, asked_for config false word),
-        record { wanted = []; each = tt; asked = tt; wanting = tt; spelled = tt },
-      ),
-      record { wanted = []; each = tt; asked = tt; wanting = tt; spelled = tt },
-    ),
-    waits_behind,
+    (nobody_waits, record { wanted = []; each = tt; asked = tt; wanting = tt; spelled = tt }),
+    waits_again stumbled refl refl refl,
   );
   uses = out_of_memory;
   used = [] ∷ [] ∷ [] ∷ [] ∷ [];

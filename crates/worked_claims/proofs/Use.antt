@@ -18,6 +18,7 @@ use Rattle.theorem_use.specs.Standing.{standing}
 use Rattle.theorem_use.specs.Use.{HasRoom, AsksToLookUp, LeadsToEnd, UsesWhatStands}
 use Rattle.worked_claims.proofs.Texts.{with_flags, question_text, client, step_of}
 use Rattle.worked_claims.proofs.Accepted.{asked}
+use Rattle.worked_claims.proofs.Brought.{looks_up}
 use Rattle.worked_claims.proofs.ServerDenials.{there_is_none, is_not_there, no_address, name_error, none_carried}
 use Rattle.worked_claims.proofs.ServerDenials.{error_carried}
 
@@ -100,19 +101,6 @@ again actions = step_of 2000 (1048592 ∷ []) (from_client client (question_text
 abbrev asks_on : List Action
 asks_on = ask_udp 1040 server (question_text 16 1) ∷ []
 
-looks_up : (actions : List Action) → AsksToLookUp config (again actions) client (address a)
-unfolding first_question question_at octets_end name_within walk_in name_step route_of
-looks_up actions = record {
-  octets = question_text 7 1;
-  sends = refl;
-  taken = refl;
-  opcode = refl;
-  reads = refl;
-  served = refl;
-  route = 0;
-  on_route = refl;
-}
-
 room_for_none : HasRoom config (there_is_none ∷ asked ∷ []) (no_address ∷ [])
 room_for_none = record {
   slots = record { slots = no_address.piece.slot ∷ []; few = omega arith; each = (inl refl, tt) };
@@ -134,14 +122,16 @@ a_known_denial_is_used : (w : List (List ℕ)) (is : List ℕ)
     → UsesWhatStands config (again asks_on ∷ there_is_none ∷ asked ∷ []) (is ∷ w) → ⊥
 unfolding route_of
 a_known_denial_is_used w is uses =
-    let once = uses.1 client (address a) (no_address ∷ []) (looks_up asks_on) none_carried room_for_none tt in
+    let looks = looks_up (again asks_on) 7 refl in
+    let once = uses.1 client (address a) (no_address ∷ []) looks none_carried room_for_none tt in
     true≢false (sym (ap is_reply once.actions))
 
 a_known_error_is_used : (w : List (List ℕ)) (is : List ℕ)
     → UsesWhatStands config (again asks_on ∷ is_not_there ∷ asked ∷ []) (is ∷ w) → ⊥
 unfolding route_of
 a_known_error_is_used w is uses =
-    let once = uses.1 client (address a) (name_error ∷ []) (looks_up asks_on) error_carried room_for_error tt in
+    let looks = looks_up (again asks_on) 7 refl in
+    let once = uses.1 client (address a) (name_error ∷ []) looks error_carried room_for_error tt in
     true≢false (sym (ap is_reply once.actions))
 
 -- ---- asked for again without RD
