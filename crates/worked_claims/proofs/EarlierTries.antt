@@ -1,28 +1,37 @@
 -- What is known of a listed ask, `Tried`, computed of the second ask of an inquiry: the first one
 -- failed, and the next server was asked. Neighbours count a try less or more, or have another
--- identifier, route or server.
-use Rattle.std.proofs.Common.{◌≡◌, ℕ, List, [], ◌∷◌, false, Option, Some, refl, ap, subst, inl, inr}
+-- identifier, route or server, or a question with a type above 16 bits.
+use Rattle.std.proofs.Common.{◌≡◌, ℕ, ◌<◌, List, [], ◌∷◌, false, Option, Some, refl, ap, subst, inl, inr}
 use Rattle.std.proofs.Common.{arith}
 use Rattle.std.specs.Prelude.{suc, get_or}
 use Rattle.std.proofs.lemmas.Bool.{true≢false}
 use Rattle.dns_name.specs.Labels.{IsLabel, IsName}
+use Rattle.dns_message.specs.Header.{header_in}
 use Rattle.dns_message.specs.Names.{step as name_step, walk_in, name_within}
 use Rattle.dns_message.specs.Records.{octets_end, question_at}
 use Rattle.dns_message.specs.Messages.{first_question}
 use Rattle.dns_message.specs.Writing.{◌▹◌, each, name_text, written}
+use Rattle.dns_message.specs.Values.{Question}
+use Rattle.dns_message.specs.Written.{IsQuestion}
 use Rattle.suffix_routes.specs.declared.peer.Peer.{Peer}
 use Rattle.suffix_routes.specs.Values.{Config, Route}
 use Rattle.suffix_routes.specs.Routes.{route_of}
+use Rattle.suffix_routes.specs.Serving.{serving_route_of}
 use Rattle.outstanding.specs.declared.ask.Path.TheVariants.{Udp}
 use Rattle.outstanding.specs.Values.{Ask}
-use Rattle.step_values.specs.Values.{tick, ask_udp, close_udp, Step}
+use Rattle.outstanding.specs.Draws.{ask_message}
+use Rattle.step_values.specs.Values.{from_client, tick, ask_udp, close_udp, Step}
 use Rattle.step_history.specs.Causes.{ClosesAsk, FailedSoFar}
+use Rattle.step_history.specs.History.{Reads}
 use Rattle.step_table.proofs.Played.{a, address, server, other_server, config}
+use Rattle.step_table.specs.Attempts.{peer_at}
 use Rattle.theorem_sound.specs.Explains.{Tried}
 use Rattle.worked_claims.proofs.Neighbours.{HoldsButFor}
-use Rattle.worked_claims.proofs.Texts.{question_text, step_of}
+use Rattle.worked_claims.proofs.Texts.{question_text, client, step_of}
 use Rattle.worked_claims.proofs.Silent.{nothing_heard}
 use Rattle.worked_claims.proofs.Accepted.{asked, ask}
+use Rattle.worked_claims.proofs.AskTexts.{reads_follows, question_follows}
+use Rattle.worked_claims.proofs.Brought.{question_is}
 use Rattle.worked_claims.proofs.Failures.{begun, the_first_closes_none}
 
 -- ---- the ask of a.e at 1000 is over at 2500, and the other server is asked
@@ -33,18 +42,22 @@ retries = step_of 2500 (1048592 ∷ []) tick (close_udp 1032 ∷ ask_udp 1040 ot
 abbrev past : List Step
 past = retries ∷ asked ∷ []
 
--- the listed ask, as the try with this number
-abbrev try : ℕ → Ask
-try used = record {
+-- a listed ask of a.e: the number of the try, the identifier, the route and the server's address
+abbrev try_by : ℕ → ℕ → ℕ → Peer → Ask
+try_by used id route peer = record {
   question = address a;
-  route = 0;
+  route = route;
   server = 1;
-  peer = other_server;
+  peer = peer;
   used = used;
   path = Udp 1040;
-  id = 16;
+  id = id;
   asked = 2500;
 }
+
+-- the ask of this history, as the try with this number
+abbrev try : ℕ → Ask
+try used = try_by used 16 0 other_server
 
 -- so many tries before it failed
 abbrev FailedBefore : Config → ℕ → Type 0
@@ -54,19 +67,22 @@ closes_first : ClosesAsk (address a) retries (asked ∷ [])
 unfolding first_question question_at octets_end name_within walk_in name_step
 closes_first = record { ask = ask; asked = address a; is_listed = refl; closed = refl; reads = refl; same = refl }
 
--- in a configuration with the same time for one ask
-one_failed : (routes : List Route) → FailedSoFar (record config { routes = routes }) (address a) past 1
+-- in a configuration with these routes
+abbrev with_routes : List Route → Config
+with_routes routes = record config { routes = routes }
+
+one_failed : (routes : List Route) → FailedSoFar (with_routes routes) (address a) past 1
 unfolding first_question question_at octets_end name_within walk_in name_step closes_first
 one_failed routes = (
   refl,
   inl (
     record {
       closes = closes_first;
-      quiet = nothing_heard (record config { routes = routes }) retries (asked ∷ []) refl;
+      quiet = nothing_heard (with_routes routes) retries (asked ∷ []) refl;
       why = inr (inr (refl, omega arith));
     },
     inr (inl (address a, refl, refl)),
-    begun (record config { routes = routes }),
+    begun (with_routes routes),
   ),
 )
 
@@ -78,18 +94,26 @@ name_of_a = record { each = (label 97, (label 101, tt)); short = omega arith }
 
 -- ---- it is the second try
 
+tried_if : (routes : List Route) (used id route : ℕ) (peer : Peer)
+    → (header_in (written (ask_message id (address a)))).id ≡ id
+    → serving_route_of (with_routes routes) a ≡ Some route → peer_at (with_routes routes) route 1 ≡ Some peer
+    → FailedBefore (with_routes routes) used → Tried (with_routes routes) past (try_by used id route peer)
+tried_if routes used id route peer identifier on_route server_is failed =
+    let question : IsQuestion (address a) = record { name = name_of_a; kind = omega arith; class = omega arith } in
+    record {
+      question = question;
+      reads = reads_follows id (address a) question;
+      identifier = identifier;
+      on_route = on_route;
+      server = server_is;
+      before = failed.0;
+      used = failed.1;
+      failed = failed.2;
+    }
+
 tried_so : (used : ℕ) → FailedBefore config used → Tried config past (try used)
-unfolding written ◌▹◌ each name_text first_question question_at octets_end name_within walk_in name_step route_of
-tried_so used failed = record {
-  question = record { name = name_of_a; kind = omega arith; class = omega arith };
-  reads = refl;
-  identifier = refl;
-  on_route = refl;
-  server = refl;
-  before = failed.0;
-  used = failed.1;
-  failed = failed.2;
-}
+unfolding written ◌▹◌ each name_text route_of
+tried_so used failed = tried_if config.routes used 16 0 other_server refl refl refl failed
 
 second_try : Tried config past (try 2)
 second_try = tried_so 2 (1, refl, one_failed config.routes)
@@ -136,20 +160,60 @@ as_the_third_try = (
 
 -- ---- the ask itself
 
--- its identifier is larger than its two octets, which have the rest
-of_another_identifier : HoldsButFor (◌≡◌ {A = ℕ} 16 65552) (Tried config past (record (try 2) { id = 65552 }))
+-- An ask for a type above 16 bits; the ask's text reads as type 1. So `question` and `reads` fail,
+-- and neither field fails alone: each follows from the other (`AskTexts`). No octets read as such a
+-- type, so the text in the history has a number above 255.
+abbrev odd : Question
+odd = record (address a) { kind = 65537 }
+
+abbrev asks_oddly : Step
+asks_oddly = step_of 1000 (524296 ∷ []) (from_client client (question_text 7 1))
+    (ask_udp 1032 server (question_text 8 65537) ∷ [])
+
+abbrev odd_try : Ask
+odd_try = record {
+  question = odd;
+  route = 0;
+  server = 0;
+  peer = server;
+  used = 1;
+  path = Udp 1032;
+  id = 8;
+  asked = 1000;
+}
+
+tried_oddly : IsQuestion odd → Reads (written (ask_message 8 odd)) odd → Tried config (asks_oddly ∷ []) odd_try
 unfolding written ◌▹◌ each name_text first_question question_at octets_end name_within walk_in name_step route_of
+tried_oddly question reads = record {
+  question = question;
+  reads = reads;
+  identifier = refl;
+  on_route = refl;
+  server = refl;
+  before = 0;
+  used = refl;
+  failed = (refl, inl (inl (odd, refl, refl), inl tt));
+}
+
+of_no_question : HoldsButFor (IsQuestion odd) (Tried config (asks_oddly ∷ []) odd_try)
+of_no_question = (
+  λ question. tried_oddly question (reads_follows 8 odd question),
+  λ h. (let small : 65537 < 65536 = h.question.kind in omega (arith, small)),
+)
+
+of_another_question : HoldsButFor (Reads (written (ask_message 8 odd)) odd) (Tried config (asks_oddly ∷ []) odd_try)
+unfolding written ◌▹◌ each name_text first_question question_at octets_end name_within walk_in name_step
+of_another_question = (
+  λ reads. tried_oddly (question_follows 8 odd reads) reads,
+  λ h. (let kinds : 1 ≡ 65537 = ap (λ (q : Question). q.kind) (question_is (address a) odd h.reads) in
+      omega (arith, kinds)),
+)
+
+-- its identifier is larger than its two octets, which have the rest
+of_another_identifier : HoldsButFor (◌≡◌ {A = ℕ} 16 65552) (Tried config past (try_by 2 65552 0 other_server))
+unfolding written ◌▹◌ each name_text route_of
 of_another_identifier = (
-  λ identifier. record {
-    question = record { name = name_of_a; kind = omega arith; class = omega arith };
-    reads = refl;
-    identifier = identifier;
-    on_route = refl;
-    server = refl;
-    before = 1;
-    used = refl;
-    failed = one_failed config.routes;
-  },
+  λ identifier. tried_if config.routes 2 65552 0 other_server identifier refl refl (1, refl, one_failed config.routes),
   λ h. omega (arith, h.identifier),
 )
 
@@ -161,23 +225,11 @@ two_routes = record { suffix = []; deny = false; servers = server ∷ other_serv
   servers = server ∷ other_server ∷ [];
 } ∷ []
 
-abbrev with_two : Config
-with_two = record config { routes = two_routes }
-
 of_another_route : HoldsButFor (◌≡◌ {A = Option ℕ} (Some 0) (Some 1))
-    (Tried with_two past (record (try 2) { route = 1 }))
-unfolding written ◌▹◌ each name_text first_question question_at octets_end name_within walk_in name_step route_of
+    (Tried (with_routes two_routes) past (try_by 2 16 1 other_server))
+unfolding written ◌▹◌ each name_text route_of
 of_another_route = (
-  λ on_route. record {
-    question = record { name = name_of_a; kind = omega arith; class = omega arith };
-    reads = refl;
-    identifier = refl;
-    on_route = on_route;
-    server = refl;
-    before = 1;
-    used = refl;
-    failed = one_failed two_routes;
-  },
+  λ on_route. tried_if two_routes 2 16 1 other_server refl on_route refl (1, refl, one_failed two_routes),
   λ h. by h.on_route,
 )
   where
@@ -185,19 +237,10 @@ of_another_route = (
     by is = let places : ◌≡◌ {A = ℕ} 0 1 = cc in omega (arith, places)
 
 -- the second server by its place, and the first one by its address
-of_another_server : HoldsButFor (Some other_server ≡ Some server) (Tried config past (record (try 2) { peer = server }))
-unfolding written ◌▹◌ each name_text first_question question_at octets_end name_within walk_in name_step route_of
+of_another_server : HoldsButFor (Some other_server ≡ Some server) (Tried config past (try_by 2 16 0 server))
+unfolding written ◌▹◌ each name_text route_of
 of_another_server = (
-  λ peer. record {
-    question = record { name = name_of_a; kind = omega arith; class = omega arith };
-    reads = refl;
-    identifier = refl;
-    on_route = refl;
-    server = peer;
-    before = 1;
-    used = refl;
-    failed = one_failed config.routes;
-  },
+  λ peer. tried_if config.routes 2 16 0 server refl refl peer (1, refl, one_failed config.routes),
   λ h. by h.server,
 )
   where

@@ -51,4 +51,5 @@ mod NoData
 mod LameReplies
 mod ServersBeside
 mod EightAliases
+mod AskTexts
 mod EarlierTries
