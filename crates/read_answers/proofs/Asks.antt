@@ -67,7 +67,7 @@ ask_spelled id q question few = written_message_is_spelled (ask_message id q) (r
 }) refl (record { answers = tt; authority = tt; additional = tt })
     (alone_short (ask_message id q).header q question.name)
 
-query_shown : (id : ℕ) (q : Question) → IsQueryFor id q (ask_message id q)
+pub query_shown : (id : ℕ) (q : Question) → IsQueryFor id q (ask_message id q)
 query_shown id q = record {
   id_is = refl;
   qr = refl;

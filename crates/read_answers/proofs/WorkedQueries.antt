@@ -9,10 +9,13 @@ use Rattle.dns_message.specs.Records.{octets_end, question_at, counted}
 use Rattle.dns_message.specs.Messages.{message_at, message_of, first_question}
 use Rattle.dns_message.specs.Values.{Question, Record, Message}
 use Rattle.dns_message.proofs.CallerLemmas.{message_read_is_spelled, one_message_is_spelled}
+use Rattle.outstanding.specs.Draws.{ask_message}
+use Rattle.step_values.specs.declared.action.Why.{Why}
 use Rattle.step_values.specs.declared.action.Why.TheVariants.{BadFormat, BadOpcode, NotServed, NoRoute, Exhausted}
 use Rattle.step_values.specs.declared.action.Why.TheVariants.{Deadline}
 use Rattle.step_history.specs.History.{Reads}
 use Rattle.read_answers.specs.Read.{IsResponseTo, AreReadAs, IsCodeOf, Repeats, ShowsFailure, IsQueryFor}
+use Rattle.read_answers.proofs.Asks.{query_shown}
 use Rattle.read_answers.proofs.Worked.{name, soa, none_of}
 
 -- a question for this type at a.e
@@ -26,44 +29,13 @@ kind_of (q ∷ qs) = q.kind
 -- ---- a query with identifier 7
 
 abbrev query : Message
-query = record {
-  header = record {
-    id = 7;
-    qr = false;
-    opcode = 0;
-    aa = false;
-    tc = false;
-    rd = true;
-    ra = false;
-    z = 0;
-    rcode = 0;
-    counts = 1 ∷ 0 ∷ 0 ∷ 0 ∷ [];
-  };
-  questions = asked 1 ∷ [];
-  answers = [];
-  authority = [];
-  additional = [];
-}
+query = ask_message 7 (asked 1)
 
 abbrev IsQuery : Message → Type 0
 IsQuery = IsQueryFor 7 (asked 1)
 
 is_query : IsQuery query
-is_query = record {
-  id_is = refl;
-  qr = refl;
-  opcode = refl;
-  aa = refl;
-  tc = refl;
-  rd = refl;
-  ra = refl;
-  z = refl;
-  rcode = refl;
-  question = refl;
-  answers = refl;
-  authority = refl;
-  additional = refl;
-}
+is_query = query_shown 7 (asked 1)
 
 query_with_another_id : IsQuery (record query { header = record query.header { id = 8 } }) → ⊥
 query_with_another_id h = omega (arith, h.id_is)
@@ -192,35 +164,24 @@ response_with_more h = none_of soa [] h.additional
 
 -- ---- codes of reasons
 
-a_format : IsCodeOf BadFormat 1
-a_format = refl
+-- the reason has this code, and not the other code
+abbrev HasCode : Why → ℕ → ℕ → Type 0
+HasCode why code other = IsCodeOf why code × (IsCodeOf why other → ⊥)
 
-a_format_as_failure : IsCodeOf BadFormat 2 → ⊥
-a_format_as_failure is = omega (arith, is)
+a_format : HasCode BadFormat 1 2
+a_format = (refl, λ is. omega (arith, is))
 
-an_opcode : IsCodeOf BadOpcode 4
-an_opcode = refl
+an_opcode : HasCode BadOpcode 4 1
+an_opcode = (refl, λ is. omega (arith, is))
 
-an_opcode_as_format : IsCodeOf BadOpcode 1 → ⊥
-an_opcode_as_format is = omega (arith, is)
+a_type : HasCode NotServed 4 5
+a_type = (refl, λ is. omega (arith, is))
 
-a_type : IsCodeOf NotServed 4
-a_type = refl
+no_route : HasCode NoRoute 5 2
+no_route = (refl, λ is. omega (arith, is))
 
-a_type_as_refusal : IsCodeOf NotServed 5 → ⊥
-a_type_as_refusal is = omega (arith, is)
-
-no_route : IsCodeOf NoRoute 5
-no_route = refl
-
-no_route_as_failure : IsCodeOf NoRoute 2 → ⊥
-no_route_as_failure is = omega (arith, is)
-
-all_tries : IsCodeOf Exhausted 2
-all_tries = refl
-
-all_tries_as_name_error : IsCodeOf Exhausted 3 → ⊥
-all_tries_as_name_error is = omega (arith, is)
+all_tries : HasCode Exhausted 2 3
+all_tries = (refl, λ is. omega (arith, is))
 
 -- ---- failures of a request
 
