@@ -1,6 +1,6 @@
 -- A worked reply, whole: the ask that it matches, why it is accepted, and the pieces that it
 -- carried; and the answer that it justifies.
-use Rattle.std.proofs.Common.{◌≡◌, ℕ, ◌<◌, List, [], ◌∷◌, Some, Ok, refl, inl, inr, arith}
+use Rattle.std.proofs.Common.{◌≡◌, ℕ, List, [], ◌∷◌, Some, Ok, refl, inl, inr, arith}
 use Rattle.dns_message.specs.Names.{step as name_step, walk_in, name_within}
 use Rattle.dns_message.specs.Data.{octets_within, parts_at, data_at}
 use Rattle.dns_message.specs.Shapes.{shape_of}
@@ -19,13 +19,14 @@ use Rattle.outstanding.specs.declared.ask.Path.TheVariants.{Udp}
 use Rattle.step_values.specs.declared.action.Why.TheVariants.{Answered}
 use Rattle.step_values.specs.Values.{from_client, delivery, send_reply, ask_udp, close_udp, Step}
 use Rattle.cache_laws.proofs.CallerLemmas.{serves_exactly}
-use Rattle.step_history.specs.History.{Look, ShownAsk, listed, on_path, moment_at, Delivers, Matches, Accepts, Carries}
+use Rattle.step_history.specs.History.{Look, ShownAsk, Matches, Accepts, Carries}
 use Rattle.step_history.specs.Carried.{CarriedInEra, Justified}
 use Rattle.step_history.specs.Answers.{Chain, Answers}
 use Rattle.step_history.proofs.CallerLemmas.{walk_accepted}
 use Rattle.step_table.proofs.Played.{a, address, server, config}
 use Rattle.worked_claims.proofs.Texts.{question_text, client, step_of}
 use Rattle.worked_claims.proofs.Silent.{nothing_heard}
+use Rattle.worked_claims.proofs.ReplyTo.{ReachesAsk, matches_ask}
 
 -- ---- a question for the address of a.e, and its reply
 
@@ -99,55 +100,37 @@ piece = record {
 abbrev pub with_limits : ℕ → ℕ → Config
 with_limits tries stale_s = record config { limits = record config.limits { tries = tries; stale_s = stale_s } }
 
--- the step brings these octets from the ask's server, on the ask's path, while the ask is open
-abbrev pub ReachesAsk : Step → List Step → List ℕ → Type 0
-ReachesAsk s past octets = Delivers s.input.event (Udp 1032) server octets
-    × (on_path (Udp 1032) (listed past) ≡ Some ask) × (moment_at (s ∷ past) < 2500)
-
--- in each such step the reply matches, is accepted, and carries the address
-pub reply_matches : (c : Config) (s : Step) (past : List Step) → c.limits.ask_ms ≡ 1500
-    → ReachesAsk s past reply_text → Matches c s past ask reply_text (address a)
+-- in each step in which the reply reaches the ask, it matches, is accepted, and carries the address
+pub reply_matches : (c : Config) (s : Step) (past : List Step) → ReachesAsk c s past ask reply_text
+    → Matches c s past ask reply_text (address a)
 unfolding first_question question_at octets_end name_within walk_in name_step
-reply_matches c s past ask_ms reaches = record {
-  delivered = reaches.0;
-  is_listed = reaches.1;
-  is_live = omega (arith, reaches.2, ask_ms);
-  long_enough = omega arith;
-  not_too_long = omega arith;
-  is_reply = refl;
-  opcode = refl;
-  identifier = refl;
-  ask_reads = refl;
-  question = address a;
-  reads = refl;
-  same_question_as_ask = refl;
-}
+reply_matches c s past reaches = matches_ask c s past ask reply_text (address a) reaches
+    (omega arith, omega arith, refl, refl, refl, refl, refl, refl)
 
-pub reply_accepted : (tries stale_s : ℕ) (s : Step) (past : List Step) → ReachesAsk s past reply_text
+pub reply_accepted : (tries stale_s : ℕ) (s : Step) (past : List Step)
+    → ReachesAsk (with_limits tries stale_s) s past ask reply_text
     → Accepts (with_limits tries stale_s) s past (piece ∷ []) []
 unfolding route_of walk_from servers_from
 reply_accepted tries stale_s s past reaches =
     walk_accepted (with_limits tries stale_s) s past ask (address a) 0 reply_text (says 60) (tt, tt)
-    (reply_matches (with_limits tries stale_s) s past refl reaches)
+    (reply_matches (with_limits tries stale_s) s past reaches)
     (message_read_is_spelled reply_text (says 60) reply_is_read) refl (inl refl) refl refl
 
-pub reply_carries : (tries stale_s : ℕ) (s : Step) (past : List Step) → ReachesAsk s past reply_text
+pub reply_carries : (tries stale_s : ℕ) (s : Step) (past : List Step)
+    → ReachesAsk (with_limits tries stale_s) s past ask reply_text
     → Carries (with_limits tries stale_s) s past (piece ∷ [])
 reply_carries tries stale_s s past reaches =
     record { pieces = piece ∷ []; servers = []; accepts = reply_accepted tries stale_s s past reaches; are = refl }
 
--- the answer's step is such a step
-reached : ReachesAsk answered (asked ∷ []) reply_text
-reached = (refl, refl, omega arith)
-
+-- so in the answer's step
 pub matches : (tries stale_s : ℕ) → Matches (with_limits tries stale_s) answered (asked ∷ []) ask reply_text (address a)
-matches tries stale_s = reply_matches (with_limits tries stale_s) answered (asked ∷ []) refl reached
+matches tries stale_s = reply_matches (with_limits tries stale_s) answered (asked ∷ []) (refl, refl, omega arith)
 
 pub accepts : (tries stale_s : ℕ) → Accepts (with_limits tries stale_s) answered (asked ∷ []) (piece ∷ []) []
-accepts tries stale_s = reply_accepted tries stale_s answered (asked ∷ []) reached
+accepts tries stale_s = reply_accepted tries stale_s answered (asked ∷ []) (refl, refl, omega arith)
 
 pub carries : (tries stale_s : ℕ) → Carries (with_limits tries stale_s) answered (asked ∷ []) (piece ∷ [])
-carries tries stale_s = reply_carries tries stale_s answered (asked ∷ []) reached
+carries tries stale_s = reply_carries tries stale_s answered (asked ∷ []) (refl, refl, omega arith)
 
 -- ---- it justifies the answer
 

@@ -28,6 +28,7 @@ use Rattle.step_table.proofs.Played.{a, address, name_data, server, config}
 use Rattle.worked_claims.proofs.Texts.{question_text, client, step_of}
 use Rattle.worked_claims.proofs.Silent.{nothing_heard, nothing_justified}
 use Rattle.worked_claims.proofs.Accepted.{asked, ask, with_limits}
+use Rattle.worked_claims.proofs.ReplyTo.{matches_ask}
 
 -- ---- a.e is an alias of itself
 
@@ -75,20 +76,10 @@ unfolding first_question question_at octets_end name_within walk_in name_step ro
 carries tries stale_s = record {
   pieces = alias ∷ alias ∷ alias ∷ alias ∷ alias ∷ alias ∷ alias ∷ alias ∷ [];
   servers = [];
-  accepts = walk_accepted (with_limits tries stale_s) redirected (asked ∷ []) ask (address a) 0 reply_text says (tt, tt) (record {
-    delivered = refl;
-    is_listed = refl;
-    is_live = omega arith;
-    long_enough = omega arith;
-    not_too_long = omega arith;
-    is_reply = refl;
-    opcode = refl;
-    identifier = refl;
-    ask_reads = refl;
-    question = address a;
-    reads = refl;
-    same_question_as_ask = refl;
-  }) (message_read_is_spelled reply_text says reply_is_read) refl (inl refl) refl refl;
+  accepts = walk_accepted (with_limits tries stale_s) redirected (asked ∷ []) ask (address a) 0 reply_text says (tt, tt)
+      (matches_ask (with_limits tries stale_s) redirected (asked ∷ []) ask reply_text (address a)
+      (refl, refl, omega arith) (omega arith, omega arith, refl, refl, refl, refl, refl, refl))
+      (message_read_is_spelled reply_text says reply_is_read) refl (inl refl) refl refl;
   are = refl;
 }
 

@@ -23,6 +23,7 @@ use Rattle.step_history.specs.Sound.{RightStaleAnswer}
 use Rattle.step_table.proofs.Played.{a, address, server}
 use Rattle.worked_claims.proofs.Texts.{question_text, failure_with, client, other_client, step_of, the_only_ask}
 use Rattle.worked_claims.proofs.Silent.{nothing_heard}
+use Rattle.worked_claims.proofs.ReplyTo.{matches_ask}
 use Rattle.worked_claims.proofs.Accepted.{asked, ask, answered, answer_with, piece, carries, with_limits}
 
 -- two tries, and a window for expired data
@@ -159,20 +160,8 @@ fourth_ask = record { path = Udp 1056; server = server; octets = question_text 3
 
 the_reply_matches : Matches c asks_next ended third_ask failure_text (address a)
 unfolding first_question question_at octets_end name_within walk_in name_step
-the_reply_matches = record {
-  delivered = refl;
-  is_listed = refl;
-  is_live = omega arith;
-  long_enough = omega arith;
-  not_too_long = omega arith;
-  is_reply = refl;
-  opcode = refl;
-  identifier = refl;
-  ask_reads = refl;
-  question = address a;
-  reads = refl;
-  same_question_as_ask = refl;
-}
+the_reply_matches = matches_ask c asks_next ended third_ask failure_text (address a) (refl, refl, omega arith)
+    (omega arith, omega arith, refl, refl, refl, refl, refl, refl)
 
 third_fails : FailsAsk c (address a) asks_next ended
 unfolding first_question question_at octets_end name_within walk_in name_step

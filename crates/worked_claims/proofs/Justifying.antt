@@ -138,7 +138,7 @@ carries_still = record {
   pieces = piece ∷ [];
   servers = [];
   accepts = walk_accepted two_routes answered (asked ∷ []) ask (address a) 0 reply_text (says 60) differ
-      (reply_matches two_routes answered (asked ∷ []) refl (refl, refl, omega arith))
+      (reply_matches two_routes answered (asked ∷ []) (refl, refl, omega arith))
       (message_read_is_spelled reply_text (says 60) reply_is_read) refl (inl refl) refl refl;
   are = refl;
 }

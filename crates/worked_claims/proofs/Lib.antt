@@ -1,6 +1,7 @@
 mod Texts
 mod Silent
 mod Owners
+mod ReplyTo
 mod Accepted
 mod OnlyThis
 mod RightAnswers

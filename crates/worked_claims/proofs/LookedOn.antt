@@ -40,6 +40,7 @@ use Rattle.theorem_use.specs.Touched.{Touched, TouchedInEra, LooksAlong, LooksOn
 use Rattle.theorem_use.specs.Use.{AsksToLookUp, IsKnown, UsesWhatStands}
 use Rattle.worked_claims.proofs.Texts.{client, step_of}
 use Rattle.worked_claims.proofs.Silent.{nothing_heard}
+use Rattle.worked_claims.proofs.ReplyTo.{matches_ask}
 use Rattle.worked_claims.proofs.Accepted.{asked, answered, piece, held, carries, carried_now}
 use Rattle.worked_claims.proofs.Carried.{one_era}
 use Rattle.worked_claims.proofs.Touches.{touched_nothing, touched_these, CameIn, recent_came, the_one_brought}
@@ -129,20 +130,8 @@ alias = record {
 
 matches : Matches config leads_on before ask reply_text (address b)
 unfolding first_question question_at octets_end name_within walk_in name_step
-matches = record {
-  delivered = refl;
-  is_listed = refl;
-  is_live = omega arith;
-  long_enough = omega arith;
-  not_too_long = omega arith;
-  is_reply = refl;
-  opcode = refl;
-  identifier = refl;
-  ask_reads = refl;
-  question = address b;
-  reads = refl;
-  same_question_as_ask = refl;
-}
+matches = matches_ask config leads_on before ask reply_text (address b) (refl, refl, omega arith)
+    (omega arith, omega arith, refl, refl, refl, refl, refl, refl)
 
 -- it is accepted, and leads to a.e
 abbrev AcceptsSo : Type 0

@@ -26,6 +26,7 @@ use Rattle.step_history.specs.History.{ShownAsk, Matches, Accepts, moment_at}
 use Rattle.step_history.proofs.CallerLemmas.{accepted_fine}
 use Rattle.step_table.proofs.Played.{a, address, server, other_server, config}
 use Rattle.worked_claims.proofs.Texts.{with_flags, step_of, the_only_ask, none_listed}
+use Rattle.worked_claims.proofs.ReplyTo.{matches_ask}
 use Rattle.worked_claims.proofs.Accepted.{asked, ask, answer_with, reply_text, answered, piece, matches, accepts}
 
 -- ---- deliveries, and the ask that they match
@@ -122,20 +123,9 @@ as_long_as_may_be : (octets : List ℕ) → length octets ≡ 65535 → (header_
     → (header_in octets).opcode ≡ 0 → (header_in octets).id ≡ 8 → one_question octets ≡ Some (address a)
     → Matches config (comes (Udp 1032) server octets) (asked ∷ []) ask octets (address a)
 unfolding first_question question_at octets_end name_within walk_in name_step
-as_long_as_may_be octets long is_reply opcode identifier reads = record {
-  delivered = refl;
-  is_listed = refl;
-  is_live = omega arith;
-  long_enough = omega (arith, long);
-  not_too_long = omega (arith, long);
-  is_reply = is_reply;
-  opcode = opcode;
-  identifier = identifier;
-  ask_reads = refl;
-  question = address a;
-  reads = reads;
-  same_question_as_ask = refl;
-}
+as_long_as_may_be octets long is_reply opcode identifier reads =
+    matches_ask config (comes (Udp 1032) server octets) (asked ∷ []) ask octets (address a) (refl, refl, omega arith)
+    (omega (arith, long), omega (arith, long), is_reply, opcode, identifier, refl, reads, refl)
 
 too_long : (s : Step) (x : ShownAsk) (q : Question) (octets : List ℕ) → length octets ≡ 65536
     → Matches config s (asked ∷ []) x octets q → ⊥

@@ -18,11 +18,12 @@ use Rattle.record_cache.specs.Values.{Held}
 use Rattle.outstanding.specs.declared.ask.Path.TheVariants.{Udp}
 use Rattle.step_values.specs.declared.action.Why.TheVariants.{Answered}
 use Rattle.step_values.specs.Values.{delivery, send_reply, close_udp, Step}
-use Rattle.step_history.specs.History.{listed, on_path, moment_at, Carries}
+use Rattle.step_history.specs.History.{ShownAsk, listed, on_path, moment_at, Carries}
 use Rattle.step_history.proofs.CallerLemmas.{walk_accepted}
 use Rattle.step_table.proofs.Played.{a, address, server}
 use Rattle.worked_claims.proofs.Texts.{question_text, client, step_of}
 use Rattle.worked_claims.proofs.Accepted.{answer_with, held, with_limits}
+use Rattle.worked_claims.proofs.ReplyTo.{matches_ask}
 
 -- one try, and a window of 600 seconds
 abbrev pub c : Config
@@ -57,34 +58,22 @@ five_seconds = record held.piece { lifetime = 5 }
 abbrev pub newer : ℕ → Held
 newer now = record { piece = five_seconds; accepted = now }
 
+-- the ask, sent at this moment
+abbrev second_ask : ℕ → ShownAsk
+second_ask moment = record { path = Udp 1040; server = server; octets = question_text 16 1; moment = moment }
+
 -- it carried that, to whatever step's ask on that port, as long as it was open
 pub second_carries : (now asked_at : ℕ) (before : List Step)
-    → on_path (Udp 1040) (listed before)
-    ≡ Some (record { path = Udp 1040; server = server; octets = question_text 16 1; moment = asked_at })
+    → on_path (Udp 1040) (listed before) ≡ Some (second_ask asked_at)
     → moment_at (heard_again now ∷ before) < asked_at + 1500
     → Carries c (heard_again now) before (five_seconds ∷ [])
 unfolding first_question question_at octets_end name_within walk_in name_step route_of walk_from servers_from
 second_carries now asked_at before on live = record {
   pieces = five_seconds ∷ [];
   servers = [];
-  accepts = walk_accepted c (heard_again now) before (record {
-    path = Udp 1040;
-    server = server;
-    octets = question_text 16 1;
-    moment = asked_at;
-  }) (address a) 0 second_text says_again (tt, tt) (record {
-    delivered = refl;
-    is_listed = on;
-    is_live = live;
-    long_enough = omega arith;
-    not_too_long = omega arith;
-    is_reply = refl;
-    opcode = refl;
-    identifier = refl;
-    ask_reads = refl;
-    question = address a;
-    reads = refl;
-    same_question_as_ask = refl;
-  }) (message_read_is_spelled second_text says_again second_is_read) refl (inl refl) refl refl;
+  accepts = walk_accepted c (heard_again now) before (second_ask asked_at) (address a) 0 second_text says_again (tt, tt)
+      (matches_ask c (heard_again now) before (second_ask asked_at) second_text (address a) (refl, on, live)
+      (omega arith, omega arith, refl, refl, refl, refl, refl, refl))
+      (message_read_is_spelled second_text says_again second_is_read) refl (inl refl) refl refl;
   are = refl;
 }

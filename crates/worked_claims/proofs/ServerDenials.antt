@@ -30,7 +30,8 @@ use Rattle.step_history.specs.Answers.{EndsChain, Chain, Answers}
 use Rattle.step_history.specs.Sound.{RightReply}
 use Rattle.step_table.proofs.Played.{a, b, example, address, server, config}
 use Rattle.worked_claims.proofs.Texts.{question_text, client, step_of}
-use Rattle.worked_claims.proofs.Accepted.{asked, ask, ReachesAsk, piece, carried_before}
+use Rattle.worked_claims.proofs.Accepted.{asked, ask, piece, carried_before}
+use Rattle.worked_claims.proofs.ReplyTo.{ReachesAsk, matches_ask}
 
 -- ---- a denial with e's SOA
 
@@ -86,23 +87,11 @@ error_is_read = refl
 
 -- ---- both denials match the open ask, in whatever step
 
-matches : (code : ℕ) (s : Step) (past : List Step) → ReachesAsk s past (server_text code)
+matches : (code : ℕ) (s : Step) (past : List Step) → ReachesAsk config s past ask (server_text code)
     → Matches config s past ask (server_text code) (address a)
 unfolding first_question question_at octets_end name_within walk_in name_step
-matches code s past reaches = record {
-  delivered = reaches.0;
-  is_listed = reaches.1;
-  is_live = reaches.2;
-  long_enough = omega arith;
-  not_too_long = omega arith;
-  is_reply = refl;
-  opcode = refl;
-  identifier = refl;
-  ask_reads = refl;
-  question = address a;
-  reads = refl;
-  same_question_as_ask = refl;
-}
+matches code s past reaches = matches_ask config s past ask (server_text code) (address a) reaches
+    (omega arith, omega arith, refl, refl, refl, refl, refl, refl)
 
 -- ---- their pieces, for 30 seconds: the least of the SOA's TTL and MINIMUM (RFC 2308 5)
 
@@ -132,7 +121,7 @@ name_error = record {
   accepted = 1020;
 }
 
-pub none_carries : (s : Step) (past : List Step) → ReachesAsk s past (server_text 0)
+pub none_carries : (s : Step) (past : List Step) → ReachesAsk config s past ask (server_text 0)
     → Carries config s past (no_address.piece ∷ [])
 unfolding route_of walk_from servers_from
 none_carries s past reaches = record {
@@ -144,7 +133,7 @@ none_carries s past reaches = record {
   are = refl;
 }
 
-pub error_carries : (s : Step) (past : List Step) → ReachesAsk s past (server_text 3)
+pub error_carries : (s : Step) (past : List Step) → ReachesAsk config s past ask (server_text 3)
     → Carries config s past (name_error.piece ∷ [])
 unfolding route_of walk_from servers_from
 error_carries s past reaches = record {

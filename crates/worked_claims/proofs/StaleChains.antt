@@ -31,6 +31,7 @@ use Rattle.step_table.proofs.Played.{a, b, address, name_data, server}
 use Rattle.worked_claims.proofs.Texts.{question_text, client, step_of}
 use Rattle.worked_claims.proofs.Silent.{nothing_heard}
 use Rattle.worked_claims.proofs.Accepted.{asked, ask, carried_before}
+use Rattle.worked_claims.proofs.ReplyTo.{matches_ask}
 use Rattle.worked_claims.proofs.Aliases as aliases
 use Rattle.worked_claims.proofs.SecondReply.{c}
 
@@ -97,20 +98,10 @@ unfolding first_question question_at octets_end name_within walk_in name_step ro
 carries = record {
   pieces = alias.piece ∷ set.piece ∷ [];
   servers = [];
-  accepts = walk_accepted c heard (asked ∷ []) ask (address a) 0 reply_text (says reply_text 200 60) (tt, tt) (record {
-    delivered = refl;
-    is_listed = refl;
-    is_live = omega arith;
-    long_enough = omega arith;
-    not_too_long = omega arith;
-    is_reply = refl;
-    opcode = refl;
-    identifier = refl;
-    ask_reads = refl;
-    question = address a;
-    reads = refl;
-    same_question_as_ask = refl;
-  }) (message_read_is_spelled reply_text (says reply_text 200 60) reply_is_read) refl (inl refl) refl refl;
+  accepts = walk_accepted c heard (asked ∷ []) ask (address a) 0 reply_text (says reply_text 200 60) (tt, tt)
+      (matches_ask c heard (asked ∷ []) ask reply_text (address a) (refl, refl, omega arith)
+      (omega arith, omega arith, refl, refl, refl, refl, refl, refl))
+      (message_read_is_spelled reply_text (says reply_text 200 60) reply_is_read) refl (inl refl) refl refl;
   are = refl;
 }
 

@@ -3,7 +3,7 @@
 -- alive, although it was not believed when it came (RFC 2181 5.4.1), and a denial answers only if
 -- no living alias leads on.
 use Rattle.std.proofs.Common.{◌≡◌, ◌∙◌, ℕ, zero, suc, List, [], ◌∷◌, length, Option, Some, None, Ok}
-use Rattle.std.proofs.Common.{true, refl, sym, ap, subst, ◌⊎◌, inl, inr, arith}
+use Rattle.std.proofs.Common.{refl, sym, ap, subst, ◌⊎◌, inl, inr, arith}
 use Rattle.dns_message.specs.Names.{step as name_step, walk_in, name_within}
 use Rattle.dns_message.specs.Data.{octets_within, parts_at, data_at, name_of_rdata}
 use Rattle.dns_message.specs.Shapes.{shape_of}
@@ -19,7 +19,7 @@ use Rattle.trust_rank.specs.Walks.{walk_from, servers_from}
 use Rattle.record_cache.specs.Values.{Held}
 use Rattle.step_values.specs.Values.{from_client, Step}
 use Rattle.cache_laws.proofs.CallerLemmas.{keeps_place}
-use Rattle.step_history.specs.History.{Matches, Carries}
+use Rattle.step_history.specs.History.{Carries}
 use Rattle.step_history.specs.Carried.{CarriedInEra}
 use Rattle.step_history.proofs.CallerLemmas.{walk_accepted}
 use Rattle.step_table.proofs.Played.{a, address, name_data, config}
@@ -30,7 +30,8 @@ use Rattle.theorem_use.specs.Touched.{Touched, TouchedInEra, IsLiving}
 use Rattle.theorem_use.specs.Use.{HasRoom, IsKnown, UsesWhatStands}
 use Rattle.worked_claims.proofs.Texts.{question_text, client, step_of}
 use Rattle.worked_claims.proofs.Silent.{nothing_heard}
-use Rattle.worked_claims.proofs.Accepted.{asked, ask, ReachesAsk, carried_before}
+use Rattle.worked_claims.proofs.Accepted.{asked, ask, carried_before}
+use Rattle.worked_claims.proofs.ReplyTo.{matches_ask}
 use Rattle.worked_claims.proofs.ServerDenials.{server_text, no_address, none_carries}
 use Rattle.worked_claims.proofs.Touches.{touched_nothing, touched_these, CameIn, recent_came, the_one_brought}
 use Rattle.worked_claims.proofs.Brought.{looks_up, looks_up_no_other, wants_it}
@@ -113,44 +114,28 @@ after_long = heard_long ∷ after_short
 abbrev after_none : List Step
 after_none = heard_none ∷ after_long
 
--- a reply with an alias matches the ask
-alias_matches : (s : Step) (past : List Step) (high ttl : ℕ) → (header_in (alias_text high ttl)).qr ≡ true
-    → (header_in (alias_text high ttl)).opcode ≡ 0 → ReachesAsk s past (alias_text high ttl)
-    → Matches config s past ask (alias_text high ttl) (address a)
-unfolding first_question question_at octets_end name_within walk_in name_step
-alias_matches s past high ttl reply query reaches = record {
-  delivered = reaches.0;
-  is_listed = reaches.1;
-  is_live = reaches.2;
-  long_enough = omega arith;
-  not_too_long = omega arith;
-  is_reply = reply;
-  opcode = query;
-  identifier = refl;
-  ask_reads = refl;
-  question = address a;
-  reads = refl;
-  same_question_as_ask = refl;
-}
-
 short_carries : Carries config heard_short (asked ∷ []) (short.piece ∷ [])
-unfolding name_within walk_in name_step route_of walk_from servers_from name_of_rdata
+unfolding first_question question_at octets_end name_within walk_in name_step route_of walk_from servers_from
+    name_of_rdata
 short_carries = record {
   pieces = short.piece ∷ [];
   servers = [];
   accepts = walk_accepted config heard_short (asked ∷ []) ask (address a) 0 short_text (says short_text 1) (tt, tt)
-      (alias_matches heard_short (asked ∷ []) 133 1 refl refl (refl, refl, omega arith))
+      (matches_ask config heard_short (asked ∷ []) ask short_text (address a) (refl, refl, omega arith)
+      (omega arith, omega arith, refl, refl, refl, refl, refl, refl))
       (message_read_is_spelled short_text (says short_text 1) short_is_read) refl (inl refl) refl refl;
   are = refl;
 }
 
 long_carries : Carries config heard_long after_short (long.piece ∷ [])
-unfolding name_within walk_in name_step route_of walk_from servers_from name_of_rdata
+unfolding first_question question_at octets_end name_within walk_in name_step route_of walk_from servers_from
+    name_of_rdata
 long_carries = record {
   pieces = long.piece ∷ [];
   servers = [];
   accepts = walk_accepted config heard_long after_short ask (address a) 0 long_text (says long_text 60) (tt, tt)
-      (alias_matches heard_long after_short 129 60 refl refl (refl, refl, omega arith))
+      (matches_ask config heard_long after_short ask long_text (address a) (refl, refl, omega arith)
+      (omega arith, omega arith, refl, refl, refl, refl, refl, refl))
       (message_read_is_spelled long_text (says long_text 60) long_is_read) refl (inl refl) refl refl;
   are = refl;
 }

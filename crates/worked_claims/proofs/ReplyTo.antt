@@ -1,0 +1,36 @@
+-- Shared by the worked histories: octets that reply to an ask match the ask while the ask is open.
+use Rattle.std.proofs.Common.{◌≡◌, ℕ, ◌+◌, ◌<◌, ◌≤◌, List, ◌∷◌, length, true, Some}
+use Rattle.dns_message.specs.Header.{header_in}
+use Rattle.dns_message.specs.Questions.{same_question}
+use Rattle.dns_message.specs.Values.{Question}
+use Rattle.suffix_routes.specs.Values.{Config}
+use Rattle.step_values.specs.Values.{Step}
+use Rattle.step_history.specs.History.{ShownAsk, listed, on_path, moment_at, Reads, Delivers, Matches}
+
+-- a reply of 12 to 65,535 octets, with the identifier and the question of this text of an ask
+abbrev pub IsReplyTo : List ℕ → List ℕ → Question → Type 0
+IsReplyTo query octets q = (12 ≤ length octets) × (length octets ≤ 65535) × ((header_in octets).qr ≡ true)
+    × ((header_in octets).opcode ≡ 0) × ((header_in octets).id ≡ (header_in query).id) × Reads query q
+    × Reads octets q × (same_question q q ≡ true)
+
+-- the step brings these octets from the ask's server, on the ask's path, while the ask is open
+abbrev pub ReachesAsk : Config → Step → List Step → ShownAsk → List ℕ → Type 0
+ReachesAsk c s past ask octets = Delivers s.input.event ask.path ask.server octets
+    × (on_path ask.path (listed past) ≡ Some ask) × (moment_at (s ∷ past) < ask.moment + c.limits.ask_ms)
+
+pub matches_ask : (c : Config) (s : Step) (past : List Step) (ask : ShownAsk) (octets : List ℕ) (q : Question)
+    → ReachesAsk c s past ask octets → IsReplyTo ask.octets octets q → Matches c s past ask octets q
+matches_ask c s past ask octets q reaches reply = record {
+  delivered = reaches.0;
+  is_listed = reaches.1;
+  is_live = reaches.2;
+  long_enough = reply.0;
+  not_too_long = reply.1;
+  is_reply = reply.2;
+  opcode = reply.3;
+  identifier = reply.4;
+  ask_reads = reply.5;
+  question = q;
+  reads = reply.6;
+  same_question_as_ask = reply.7;
+}
