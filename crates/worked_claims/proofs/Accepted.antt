@@ -107,7 +107,7 @@ unfolding first_question question_at octets_end name_within walk_in name_step
 reply_matches c s past reaches = matches_ask c s past ask reply_text (address a) reaches
     (omega arith, omega arith, refl, refl, refl, refl, refl, refl)
 
-pub reply_accepted : (tries stale_s : ℕ) (s : Step) (past : List Step)
+reply_accepted : (tries stale_s : ℕ) (s : Step) (past : List Step)
     → ReachesAsk (with_limits tries stale_s) s past ask reply_text
     → Accepts (with_limits tries stale_s) s past (piece ∷ []) []
 unfolding route_of walk_from servers_from

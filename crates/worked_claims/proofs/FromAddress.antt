@@ -154,7 +154,7 @@ looked before ts pieces leads few text = record {
   text = text;
 }
 
-pub text_is : (octets : List ℕ) → Replies hit.outcome.actions octets → again_text ≡ octets
+text_is : (octets : List ℕ) → Replies hit.outcome.actions octets → again_text ≡ octets
 text_is octets (inl (success, same)) = same
 text_is octets (inr never) = absurd never
 

@@ -66,7 +66,7 @@ is_not_there = heard 3 131
 abbrev soa : ℕ → Record
 soa ttl = record { owner = example; kind = 6; class = 1; ttl = ttl; rdata = soa_data }
 
-abbrev pub says : List ℕ → ℕ → Message
+abbrev says : List ℕ → ℕ → Message
 says octets ttl = record {
   header = header_in octets;
   questions = address a ∷ [];
@@ -75,12 +75,12 @@ says octets ttl = record {
   additional = [];
 }
 
-pub none_is_read : message_of (server_text 0) ≡ Ok (says (server_text 0) 60)
+none_is_read : message_of (server_text 0) ≡ Ok (says (server_text 0) 60)
 unfolding message_at header_of counted question_at octets_end record_at data_at octets_within parts_at shape_of
     name_within walk_in name_step
 none_is_read = refl
 
-pub error_is_read : message_of (server_text 3) ≡ Ok (says (server_text 3) 60)
+error_is_read : message_of (server_text 3) ≡ Ok (says (server_text 3) 60)
 unfolding message_at header_of counted question_at octets_end record_at data_at octets_within parts_at shape_of
     name_within walk_in name_step
 error_is_read = refl

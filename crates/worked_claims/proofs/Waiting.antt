@@ -1,5 +1,5 @@
 -- Shared by the worked histories of use: the first question waits for its ask, and replies come to
--- this ask without an action. After each of them the claims hold.
+-- this ask without an action. After each reply the claims hold.
 use Rattle.std.proofs.Common.{◌≡◌, ℕ, List, [], ◌∷◌, ◌++◌, length, false, refl, sym, ap, subst}
 use Rattle.std.proofs.Common.{inl, inr, arith}
 use Rattle.std.specs.List.{concat}
@@ -20,8 +20,7 @@ use Rattle.theorem_use.specs.Use.{UsesWhatStands}
 use Rattle.worked_claims.proofs.Texts.{step_of}
 use Rattle.worked_claims.proofs.Accepted.{asked, ask}
 use Rattle.worked_claims.proofs.Brought.{not_sent, wants_it, waits_for_one}
-use Rattle.worked_claims.proofs.FirstStep.{word, asked_for, asks_it, uses_nothing, uses_no_slot, only_asks}
-use Rattle.worked_claims.proofs.Whole.{it_asks_well}
+use Rattle.worked_claims.proofs.FirstStep.{word, asked_for, asks_it, asks_right, uses_nothing, uses_no_slot, only_asks}
 
 -- a reply of these octets comes to the ask, and nothing is done
 abbrev pub hears : ℕ → List ℕ → Step
@@ -44,7 +43,7 @@ waits_on s past owners in_era was_listed one_listed one_waits =
 
 -- ---- the claims hold
 
--- of a history in which the first question waits alone, with these owners and used slots
+-- they hold of these steps, with these owners and used slots, and the first question waits alone
 pub record WaitsAlone (past : List Step) (owners : List (List ℕ)) (used : List (List Slot)) : Type 0 where
   pub in_era : InEra (asked ∷ []) past
   pub asks_one : listed past ≡ ask ∷ []
@@ -63,7 +62,7 @@ when_asked = record {
   one_waits = refl;
   sound = (tt, refl, λ q octets hit. tt);
   tells = (tt, refl);
-  asks = it_asks_well.0;
+  asks = asks_right 1024 false;
   waiting = (tt, asked_for config false word);
   uses = uses_nothing config false word asks_it [];
   recent = uses_no_slot config false word asks_it [] only_asks;

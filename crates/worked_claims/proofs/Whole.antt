@@ -1,20 +1,15 @@
 -- A worked history, whole: a question, its ask, and the reply with its answer. It is sound, asks
 -- well, and reports whether more is due; with other owners it is not sound.
 use Rattle.std.proofs.Common.{◌≡◌, ℕ, List, [], ◌∷◌, length, false, refl, ap, ◌∙◌, ◌⊎◌, inl, inr, arith}
-use Rattle.dns_message.specs.Names.{step as name_step, walk_in, name_within}
-use Rattle.dns_message.specs.Records.{octets_end, question_at}
-use Rattle.dns_message.specs.Messages.{first_question}
-use Rattle.dns_message.specs.Writing.{◌▹◌, each, name_text, written}
-use Rattle.suffix_routes.specs.Routes.{route_of}
 use Rattle.step_values.specs.declared.action.Why.TheVariants.{Answered}
 use Rattle.step_values.specs.Values.{SentReply, Step}
-use Rattle.cache_laws.proofs.CallerLemmas.{serves_exactly}
 use Rattle.step_history.specs.Accounting.{TellsMore}
 use Rattle.step_history.specs.Asked.{AsksWell}
 use Rattle.step_history.specs.Sound.{Owns, Sound}
-use Rattle.step_table.proofs.Played.{a, address, config}
+use Rattle.step_table.proofs.Played.{config}
 use Rattle.worked_claims.proofs.Texts.{question_text, client, in_two}
 use Rattle.worked_claims.proofs.Accepted.{asked, answered, client_text}
+use Rattle.worked_claims.proofs.FirstStep.{asks_right}
 use Rattle.worked_claims.proofs.RightAnswers.{right_answer}
 
 abbrev pub history : List Step
@@ -59,31 +54,7 @@ it_has_two_owners h = let none : 1 ≡ 0 = ap (λ (is : List ℕ). length is) h.
 
 -- the ask is for the question, to its route's server, with what its word gives
 pub it_asks_well : AsksWell config history
-unfolding written ◌▹◌ each name_text first_question question_at octets_end name_within walk_in name_step route_of
-it_asks_well = (
-  (
-    tt,
-    (tt, tt),
-    omega arith,
-    (
-      (
-        record {
-          id = 8;
-          question = address a;
-          text = refl;
-          reads = refl;
-          server = record { route = 0; group = _; place = 0; route_is = serves_exactly.only config a 0 refl; there = refl; server = refl };
-          drawn_so = refl;
-        },
-        refl,
-      ),
-      tt,
-    ),
-  ),
-  tt,
-  omega arith,
-  (tt, (tt, tt)),
-)
+it_asks_well = (asks_right 1024 false, tt, omega arith, (tt, (tt, tt)))
 
 pub it_tells_that_nothing_is_due : TellsMore config history ((0 ∷ []) ∷ [] ∷ [])
 it_tells_that_nothing_is_due = ((tt, refl), refl)
