@@ -13,7 +13,8 @@ import sys
 import time
 from typing import NamedTuple
 
-from service.messages import framed, question
+from repository.packing import framed
+from service.messages import question
 from soak_parts.clock import DAY
 from soak_parts.office import FORWARDER
 from soak_parts.people import Day
