@@ -7,7 +7,7 @@ from .answering import text_of
 SAME, SECOND, DIFFERENT = "same", "second", "different"
 BEFORE, UNANSWERED, GONE, OPEN, DROPPED = "before", "unanswered", "gone", "open", "dropped"
 EXPIRED, SERVFAIL = "expired", 2
-REFUSED, ENDED, LOST = "refused", "ended", "lost"
+REFUSED, ENDED, LOST, STOOD = "refused", "ended", "lost", "stood"
 
 
 def replies_of(questions, outcome, line_of):

@@ -13,6 +13,7 @@ from .configuration import shown as peer_text
 from .leaps import widest_gap
 from .losses import AFTER
 from .messages import ANSWER, CNAME
+from .moments import Moments
 from .story import clock, server_text
 from .strangers import strangeness
 from .traffic import Answer, Query, Question, Reply
@@ -38,6 +39,7 @@ class Doubts:
         question, and whether they are of its name's route."""
         self.configuration, self.history, self.traffic = configuration, cutter.history, traffic
         self.limits, self.losses, self.events = configuration.limits, cutter.losses, cutter.events
+        self.cutter = cutter
         self.others = {(moment, server, asked.of()) for moment, server, _, asked, is_on_route in others if is_on_route}
         self.queries = None
 
@@ -61,6 +63,7 @@ class Doubts:
             asked = messages.question_of(answer.octets)
             if asked:
                 self.unasked[asked.key].append(answer)
+        self.moments = Moments(self.configuration, self.cutter, self.before, self.pieces_known)
         longest = 1000 * self.limits["deadline_ms"] + SPARE
         for place, event in enumerate(self.events):
             began = event.query if isinstance(event, Reply) else event.question if isinstance(event, Answer) else event
@@ -72,15 +75,34 @@ class Doubts:
         return route is not None and query.server in route.servers
 
     def put_apart(self, question, result):
-        """The result of a question, put apart if its answer is not the step's and a loss explains it."""
-        loss = self.likely(question, result.octets) if result.same == comparing.DIFFERENT else ""
+        """The result of a question, put apart if its answer is not the step's and a stop of the service, or a
+        loss, explains it."""
+        if result.same != comparing.DIFFERENT:
+            return result
+        if self.queries is None:
+            self.index()
+        stall = self.stall(question)
+        if stall:
+            return result._replace(
+                same=comparing.STOOD, reason=None, attempts=(), joined=False, late=0, stood=(stall.since, stall.until)
+            )
+        loss = self.likely(question, result.octets)
         return result._replace(same=comparing.LOST, loss=loss) if loss else result
+
+    def stall(self, question):
+        """The stall that explains the answer to a question, or None."""
+        try:
+            records = messages.records(question.answer.octets)
+        except messages.Malformed:
+            return None
+        is_failure = question.asked and messages.code(question.answer.octets) == comparing.SERVFAIL
+        if not is_failure and not is_answer_to(question, records) or self.losses.forgeries.any_of(records):
+            return None
+        return self.moments.explains(question, names_of(question, records))
 
     def likely(self, question, octets):
         """The loss that explains the answer to a question, in words; nothing if none does. `octets` is
         the step's answer."""
-        if self.queries is None:
-            self.index()
         answer = question.answer
         try:
             records = messages.records(answer.octets)
@@ -154,10 +176,13 @@ class Doubts:
         return queries[max(0, place - MOST) : place]
 
     def source(self, reply, loss):
+        pieces = self.pieces_known(reply)
+        return Source(pieces, loss if pieces else "")
+
+    def pieces_known(self, reply):
         if reply not in self.known:
             self.known[reply] = self.pieces(reply)
-        pieces = self.known[reply]
-        return Source(pieces, loss if pieces else "")
+        return self.known[reply]
 
     def pieces(self, reply):
         """What the service keeps of a reply; nothing of a failure, and of one that is cut."""

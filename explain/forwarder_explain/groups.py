@@ -25,9 +25,10 @@ FATES = {
     "expired data": "#e0b03a",
     "failed": "#c6402f",
     "without an answer": "#5d4a66",
+    "not judged": "#8a6d4b",
     "not the step's answer": "#d6259a",
 }
-CACHED, ASKED, DENIED, EXPIRED, FAILED, UNANSWERED, WRONG = FATES
+CACHED, ASKED, DENIED, EXPIRED, FAILED, UNANSWERED, UNJUDGED, WRONG = FATES
 WITHOUT = {
     comparing.REFUSED: "refused by the service's machine",
     comparing.ENDED: "the service ended first",
@@ -216,6 +217,8 @@ def fate_of(row):
         return FAILED
     if result.reason == 13:
         return DENIED
+    if result.same == comparing.STOOD:
+        return UNJUDGED
     return ASKED if result.attempts else CACHED
 
 

@@ -16,12 +16,13 @@ from .strangers import strangeness
 from .traffic import Answer, Ending, Query, Question, Refusal, Reply
 
 BEFORE = 1000  # milliseconds before the capture in which what was kept before is put into a script
-MOST_LATE = 9000  # milliseconds beyond the deadline in which a query may leave for a question
+MOST_LATE = 30_000  # milliseconds beyond the deadline in which a query may leave for a question
 PROMPT = 50  # milliseconds in which a query leaves for a question that has come
 STILL = 300_000  # microseconds without a query or answer for which something called
 ASKED_AGAIN = 2  # milliseconds before a query in which what was kept of it has ended
 NEAR_END = 1000  # milliseconds before its end in which what is kept may count as ended
 STALE = 30  # seconds in the TTL of expired data
+OVER = 60  # milliseconds after the end of a try in which the service sees that it is over, unless it stands still
 AT_END = 40  # such milliseconds by which the service's clock and the capture's may part
 
 
@@ -96,15 +97,20 @@ class History:
             return
         found = self.cache.look_up(question.asked, now)
         wanted = found.missed, question.asked.kind, question.asked.klass
-        self.found[question] = found._replace(was_asked=wanted in self.open)
+        self.found[question] = found._replace(was_asked=self.is_open(wanted))
         if not found.answers:
             self.wanting[wanted].append(question)
-        if question.answer is None and (found.answers or wanted not in self.open):
+        if question.answer is None and (found.answers or not self.is_open(wanted)):
             self.unheard.append(question)
         for of, _ in looked_up(question.asked, found):
             self.served[of].append(question)
-            if of in self.open:
+            if self.is_open(of):
                 self.needless.add(question)
+
+    def is_open(self, of):
+        """Whether a query for something is open: nothing has left since long after its time was over."""
+        query, whole = self.open.get(of), self.configuration.limits["ask_ms"] + OVER
+        return query is not None and self.last_output <= query.moment + 1000 * whole
 
     def query(self, query, now):
         """Notes a query as open; one that no question calls for is another program's."""

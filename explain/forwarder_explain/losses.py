@@ -151,6 +151,20 @@ class Losses:
         """Whether a reply fits its query, and has what an answer has."""
         return bool(reply.query.asked) and not strangeness(reply) and self.carries(reply, reply.query.asked, answer)
 
+    def brings(self, reply, answer):
+        """Whether a reply fits its query, and has all records of an answer, with their whole lifetimes."""
+        if not reply.query.asked or strangeness(reply):
+            return False
+        try:
+            walk = carried.walk(self.configuration, reply.octets, reply.query.asked, reply.moment // 1000, reply)
+            records = messages.records(answer.octets)
+        except messages.Malformed:
+            return False
+        rows = {(row.owner.lower(), row.kind, row.data): piece.seconds for piece in walk.pieces for row in piece.rows}
+        return bool(records) and all(
+            rows.get((record.key, record.kind, record.data)) == record.seconds for record in records
+        )
+
     def carries(self, reply, asked, answer):
         """Whether a reply has all records of an answer, with what is left of their lifetimes."""
         try:

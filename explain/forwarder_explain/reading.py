@@ -3,6 +3,7 @@ import bisect
 
 from .traffic import Ending, Question, Reply
 
+LAST = 998_000  # microseconds in which no lifetime falls by a second
 SOON = 60_000  # microseconds after the service went on in which the first effects leave of what it reads then
 
 
@@ -37,7 +38,9 @@ class Queue:
         else:
             return event.moment, None
         if isinstance(event, Question) and not event.connection:
-            found = self.latest = max(found[0], self.latest[0]), max(found[1], self.latest[1])
+            if effect is None or self.latest[0] < effect:  # else what was read before was taken for too late
+                found = max(found[0], self.latest[0]), max(found[1], self.latest[1])
+            self.latest = found
         return found
 
     def stall_of(self, event):
@@ -51,13 +54,16 @@ class Queue:
         return self.stalls[place] if is_within else None
 
     def moment_at(self, stall, event, effect):
-        """The end of a stall; or its beginning, if what is first to leave after it shows that it was read then,
-        and that the service stood still over it."""
-        if effect == stall.until and event.moment < stall.since:
-            before = self.effects.read_before(event)
-            if before is not None and stall.since < before <= stall.until:
-                return stall.since
-        return stall.until
+        """The end of a stall; or a moment before, if what is first to leave after the stall shows that it was read by
+        then. The service may have read the time before it stood still, and what came meanwhile after."""
+        if effect == stall.until:
+            until = self.effects.read_by(event)
+            is_shown = event.moment < stall.since or self.effects.is_answered(event)
+            if until is not None and is_shown and stall.before < until <= stall.until:
+                since = stall.since if stall.since < until else stall.before
+                return max(since, until - LAST) if self.effects.is_kept(event) else since
+        is_near = effect is not None and stall.until < effect < stall.until + SOON
+        return effect - 1 if is_near else stall.until
 
     def place_after(self, stall, effect):
         """The place of what is read at the end of a stall. One thing is read before the service sees which time

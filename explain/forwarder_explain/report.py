@@ -12,6 +12,7 @@ from .wording import counted, duration
 UNCOMPARED = (
     (comparing.BEFORE, ("rests", "rest"), "on what was kept before the capture began"),
     (comparing.LOST, ("rests", "rest"), "on a packet that the capture lost"),
+    (comparing.STOOD, ("is", "are"), "not judged, since the service stood still"),
     (comparing.UNANSWERED, ("got", "got"), "no answer that was captured, and the step gives one"),
     (comparing.GONE, ("got", "got"), "no answer, since the connection had ended"),
     (comparing.OPEN, ("got", "got"), "no answer: the capture ended, or the question was not taken"),
@@ -116,6 +117,8 @@ class Row:
         }
         if result.loss:
             said["loss"] = result.loss
+        if result.stood:
+            said["stood_still"] = [moment / 1_000_000 for moment in result.stood]
         if result.same == comparing.DIFFERENT:
             said["captured"], said["step"] = self.answer.octets.hex(), result.octets.hex()
         return said

@@ -16,10 +16,12 @@ NEAR = 60_000  # microseconds by which the end of a try may come late
 
 
 class Stall(NamedTuple):
-    """From the first thing that called for a query or answer to the first one that left after it."""
+    """From the first thing that called for a query or answer to the first one that left after it; and when the last
+    thing had left before."""
 
     since: int
     until: int
+    before: int = 0
 
 
 def found_in(history, events, limits, effects):
@@ -35,7 +37,7 @@ def found_in(history, events, limits, effects):
             late = (due for due, left in history.late_tries if last < due and left - NEAR < event.moment <= left)
             calls += [due - CLOCKS for due in late]
             if calls:
-                stalls.append(Stall(min(calls), event.moment))
+                stalls.append(Stall(min(calls), event.moment, last))
             came, last = [each for each in came if effects.get(each, 0) > event.moment], event.moment
     return stalls
 

@@ -76,6 +76,9 @@ class Teller:
             return "no answer: the service ended first"
         if result.same == comparing.DROPPED:
             return "dropped: " + ("fewer than 12 octets" if len(question.octets) < HEADER else "a response")
+        if result.same == comparing.STOOD:
+            since, until = map(clock, result.stood)
+            return f"not judged: the service stood still from {since} to {until}"
         if result.same == comparing.OPEN:
             return "no answer: the capture ended, or the question was not taken"
         if result.reason is None:

@@ -39,7 +39,8 @@ class Attempt(NamedTuple):
 class Result(NamedTuple):
     """What became of a question. `same` is one of comparing's words; `reason` the number of
     forwarder(8), or None. `late` is by how many milliseconds what it rests on was read late, `loss`
-    what the capture seems to have lost."""
+    what the capture seems to have lost, `stood` from when to when the service stood still if the answer is
+    not judged for that."""
 
     same: str
     reason: object
@@ -49,6 +50,7 @@ class Result(NamedTuple):
     joined: bool
     late: int
     loss: str = ""
+    stood: tuple = ()
 
 
 class Window:
