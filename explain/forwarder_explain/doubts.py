@@ -98,7 +98,8 @@ class Doubts:
         is_failure = question.asked and messages.code(question.answer.octets) == comparing.SERVFAIL
         if not is_failure and not is_answer_to(question, records) or self.losses.forgeries.any_of(records):
             return None
-        return self.moments.explains(question, names_of(question, records))
+        names, found = names_of(question, records), self.history.found.get(question)
+        return self.moments.explains(question, dict.fromkeys([*names, found.missed] if found else names))
 
     def likely(self, question, octets):
         """The loss that explains the answer to a question, in words; nothing if none does. `octets` is

@@ -52,9 +52,9 @@ class Effects:
             self.answering = None
 
     def free(self, of, moment):
-        """Those that are answered from a moment on did not wait for a query."""
+        """Those that are answered from a moment on did not wait for a query. Over TCP an answer may leave later."""
         for question in self.waiting.pop(of, ()):
-            if question.answer and question.answer.moment >= moment:
+            if question.answer and question.answer.moment >= moment and not question.connection:
                 self.first.pop(question, None)
                 self.outputs.pop(question, None)
                 self.wait(of, question)

@@ -179,14 +179,20 @@ class Moments:
 
     def failed_since(self, question, queries, came):
         """Since when what made a question fail went on; None if the question can't have failed."""
-        if self.has_answer(question, came):
+        tries = [query for query in queries if query.asked.kind == question.asked.kind][-self.limits["tries"] :]
+        if self.has_answer(question, came) or not tries or not self.may_wait(question, tries[-1], came):
             return None
         if question.answer.moment >= question.moment + self.deadline - SLACK:
             return question.moment
-        tries = [query for query in queries if is_alike(query, question)][-self.limits["tries"] :]
         if len(tries) < self.limits["tries"] or not self.is_over(tries[-1], question.answer.moment, came):
             return None
         return tries[0].moment
+
+    def may_wait(self, question, query, came):
+        """Whether a query may have been open when a question came, or later."""
+        closed = (self.latest(reply.moment) for reply, pieces in came if reply.query is query and pieces)
+        is_closed = any(moment < question.moment for moment in closed)
+        return self.latest(query.moment + self.in_time) >= question.moment and not is_closed
 
     def is_over(self, query, moment, came):
         """Whether a try may have failed by a moment."""

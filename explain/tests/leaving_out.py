@@ -38,6 +38,7 @@ NOT_TOLD = {
     "read_before_the_next_stop",
     "tried_before_the_next_stop",
     "failed_before_its_reply",
+    "clock_read_before_the_stop",
 }
 # Of captures with a fault the packets without which nothing shows it: the question, its answer, and what was used.
 FAULTS = {
@@ -53,6 +54,9 @@ FAULTS = {
     "forged_next_to_losses": set(),
     "failed_and_told": {3, 4, 5},
     "past_its_end_after_the_next_stop": {0, 1, 2, 5, 8, 9},
+    "lifetimes_of_no_moment": set(),
+    "forged_in_a_stop": set(),
+    "failed_without_a_try": {2, 3, 5, 7},
 }
 
 

@@ -240,6 +240,20 @@ def forged_in_a_stop():
     return scene.pcap()
 
 
+def failed_without_a_try():
+    """A fault: a question that came while the service stood still fails, and nothing was asked for it since what was
+    kept had ended."""
+    scene, old = Scene(), asked("old.example.com")
+    scene.fetched(0, OTHER, 1, old, 2, (192, 0, 2, 79))
+    scene.question(3000, ONE, 2, WWW)
+    scene.question(3100, OTHER, 3, old)
+    port = scene.query(6600.2, FIRST, WWW)
+    scene.answer(6600.3, OTHER, 3, old, 0x8182)
+    scene.reply(6610.2, FIRST, port, WWW, answers=FOUND)
+    scene.answer(6611, ONE, 2, WWW, answers=FOUND)
+    return scene.pcap()
+
+
 ALL = [
     read_after_the_next_stop,
     read_before_the_next_stop,
@@ -256,4 +270,5 @@ ALL = [
     asked_after_thirteen_seconds,
     joined_at_an_unknown_moment,
     forged_in_a_stop,
+    failed_without_a_try,
 ]
