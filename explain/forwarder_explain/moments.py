@@ -157,7 +157,8 @@ class Moments:
         """Whether a question may have been answered with what was kept of a reply that was read in a span."""
         since, until = self.looked_up(question)
         gone = SECOND * (piece.seconds - told.seconds)  # at most so much, and less than a second less, had passed
-        return gone >= 0 and since <= until and since - read[1] - SLACK <= gone < until - read[0] + SECOND + SLACK
+        least, most = since - read[1] - SLACK, until - read[0] + SLACK
+        return since <= until and 0 <= gone and 0 <= most and least <= gone < most + SECOND
 
     def is_replaced(self, question, reply, piece, came):
         """Whether another reply took the place of a piece before a question can have been read."""
