@@ -40,7 +40,8 @@ NOT_TOLD = {
     "failed_before_its_reply",
     "clock_read_before_the_stop",
 }
-# Of captures with a fault the packets without which nothing shows it: the question, its answer, and what was used.
+# Of captures with a fault the packets without which nothing shows it: the question, its answer, what was used, and
+# what shows when.
 FAULTS = {
     "two_seconds_more": {4, 5},
     "two_seconds_less": {4, 6, 7},
@@ -53,7 +54,7 @@ FAULTS = {
     "forged_reply_used": {0, 2, 3},
     "forged_next_to_losses": set(),
     "failed_and_told": {3, 4, 5},
-    "past_its_end_after_the_next_stop": {0, 1, 2, 5, 8, 9},
+    "past_its_end_after_the_next_stop": {0, 1, 2, 3, 5, 8, 9},
     "lifetimes_of_no_moment": set(),
     "forged_in_a_stop": set(),
     "failed_without_a_try": {2, 3, 5, 7},
