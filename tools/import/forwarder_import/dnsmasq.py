@@ -15,7 +15,8 @@ class Dnsmasq:
 
     def __init__(self, files, found):
         self.files, self.found = files, found
-        self.first, self.resolves, self.serves, self.has_hosts = None, True, True, True
+        self.first, self.serves, self.has_hosts = None, True, True
+        self.no_resolv_line = None
         self.options = {
             "server": self.server,
             "local": self.server,
@@ -65,7 +66,7 @@ class Dnsmasq:
                 "without `listen-address` dnsmasq listens at all addresses: write this machine's in `listen`",
                 Row.LISTENING,
             )
-        if self.serves and self.resolves and "resolv" not in kinds:
+        if self.serves and not self.no_resolv_line and "resolv" not in kinds:
             self.found.leave(
                 self.first,
                 "without `no-resolv` dnsmasq asks the servers of /etc/resolv.conf, too: give that file as well",
@@ -78,6 +79,12 @@ class Dnsmasq:
                 "write a route to a name server that has its names",
                 Row.RECORDS,
             )
+
+    def why_not_read(self, _):
+        """Why dnsmasq does not ask the servers of a resolv.conf; empty if it does."""
+        if self.no_resolv_line:
+            return f"dnsmasq does not ask it: no-resolv at {self.files.place(self.no_resolv_line)}"
+        return ""
 
     def server(self, value, line):
         """`server=/DOMAIN/ADDRESS#PORT@SOURCE`, each part of which may be missing."""
@@ -152,7 +159,7 @@ class Dnsmasq:
         self.found.limit("stale_s", "999999" if value == "0" else value or "86400", line, "once all tries failed")
 
     def no_resolv(self, _, line):
-        self.resolves = False
+        self.no_resolv_line = line
         self.found.pass_over(line, "servers are those of the configuration alone")
 
     def no_hosts(self, _, line):

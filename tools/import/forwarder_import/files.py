@@ -1,4 +1,5 @@
 """The files of other forwarders: their lines, and the files that they include."""
+import collections
 import contextlib
 import glob
 import os
@@ -67,6 +68,10 @@ class Files:
         text = octets_of(path).decode("utf-8-sig", "backslashreplace")
         return [Line(path, number, line.removesuffix("\r")) for number, line in enumerate(text.split("\n"), 1)]
 
+    def place(self, line):
+        """The file and number of a line, once all files are read."""
+        return f"{short_names(self.read)[line.path]}:{line.number}"
+
     def path(self, written, line):
         """The path that a line names: below the root, or next to the line's file."""
         if not written:
@@ -82,6 +87,13 @@ class Files:
         if not paths:
             raise Refused(f"there is no file {path}")
         return paths
+
+
+def short_names(paths):
+    """The name of each file by its path; the path itself if another file has the same name."""
+    bases = [os.path.basename(path) for path in paths]
+    counts = collections.Counter(bases)
+    return {path: shown(base if counts[base] == 1 else path) for path, base in zip(paths, bases)}
 
 
 def octets_of(path):

@@ -10,6 +10,7 @@ class Resolv:
 
     def __init__(self, files, found):
         self.files, self.found = files, found
+        self.servers = []  # addresses with their lines
 
     def read(self, path):
         """Takes the lines of a file."""
@@ -28,12 +29,23 @@ class Resolv:
         if key == "nameserver" and not words:
             raise Refused("it has no value")
         if key == "nameserver":
-            remark = "a program on this machine: name its own servers" if words[0].startswith("127.") else ""
-            self.found.serve(".", lambda: peer_of(words[0]), line, remark)
+            self.servers.append((words[0], line))
         elif key in OF_CLIENTS:
             self.found.pass_over(line, "each client has its own: it stays there")
         else:
             raise Refused("it is no line of resolv.conf")
 
-    def end(self, _):
-        """Nothing is said of a file without a line."""
+    def end(self, readers):
+        """Carries the servers, but for those of a file that dnsmasq does not read."""
+        dnsmasq = readers.get("dnsmasq")
+        for address, line in self.servers:
+            why = dnsmasq.why_not_read(line.path) if dnsmasq else ""
+            if why:
+                self.found.leave(line, why)
+            else:
+                self.server(address, line)
+
+    def server(self, address, line):
+        """A server for all names."""
+        remark = "a program on this machine: name its own servers" if address.startswith("127.") else ""
+        self.found.serve(".", lambda: peer_of(address), line, remark)

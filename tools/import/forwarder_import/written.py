@@ -1,8 +1,7 @@
 """The configuration as text, with the lines that it is from."""
 import itertools
-import os
 
-from .files import LONGEST_ADVICE, shown
+from .files import LONGEST_ADVICE, short_names, shown
 from .found import RANGES, Value
 from .rows import TABLE
 
@@ -12,12 +11,11 @@ class Writer:
 
     def __init__(self, found, paths):
         self.found, self.paths = found, paths
-        bases = [os.path.basename(path) for path in paths]
-        self.short = {path: base for path, base in zip(paths, bases) if bases.count(base) == 1}
+        self.short = short_names(paths)
 
     def place(self, line):
         """The file and number of a line; the file's name alone if no other has it."""
-        path = shown(self.short.get(line.path, line.path))
+        path = self.short[line.path]
         return f"{path}:{line.number}" if line.number else path
 
     def origin(self, value):
