@@ -16,7 +16,7 @@ class Dnsmasq:
     def __init__(self, files, found):
         self.files, self.found = files, found
         self.first, self.serves, self.has_hosts = None, True, True
-        self.no_resolv_line = None
+        self.no_resolv_line, self.resolv_files = None, {}  # a path for each line of `resolv-file`
         self.options = {
             "server": self.server,
             "local": self.server,
@@ -66,12 +66,7 @@ class Dnsmasq:
                 "without `listen-address` dnsmasq listens at all addresses: write this machine's in `listen`",
                 Row.LISTENING,
             )
-        if self.serves and not self.no_resolv_line and "resolv" not in kinds:
-            self.found.leave(
-                self.first,
-                "without `no-resolv` dnsmasq asks the servers of /etc/resolv.conf, too: give that file as well",
-                Row.PROVIDED,
-            )
+        self.say_of_resolv_files(kinds["resolv"].paths if "resolv" in kinds else [])
         if self.serves and self.has_hosts:
             self.found.leave(
                 self.first,
@@ -80,11 +75,28 @@ class Dnsmasq:
                 Row.RECORDS,
             )
 
-    def why_not_read(self, _):
+    def why_not_read(self, path):
         """Why dnsmasq does not ask the servers of a resolv.conf; empty if it does."""
         if self.no_resolv_line:
             return f"dnsmasq does not ask it: no-resolv at {self.files.place(self.no_resolv_line)}"
+        if self.resolv_files and not any(is_at(path, named) for named in self.resolv_files.values()):
+            line, named = next(iter(self.resolv_files.items()))
+            return f"dnsmasq does not ask it: resolv-file at {self.files.place(line)}: give {named} instead of this file"
         return ""
+
+    def say_of_resolv_files(self, given):
+        """Says whose servers are missing. `given` are the paths of files of the form of resolv.conf."""
+        for line, path in self.resolv_files.items():
+            if self.no_resolv_line:
+                self.found.pass_over(line, "with `no-resolv` it has no effect")
+            elif any(is_at(each, path) for each in given):
+                self.found.pass_over(line, "its servers are those that the file has now")
+            else:
+                what = f"its servers may change: give {path} as a file, too, to take those that it has now"
+                self.found.leave(line, what, Row.PROVIDED)
+        if self.serves and not self.no_resolv_line and not self.resolv_files and not given:
+            what = "without `no-resolv` dnsmasq asks the servers of /etc/resolv.conf, too: give that file as well"
+            self.found.leave(self.first, what, Row.PROVIDED)
 
     def server(self, value, line):
         """`server=/DOMAIN/ADDRESS#PORT@SOURCE`, each part of which may be missing."""
@@ -167,9 +179,8 @@ class Dnsmasq:
         self.found.pass_over(line, "hosts files are never read")
 
     def resolv_file(self, value, line):
-        raise Refused(
-            f"its servers may change: give {value} as a file, too, to take those that it has now", Row.PROVIDED
-        )
+        """A file in place of /etc/resolv.conf; further lines add files."""
+        self.resolv_files[line] = self.files.path(value, line)
 
     def bogus_priv(self, _, line):
         self.found.local += [(zone, line) for zone in LOCAL_ZONES]
@@ -187,6 +198,12 @@ class Dnsmasq:
             raise Refused(f"the folder can't be read: {fault.strerror}") from None
         for path in paths:
             self.read(path, line)
+
+
+def is_at(path, named):
+    """Whether a path is a named one, or that of a copy in a folder that stands for the root."""
+    is_copy = os.path.abspath(path).endswith(os.path.abspath(named))
+    return is_copy or os.path.realpath(path) == os.path.realpath(named)
 
 
 def files_in(folder, endings):

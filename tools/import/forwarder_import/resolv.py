@@ -10,10 +10,11 @@ class Resolv:
 
     def __init__(self, files, found):
         self.files, self.found = files, found
-        self.servers = []  # addresses with their lines
+        self.paths, self.servers = [], []  # servers are addresses with their lines
 
     def read(self, path):
         """Takes the lines of a file."""
+        self.paths.append(path)
         with self.files.lines(path) as lines:
             for line in lines:
                 try:

@@ -1,0 +1,15 @@
+"""Further mistaken configurations, and lines that mean something else by the lines around them: see mistakes.py."""
+from mistakes import LEFT_OUT, UNREADABLE, mistake
+
+ALL = [
+    mistake(
+        "servers of a file that dnsmasq never reads, and none of the file that it reads",
+        "dnsmasq.conf",
+        "no-hosts\nlisten-address=10.0.0.53\nresolv-file=/nowhere/resolv.up\n",
+        LEFT_OUT,
+        "dnsmasq.conf:3: resolv-file=/nowhere/resolv.up: left out: its servers may change: "
+        "give /nowhere/resolv.up as a file, too, to take those that it has now "
+        "(see row 'Servers from DHCP or the access provider')",
+        "dnsmasq.conf: left out: no line names a server that can be asked: write a route `.`",
+    ),
+]
