@@ -7,7 +7,7 @@ from .files import Line, Refused, shown, unreadable
 TOKEN = re.compile(
     r"""
     (?P<comment> /\*.*?\*/ | //[^\n]* | \#[^\n]* )
-    | "(?P<text> [^"\n]* )"
+    | "(?P<text> (?: [^"\\] | \\. )* )"
     | (?P<open> /\* | " )
     | (?P<mark> [{};] )
     | (?P<word> [^\s{};"]+ )

@@ -25,7 +25,7 @@ BY_TEXT = (
     (r"\s*\[Resolve\]\s*", "resolved"),
     (r"\s*nameserver\s.*", "resolv"),
     (r"\s*(server|forward-zone|stub-zone|remote-control|include(-toplevel)?):(\s.*)?", "unbound"),
-    (r"\s*(options|zone|acl|view|logging|include)\b[^=:]*[{;].*", "bind"),
+    (r"\s*(options|zone|acl|view|logging|include|trust-anchors|managed-keys)\b[^=:]*[{;].*", "bind"),
     (r"\s*[a-z][a-z0-9-]*\s*=.*|\s*(no-resolv|no-hosts|domain-needed|bogus-priv|bind-interfaces)\s*", "dnsmasq"),
 )
 

@@ -12,4 +12,19 @@ ALL = [
         "(see row 'Servers from DHCP or the access provider')",
         "dnsmasq.conf: left out: no line names a server that can be asked: write a route `.`",
     ),
+    mistake(
+        "a quoted string of BIND over several lines, and one with a quotation mark in it",
+        "bind.keys",
+        'trust-anchors {\n  . initial-key 257 3 8 "AwEAAaz\n    FFeQ==";\n};\nversion "a \\"b";\nforward {\n',
+        UNREADABLE,
+        "bind.keys:6: the brace of forward is not closed",
+    ),
+    mistake(
+        "keys of Debian's BIND",
+        "bind.keys",
+        'trust-anchors {\n  . initial-key 257 3 8 "AwEAAaz\n    FFeQ==";\n};\nversion "a \\"b";\nhostname none;\n',
+        LEFT_OUT,
+        "bind.keys:1: trust-anchors { .. }: left out: ask servers that validate (see row 'DNSSEC')",
+        "bind.keys:5: version a \\\"b: left out: see row 'Statistics'",
+    ),
 ]
