@@ -7,6 +7,8 @@ from .files import Line, Refused
 from .names import ENCRYPTED, ipv4_of, peer_of, port_of, suffix_of
 from .rows import Row
 
+NOT_FROM_ROOT = "names are not resolved from the root if no server answers"
+
 
 class Bind:
     """Reads all files of one named."""
@@ -14,7 +16,8 @@ class Bind:
     def __init__(self, files, found):
         self.files, self.found = files, found
         self.first, self.stale = None, {}
-        self.zones, self.does_forward, self.has_empty_zones = set(), False, True
+        self.zones, self.has_empty_zones = set(), True
+        self.forwarding = []  # the statements `forwarders` and `forward` of `options`
 
     def read(self, path, by=None):
         """Carries the statements of a file; `by` is the line that includes it."""
@@ -65,9 +68,10 @@ class Bind:
         """A statement of `options`."""
         key, words = statement.words[0], statement.words[1:]
         if key == "forwarders":
-            self.does_forward = True
+            self.forwarding.append(statement)
             self.forwarders(".", statement, statement.block)
         elif key == "forward":
+            self.forwarding.append(statement)
             self.forward(statement)
         elif key in ("listen-on", "listen-on-v6"):
             self.listen(statement)
@@ -90,8 +94,17 @@ class Bind:
     def forward(self, statement):
         """Whether names are resolved from the root if no forwarder answers."""
         if statement.words[1:] != ["only"]:
-            raise Refused("names are not resolved from the root if no server answers", Row.ITERATING)
+            raise Refused(NOT_FROM_ROOT, Row.ITERATING)
         self.found.pass_over(statement.line, "so it is here")
+
+    def forward_by_default(self, statements):
+        """Names the forwarders of `options` or of a zone that has no `forward`: `forward first` is the default.
+        A zone does not take the `forward` of `options`."""
+        if any(each.words[0] == "forward" for each in statements):
+            return
+        for each in statements:
+            if each.words[0] == "forwarders" and each.blocks and each.block:
+                self.found.leave(each.line, f"`forward first` is the default: {NOT_FROM_ROOT}", Row.ITERATING)
 
     def forwarders(self, suffix, statement, block):
         """The servers of a suffix."""
@@ -173,6 +186,7 @@ class Bind:
                     raise left_out(each.words[0])
             except Refused as refused:
                 self.found.refuse(each.line, refused)
+        self.forward_by_default(statement.block)
         if not route.servers and not route.lost:
             what = f"{suffix} has no forwarder, so it is resolved from the root"
             route.lost.append((statement.line, Refused(what, Row.ITERATING)))
@@ -183,7 +197,8 @@ class Bind:
         if not self.found.addresses:
             what = "without `listen-on` named listens at all addresses: write this machine's in `listen`"
             self.found.leave(self.first, what, Row.LISTENING)
-        if not self.does_forward:
+        self.forward_by_default(self.forwarding)
+        if not any(each.words[0] == "forwarders" and each.block for each in self.forwarding):
             what = "names without a forwarder are resolved from the root: write a route `.`"
             self.found.leave(self.first, what, Row.ITERATING)
         if self.has_empty_zones:

@@ -1,6 +1,11 @@
 """Further mistaken configurations, and lines that mean something else by the lines around them: see mistakes.py."""
 from mistakes import LEFT_OUT, UNREADABLE, mistake
 
+FORWARD_FIRST = (
+    "`forward first` is the default: names are not resolved from the root if no server answers "
+    "(see row 'Iterating from the root')"
+)
+
 ALL = [
     mistake(
         "servers of a file that dnsmasq never reads, and none of the file that it reads",
@@ -26,5 +31,31 @@ ALL = [
         LEFT_OUT,
         "bind.keys:1: trust-anchors { .. }: left out: ask servers that validate (see row 'DNSSEC')",
         "bind.keys:5: version a \\\"b: left out: see row 'Statistics'",
+    ),
+    mistake(
+        "forwarders without a statement `forward`, which a zone does not take from the options",
+        "named.conf",
+        "options {\n  listen-on { 10.0.0.53; };\n  empty-zones-enable no;\n  forwarders { 10.0.0.1; };\n};\n"
+        'zone "corp" {\n  type forward;\n  forwarders { 10.0.0.9; };\n};\n'
+        'zone "lab" { type forward; forward only; forwarders { 10.0.0.8; }; };\n',
+        LEFT_OUT,
+        f"named.conf:4: forwarders {{ .. }}: left out: {FORWARD_FIRST}",
+        f"named.conf:8: forwarders {{ .. }}: left out: {FORWARD_FIRST}",
+    ),
+    mistake(
+        "forwarders of a zone, with `forward only` in the options",
+        "named.conf",
+        "options {\n  forward only;\n  forwarders { 10.0.0.1; };\n};\n"
+        'zone "corp" {\n  type forward;\n  forwarders { 10.0.0.9; };\n};\n',
+        LEFT_OUT,
+        f"named.conf:7: forwarders {{ .. }}: left out: {FORWARD_FIRST}",
+    ),
+    mistake(
+        "options with an empty list of forwarders",
+        "named.conf",
+        "options {\n  forward first;\n  forwarders { };\n};\n",
+        LEFT_OUT,
+        "named.conf: left out: names without a forwarder are resolved from the root: write a route `.` "
+        "(see row 'Iterating from the root')",
     ),
 ]
