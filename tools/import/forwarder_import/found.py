@@ -34,6 +34,7 @@ class Route:
     servers: dict[str, Value] = field(default_factory=dict)
     denied: list[Line] = field(default_factory=list)
     remark: str = ""  # on the denial
+    because: str = ""  # what follows 'is denied', if a line of another suffix denies it
     standard: list[Line] = field(default_factory=list)  # lines that want the servers of all names
     lost: list[tuple[Line, Refused]] = field(default_factory=list)  # servers that can't be asked
 
@@ -98,6 +99,15 @@ class Found:
         route = self.route(text)
         route.denied.append(line)
         route.remark = route.remark or remark
+
+    def undo_denial(self, key, line):
+        """Takes a denial back, since a later line of the suffix decides."""
+        route = self.routes.get(key)
+        if route and line in route.denied:
+            route.denied.remove(line)
+            route.remark = ""
+            if not route.lines():
+                del self.routes[key]
 
     def limit(self, key, text, line, remark=""):
         """A limit; one out of its range becomes the nearest that is in it."""

@@ -104,6 +104,13 @@ def is_under(key, above):
     return above == "." or key == above or key.endswith("." + above)
 
 
+def keys_above(key):
+    """The names above another one, the nearest first, as keys."""
+    while key != ".":
+        key = key.partition(".")[2] or "."
+        yield key
+
+
 def reverse_zones(text):
     """The zones of the addresses of a network, as 10.0.0.0/8; of one address without a length."""
     try:

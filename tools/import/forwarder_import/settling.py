@@ -84,7 +84,7 @@ def one_of_two(route, found):
     are not asked of the servers of a shorter suffix; the route for all names is dropped instead."""
     if route.denied:
         denied = "without another route" if route.suffix == "." else f"below {route.suffix}"
-        then = f"names {denied} are denied"
+        then = f"names {denied} are denied{route.because}"
         for line in route.named:
             found.leave(line, then)
         for text in list(route.servers):

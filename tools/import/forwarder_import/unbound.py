@@ -3,8 +3,9 @@ import re
 from dataclasses import dataclass, field
 
 from .files import Line, Refused
-from .names import ENCRYPTED, cut, ipv4_of, key_of, peer_of, port_of
+from .names import ENCRYPTED, cut, ipv4_of, key_of, peer_of, port_of, suffix_of
 from .rows import Row
+from .unbound_local import Local, LocalZones
 from .unbound_options import CLAUSES, DENYING, OF_THE_UNIT, SAME, TRANSPARENT, left_out
 
 TOKEN = re.compile(r"""\s*(?:"(?P<double>[^"]*)"|'(?P<single>[^']*)'|(?P<open>["'])|(?!\#)(?P<word>[^\s"']+))""")
@@ -41,6 +42,7 @@ class Unbound:
         self.first, self.statements = None, []
         self.stale = {}  # the statements of `serve-expired`
         self.zones = set()  # keys of the zones that have a server
+        self.local = LocalZones(found, self.zones)
 
     def read(self, path):
         """Takes the statements of a file; `end` carries them."""
@@ -91,6 +93,7 @@ class Unbound:
                 continue
             self.clause(clause, zone, is_encrypted)
             clause, zone = statement, []
+        self.local.settle(self.files.place)
         self.stale_answers()
         self.without_a_line()
 
@@ -149,11 +152,14 @@ class Unbound:
         if len(statement.values) != 2:
             raise Refused("it has to have a zone and a type")
         zone, kind = statement.values
+        if kind == "nodefault":
+            self.found.pass_over(line, "its names are not denied by themselves")
+            return
+        suffix = suffix_of(zone)
+        self.local.add(key_of(suffix), Local(suffix, line, kind in DENYING, kind in TRANSPARENT))
         if kind in DENYING:
             self.found.deny(zone, line, DENYING[kind])
-        elif kind in TRANSPARENT:
-            self.found.pass_over(line, "its names are asked like others")
-        else:
+        elif kind not in TRANSPARENT:
             raise Refused("write a route that denies it, or one to a name server that has its names", Row.RECORDS)
 
     def stale_answers(self):

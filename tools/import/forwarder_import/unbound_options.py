@@ -34,7 +34,7 @@ DENYING = {  # types of a local zone, with what differs
     "always_null": "there the address 0.0.0.0, here NXDOMAIN",
     "always_nodata": "there no data, here NXDOMAIN",
 }
-TRANSPARENT = {"transparent", "always_transparent", "typetransparent", "nodefault", "inform"}
+TRANSPARENT = {"transparent", "always_transparent", "typetransparent", "inform"}
 
 # Settings of the clause `server` with the value that is as it is here.
 SAME = {

@@ -58,4 +58,13 @@ ALL = [
         "named.conf: left out: names without a forwarder are resolved from the root: write a route `.` "
         "(see row 'Iterating from the root')",
     ),
+    mistake(
+        "a zone of unbound that is resolved from the root, below one that is denied",
+        "unbound.conf",
+        "server:\n  local-zone: example static\n  local-zone: ok.example transparent\n",
+        LEFT_OUT,
+        "unbound.conf:3: local-zone: ok.example transparent: left out: ok.example is asked there, below example, "
+        "which is denied: write a route with its servers; until then names below ok.example are denied "
+        "(see row 'Iterating from the root')",
+    ),
 ]
