@@ -106,18 +106,33 @@ def one_of_two(route, found):
 
 def ordered(found):
     """The routes: that for all names first, and last those of a line that has many. What is past the
-    most is left."""
+    most is left, denials first."""
     counts = collections.Counter(line for route in found.routes.values() for line in route.lines())
-    routes = sorted(
-        found.routes.values(),
-        key=lambda route: (route.suffix != ".", min((counts[line] for line in route.lines()), default=0) > MANY_ROUTES),
-    )
-    for route in routes[MOST_ROUTES:]:
-        for line in route.lines():
-            what = f"{route.suffix} is past the {MOST_ROUTES} routes of a configuration: join some at a shorter suffix"
-            found.leave(line, what)
+
+    def place(route):
+        return route.suffix != ".", min((counts[line] for line in route.lines()), default=0) > MANY_ROUTES
+
+    ranked = sorted(found.routes.values(), key=lambda route: (route.suffix != ".", rank(route), place(route)))
+    leave_past(ranked[MOST_ROUTES:], counts, found)
+    kept = {route.suffix for route in ranked[:MOST_ROUTES]}
+    routes = sorted((route for route in found.routes.values() if route.suffix in kept), key=place)
     if not routes:
         found.leave(found.first, "no line names a server that can be asked: write a route `.`")
         found.placeholder = True
         routes = [Route("invalid")]
-    return routes[:MOST_ROUTES]
+    return routes
+
+
+def rank(route):
+    """Routes with servers count first, then those of servers that can't be asked, then other denials."""
+    return 0 if route.servers else 1 if route.lost else 2
+
+
+def leave_past(routes, counts, found):
+    """Names the lines of routes that are too many. A suffix is named if its line has others that count."""
+    past = collections.Counter(line for route in routes for line in route.lines())
+    for route in routes:
+        for line in route.lines():
+            which = "it" if past[line] == counts[line] else route.suffix
+            what = f"{which} is past the {MOST_ROUTES} routes of a configuration: join some at a shorter suffix"
+            found.leave(line, what)
