@@ -81,7 +81,8 @@ class Dnsmasq:
             return f"dnsmasq does not ask it: no-resolv at {self.files.place(self.no_resolv_line)}"
         if self.resolv_files and not any(is_at(path, named) for named in self.resolv_files.values()):
             line, named = next(iter(self.resolv_files.items()))
-            return f"dnsmasq does not ask it: resolv-file at {self.files.place(line)}: give {named} instead of this file"
+            place = self.files.place(line)
+            return f"dnsmasq does not ask it: resolv-file at {place}: give {named} instead of this file"
         return ""
 
     def say_of_resolv_files(self, given):
@@ -228,6 +229,8 @@ def option_of(text):
 
 def bare(text):
     """A line without its comment and quotation marks."""
+    if '"' not in text and "#" not in text:
+        return text
     said, is_quoted, characters = [], False, iter(enumerate(text))
     for place, character in characters:
         if character == '"':

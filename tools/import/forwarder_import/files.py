@@ -42,6 +42,7 @@ class Files:
     def __init__(self, root=""):
         self.root = root.rstrip("/")
         self.read, self.within, self.count = [], [], 0
+        self.short = None  # the names of files, once they are wanted
 
     @contextlib.contextmanager
     def lines(self, path, by=None):
@@ -65,12 +66,14 @@ class Files:
             raise Unreadable(f"{shown(path)}: is one of more than {MOST_FILES} files, or of {DEEPEST} in one another")
         if path not in self.read:
             self.read.append(path)
+            self.short = None
         text = octets_of(path).decode("utf-8-sig", "backslashreplace")
         return [Line(path, number, line.removesuffix("\r")) for number, line in enumerate(text.split("\n"), 1)]
 
     def place(self, line):
         """The file and number of a line, once all files are read."""
-        return f"{short_names(self.read)[line.path]}:{line.number}"
+        self.short = self.short or short_names(self.read)
+        return f"{self.short[line.path]}:{line.number}"
 
     def path(self, written, line):
         """The path that a line names: below the root, or next to the line's file."""
@@ -113,5 +116,7 @@ def octets_of(path):
 def shown(text, longest=LONGEST):
     """A foreign text as one line of a comment: spaces joined, what can't be printed escaped."""
     joined = " ".join(text.split())
+    if joined.isprintable() and len(joined) <= longest:
+        return joined
     escaped = "".join(each if each.isprintable() else ascii(each)[1:-1] for each in joined)
     return escaped if len(escaped) <= longest else f"{escaped[:longest]} .."

@@ -99,11 +99,6 @@ def key_of(suffix):
     return suffix.lower()
 
 
-def is_under(key, above):
-    """Whether a name is at or below another, both as keys."""
-    return above == "." or key == above or key.endswith("." + above)
-
-
 def keys_above(key):
     """The names above another one, the nearest first, as keys."""
     while key != ".":

@@ -39,10 +39,10 @@ class Resolv:
     def end(self, readers):
         """Carries the servers, but for those of a file that dnsmasq does not read."""
         dnsmasq = readers.get("dnsmasq")
+        why = {path: dnsmasq.why_not_read(path) if dnsmasq else "" for path in self.paths}
         for address, line in self.servers:
-            why = dnsmasq.why_not_read(line.path) if dnsmasq else ""
-            if why:
-                self.found.leave(line, why)
+            if why[line.path]:
+                self.found.leave(line, why[line.path])
             else:
                 self.server(address, line)
 

@@ -3,7 +3,7 @@ import collections
 
 from .files import Refused
 from .found import Route, Value
-from .names import is_under
+from .names import keys_above
 from .rows import Row
 
 MOST_ROUTES, MOST_SERVERS = 64, 8
@@ -73,9 +73,8 @@ def lose(route, text, why):
 def local(found):
     """Denies local zones, unless their names are below a suffix with servers."""
     for zone, line in found.local:
-        served = (key for key, route in found.routes.items() if key != "." and (route.servers or route.lost))
-        above = next((key for key in served if is_under(zone, key)), None)
-        if above is None:
+        near = (found.routes[key] for key in (zone, *keys_above(zone)) if key != "." and key in found.routes)
+        if not any(route.servers or route.lost for route in near):
             found.deny(zone, line)
 
 

@@ -60,5 +60,6 @@ class LocalZones:
         for text, server in source.servers.items() if source else ():
             route.servers[text] = Value("", [local.line], server.remark)
         if not route.servers:
-            what = f"{local.suffix} is asked there, below {above.suffix}, which is denied: write a route with its servers"
+            where = f"{local.suffix} is asked there, below {above.suffix}, which is denied"
+            what = f"{where}: write a route with its servers"
             route.lost.append((local.line, Refused(what, Row.ITERATING)))
