@@ -76,12 +76,13 @@ class Files:
         return f"{self.short[line.path]}:{line.number}"
 
     def path(self, written, line):
-        """The path that a line names: below the root, or next to the line's file."""
+        """The path that a line names: below the root, next to the line's file, or in the working folder."""
         if not written:
             raise Refused("it names no file")
         if os.path.isabs(written):
             return self.root + written
-        return os.path.join(os.path.dirname(line.path), written)
+        beside = os.path.join(os.path.dirname(line.path), written)
+        return written if glob.glob(written) and not glob.glob(beside) else beside
 
     def paths(self, pattern, line):
         """The paths that a pattern of a line names, sorted; a path without wildcards is itself."""

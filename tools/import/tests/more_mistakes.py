@@ -67,4 +67,21 @@ ALL = [
         "which is denied: write a route with its servers; until then names below ok.example are denied "
         "(see row 'Iterating from the root')",
     ),
+    mistake(
+        "a path of dnsmasq that is relative to the working folder, in a file of another folder",
+        "d/dnsmasq.conf",
+        "conf-file=d/more.conf\nconf-file=d/nowhere.conf\n",
+        UNREADABLE,
+        "d/dnsmasq.conf:2: d/d/nowhere.conf: No such file or directory",
+        **{"d/more__conf": "log-queries\n"},
+    ),
+    mistake(
+        "a pattern of unbound that is relative to the working folder, and a path next to its file",
+        "d/unbound.conf",
+        'include: "d/m*.conf"\ninclude: next.conf\n',
+        LEFT_OUT,
+        "more.conf:1: blue: left out: blue has no key before it",
+        "next.conf:1: red: left out: red has no key before it",
+        **{"d/more__conf": "blue\n", "d/next__conf": "red\n", "next__conf": "green\n"},
+    ),
 ]
