@@ -15,6 +15,7 @@ class Dnsmasq:
 
     def __init__(self, files, found):
         self.files, self.found = files, found
+        self.once = set()  # paths of files that were read, since dnsmasq reads each once
         self.first, self.serves, self.has_hosts = None, True, True
         self.no_resolv_line, self.resolv_files = None, {}  # a path for each line of `resolv-file`
         self.options = {
@@ -38,7 +39,10 @@ class Dnsmasq:
 
     def read(self, path, by=None):
         """Takes the lines of a file; `by` is the line that includes it."""
+        if by is None and os.path.realpath(path) in self.once:
+            return
         self.first = self.first or Line(path, 0)
+        self.once.add(os.path.realpath(path))
         with self.files.lines(path, by) as lines:
             for line in lines:
                 try:
@@ -198,7 +202,10 @@ class Dnsmasq:
         except OSError as fault:
             raise Refused(f"the folder can't be read: {fault.strerror}") from None
         for path in paths:
-            self.read(path, line)
+            if os.path.realpath(path) in self.once:
+                self.found.pass_over(line, f"{path} is read once, as by dnsmasq")
+            else:
+                self.read(path, line)
 
 
 def is_at(path, named):
