@@ -1,8 +1,10 @@
 """Reads resolv.conf: see resolv.conf(5)."""
 from .files import Refused
 from .names import peer_of
+from .rows import Row
 
 OF_CLIENTS = {"search", "domain", "options", "sortlist"}
+STUBS = {"127.0.0.53", "127.0.0.54"}  # of systemd-resolved, which may ask this forwarder in turn
 
 
 class Resolv:
@@ -49,4 +51,12 @@ class Resolv:
     def server(self, address, line):
         """A server for all names."""
         remark = "a program on this machine: name its own servers" if address.startswith("127.") else ""
-        self.found.serve(".", lambda: peer_of(address), line, remark)
+        self.found.serve(".", lambda: usable(address), line, remark)
+
+
+def usable(address):
+    """The peer of an address, unless it is systemd-resolved on the same machine."""
+    if address in STUBS:
+        what = f"{address} is the stub of systemd-resolved: give /run/systemd/resolve/resolv.conf instead of this file"
+        raise Refused(what, Row.PROVIDED)
+    return peer_of(address)

@@ -84,4 +84,13 @@ ALL = [
         "next.conf:1: red: left out: red has no key before it",
         **{"d/more__conf": "blue\n", "d/next__conf": "red\n", "next__conf": "green\n"},
     ),
+    mistake(
+        "the stub of systemd-resolved alone",
+        "resolv.conf",
+        "nameserver 127.0.0.53\noptions edns0 trust-ad\nsearch .\n",
+        LEFT_OUT,
+        "resolv.conf:1: nameserver 127.0.0.53: left out: 127.0.0.53 is the stub of systemd-resolved: "
+        "give /run/systemd/resolve/resolv.conf instead of this file; until then names without another route are "
+        "refused (see row 'Servers from DHCP or the access provider')",
+    ),
 ]
