@@ -1,4 +1,5 @@
 """The files of other forwarders: their lines, and the files that they include."""
+import codecs
 import collections
 import contextlib
 import glob
@@ -109,6 +110,8 @@ def octets_of(path):
         raise Unreadable(f"{shown(path)}: {getattr(fault, 'strerror', None) or fault}") from None
     if len(octets) > LARGEST:
         raise Unreadable(f"{shown(path)}: has more than {LARGEST} octets")
+    if octets.startswith((codecs.BOM_UTF16_LE, codecs.BOM_UTF16_BE)):
+        raise Unreadable(f"{shown(path)}: is text in UTF-16: save the file as UTF-8")
     if b"\0" in octets:
         raise Unreadable(f"{shown(path)}: is no text: it has an octet 0")
     return octets

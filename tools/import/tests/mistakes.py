@@ -229,7 +229,7 @@ ALL = [
         "dnsmasq.conf",
         "no-resolv\n".encode("utf-16"),
         UNREADABLE,
-        "dnsmasq.conf: is no text: it has an octet 0",
+        "dnsmasq.conf: is text in UTF-16: save the file as UTF-8",
     ),
     mistake(
         "a text of no forwarder",

@@ -93,4 +93,11 @@ ALL = [
         "give /run/systemd/resolve/resolv.conf instead of this file; until then names without another route are "
         "refused (see row 'Servers from DHCP or the access provider')",
     ),
+    mistake(
+        "UTF-16 of the other order, of which the name does not say the program",
+        "letter.txt",
+        b"\xfe\xff" + "no-resolv\n".encode("utf-16-be"),
+        UNREADABLE,
+        "letter.txt: is text in UTF-16: save the file as UTF-8",
+    ),
 ]
