@@ -4,7 +4,7 @@ import re
 from .bind_options import KEPT, OF_THE_UNIT, SAME, left_out
 from .bind_statements import statements_of
 from .files import Line, Refused
-from .names import ENCRYPTED, ipv4_of, peer_of, port_of, suffix_of
+from .names import ENCRYPTED, ipv4_of, keep, peer_of, port_of, suffix_of
 from .rows import Row
 
 NOT_FROM_ROOT = "names are not resolved from the root if no server answers"
@@ -170,7 +170,7 @@ class Bind:
             )
             self.found.route(suffix).lost.append((statement.line, refused))
         else:
-            raise Refused(f"{kind} is no type of a zone that is known here")
+            raise Refused(f"{kind} is no type of a zone that is known here: {keep('named')}")
 
     def forwarded(self, suffix, statement):
         """A zone of the type forward."""

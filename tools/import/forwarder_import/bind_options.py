@@ -2,6 +2,7 @@
 import re
 
 from .files import Refused
+from .names import keep
 from .rows import Row
 
 # Types of zones that the server has itself.
@@ -95,8 +96,9 @@ LEFT_OUT = (
         Row.SPECIAL,
     ),
     (r"dns64.*|filter-aaaa.*|preferred-glue", "", Row.IPV6),
+    (r"response-policy|catalog-zones|dlz|dyndb|plugin", f"it has no counterpart: {keep('named')}", None),
     (
-        r"response-policy|catalog-zones|dlz|dyndb|plugin|rrset-order|also-notify|notify.*|transfer.*|masters|primaries|"
+        r"rrset-order|also-notify|notify.*|transfer.*|masters|primaries|"
         r"parental-agents|server|check-.*|request-.*|serial-.*|provide-.*|ixfr-.*|minimal-.*|auth-nxdomain|match-.*|"
         r"zone-.*|file|masterfile-.*|type|in-view|interface-interval|automatic-interface-scan|max-.*|min-.*|"
         r"disable-.*|heartbeat-interval|dialup|random-device|memstatistics|flush-zones-on-shutdown|synth-from-dnssec|"
@@ -112,4 +114,4 @@ def left_out(word):
     for pattern, what, row in LEFT_OUT:
         if re.fullmatch(pattern, word):
             return Refused(what, row)
-    return Refused("it is no statement of named.conf that is known here")
+    return Refused(f"it is no statement of named.conf that is known here: {keep('named')}")

@@ -2,6 +2,7 @@
 import re
 
 from .files import Refused
+from .names import keep
 from .rows import Row
 
 # Without a counterpart. The first pattern that is the whole name decides.
@@ -67,4 +68,4 @@ def left_out(name):
     for pattern, what, row in LEFT_OUT:
         if re.fullmatch(pattern, name):
             return Refused(what, row)
-    return Refused("it is no option of dnsmasq that is known here")
+    return Refused(f"it is no option of dnsmasq that is known here: {keep('dnsmasq')}")

@@ -29,6 +29,11 @@ ENCRYPTED = f"NOT IN PLAIN: queries to it are encrypted there, and would not be 
 PORT_OF_TLS = 853  # RFC 7858, section 3.1
 
 
+def keep(program):
+    """What to do about something of a program that nothing here stands for."""
+    return f"if you need it, keep {program} at another address, and write a route to that address"
+
+
 def port_of(text):
     """A port."""
     if not re.fullmatch("[0-9]{1,9}", text) or not 1 <= int(text) <= 65535:

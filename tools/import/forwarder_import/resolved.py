@@ -4,7 +4,7 @@ import os
 import re
 
 from .files import Line, Refused
-from .names import ENCRYPTED, cut, ipv4_of, peer_of, port_of
+from .names import ENCRYPTED, cut, ipv4_of, keep, peer_of, port_of
 from .rows import Row
 
 FOLDERS = ("/usr/lib/systemd", "/usr/local/lib/systemd", "/run/systemd", "/etc/systemd")  # the last decides
@@ -188,7 +188,7 @@ class Resolved:
         elif key in LEFT_OUT:
             raise Refused(*LEFT_OUT[key])
         else:
-            raise Refused("it is no setting of resolved.conf that is known here")
+            raise Refused(f"it is no setting of resolved.conf that is known here: {keep('systemd-resolved')}")
 
 
 def joined(lines):

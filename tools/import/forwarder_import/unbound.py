@@ -3,7 +3,7 @@ import re
 from dataclasses import dataclass, field
 
 from .files import Line, Refused
-from .names import ENCRYPTED, cut, ipv4_of, key_of, peer_of, port_of, suffix_of
+from .names import ENCRYPTED, cut, ipv4_of, keep, key_of, peer_of, port_of, suffix_of
 from .rows import Row
 from .unbound_local import Local, LocalZones
 from .unbound_options import CLAUSES, DENYING, OF_THE_UNIT, SAME, TRANSPARENT, left_out
@@ -114,7 +114,7 @@ class Unbound:
                 elif (kind, statement.key) == ("auth-zone", "name"):
                     self.own_zone(statement)
                 else:
-                    raise Refused(f"it is of the clause {kind}" if kind else "it is of no clause", CLAUSES.get(kind))
+                    raise of_clause(kind)
             except Refused as refused:
                 self.found.refuse(statement.shown(), refused)
 
@@ -235,7 +235,7 @@ class Zone:
         elif part in ZONE_SETTINGS:
             raise Refused(*ZONE_SETTINGS[part])
         elif statement.key != "name":
-            raise Refused(f"it is no setting of a {self.clause.key} that is known here")
+            raise Refused(f"it is no setting of a {self.clause.key} that is known here: {keep('unbound')}")
 
 
 ZONE_SETTINGS = {
@@ -254,6 +254,14 @@ def server_of(statement, is_encrypted):
     if is_encrypted:
         raise Refused(ENCRYPTED)
     return peer_of(*cut(text, "@"))
+
+
+def of_clause(kind):
+    """Why a statement of a clause is left out; `kind` is None before the first clause."""
+    if kind is None:
+        return Refused("it is of no clause: write it below the line of its clause")
+    row = CLAUSES[kind]
+    return Refused(f"it is of the clause {kind}" + ("" if row else f": {keep('unbound')}"), row)
 
 
 def is_yes(statement):

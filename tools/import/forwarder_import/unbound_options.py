@@ -2,6 +2,7 @@
 import re
 
 from .files import Refused
+from .names import keep
 from .rows import Row
 
 # Clauses, with the row that says more of what is in them.
@@ -134,4 +135,4 @@ def left_out(key):
     for pattern, what, row in LEFT_OUT:
         if re.fullmatch(pattern, key):
             return Refused(what, row)
-    return Refused("it is no setting of unbound that is known here")
+    return Refused(f"it is no setting of unbound that is known here: {keep('unbound')}")

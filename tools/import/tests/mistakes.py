@@ -28,6 +28,8 @@ PORT_853 = (
     "NOT IN PLAIN: port 853 is for encrypted queries alone: "
     "write a route to a program on this machine that asks it over TLS"
 )
+KEEP_DNSMASQ = "if you need it, keep dnsmasq at another address, and write a route to that address"
+KEEP_NAMED = KEEP_DNSMASQ.replace("dnsmasq", "named")
 OF_A_VIEW = "it is of a view: write what it says into the file of that view"
 OF_ITSELF = "the server has this zone itself: write a route to a server that has"
 LONG = "x" * 64
@@ -40,14 +42,16 @@ ALL = [
         "dnsmasq.conf",
         "colour=blue\n",
         LEFT_OUT,
-        "dnsmasq.conf:1: colour=blue: left out: it is no option of dnsmasq that is known here",
+        "dnsmasq.conf:1: colour=blue: left out: it is no option of dnsmasq that is known here: "
+        f"{KEEP_DNSMASQ}",
     ),
     mistake(
         "an option without its hyphen",
         "dnsmasq.conf",
         "listen address=10.0.0.53\n",
         LEFT_OUT,
-        "dnsmasq.conf:1: listen address=10.0.0.53: left out: it is no option of dnsmasq that is known here",
+        "dnsmasq.conf:1: listen address=10.0.0.53: left out: it is no option of dnsmasq that is known here: "
+        f"{KEEP_DNSMASQ}",
     ),
     mistake(
         "an option without its value",
@@ -222,7 +226,8 @@ ALL = [
         "dnsmasq.conf",
         b"\x01\x02\xff\xfe=\x1b[31m\n",
         LEFT_OUT,
-        r"dnsmasq.conf:1: \x01\x02\xff\xfe=\x1b[31m: left out: it is no option of dnsmasq that is known here",
+        r"dnsmasq.conf:1: \x01\x02\xff\xfe=\x1b[31m: left out: it is no option of dnsmasq that is known here: "
+        f"{KEEP_DNSMASQ}",
     ),
     mistake(
         "UTF-16",
@@ -317,9 +322,11 @@ ALL = [
         "named.conf:1: options: left out: a block in braces is missing",
         "named.conf:2: zone a.example { .. }: left out: the zone has to have a name and a type",
         "named.conf:3: zone { .. }: left out: the zone has to have a name and a type",
-        "named.conf:4: zone b.example { .. }: left out: colour is no type of a zone that is known here",
+        "named.conf:4: zone b.example { .. }: left out: colour is no type of a zone that is known here: "
+        f"{KEEP_NAMED}",
         "named.conf:5: forwarders: left out: a block in braces is missing",
-        "named.conf:6: colour blue: left out: it is no statement of named.conf that is known here",
+        "named.conf:6: colour blue: left out: it is no statement of named.conf that is known here: "
+        f"{KEEP_NAMED}",
         "named.conf:7: zone *.d.example { .. }: left out: "
         "a suffix is for whole labels, with all names below it: write it without the asterisk",
     ),
@@ -381,7 +388,7 @@ ALL = [
         "blue\nport: 53\nserver:\n  yes\n  local-zone: lan\n  port: x\nforward-zone:\n  forward-addr: 10.0.0.10\n",
         LEFT_OUT,
         "unbound.conf:1: blue: left out: blue has no key before it",
-        "unbound.conf:2: port: 53: left out: it is of no clause",
+        "unbound.conf:2: port: 53: left out: it is of no clause: write it below the line of its clause",
         "unbound.conf:4: yes: left out: yes has no key before it",
         "unbound.conf:5: local-zone: lan: left out: it has to have a zone and a type",
         "unbound.conf:6: port: x: left out: x is no port from 1 to 65535",

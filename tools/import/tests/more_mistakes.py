@@ -6,6 +6,8 @@ FORWARD_FIRST = (
     "(see row 'Iterating from the root')"
 )
 
+KEEP_UNBOUND = "if you need it, keep unbound at another address, and write a route to that address"
+
 ALL = [
     mistake(
         "servers of a file that dnsmasq never reads, and none of the file that it reads",
@@ -99,5 +101,27 @@ ALL = [
         b"\xfe\xff" + "no-resolv\n".encode("utf-16-be"),
         UNREADABLE,
         "letter.txt: is text in UTF-16: save the file as UTF-8",
+    ),
+    mistake(
+        "clauses and settings that nothing here stands for",
+        "unbound.conf",
+        "rpz:\n  name: rpz.example\npython:\n  python-script: a.py\ndynlib:\n  dynlib-file: a.so\n"
+        "server:\n  colour: blue\n"
+        "forward-zone:\n  name: a.example\n  forward-addr: 10.0.0.10\n  forward-colour: red\n",
+        LEFT_OUT,
+        f"unbound.conf:2: name: rpz.example: left out: it is of the clause rpz: {KEEP_UNBOUND}",
+        f"unbound.conf:4: python-script: a.py: left out: it is of the clause python: {KEEP_UNBOUND}",
+        f"unbound.conf:6: dynlib-file: a.so: left out: it is of the clause dynlib: {KEEP_UNBOUND}",
+        f"unbound.conf:8: colour: blue: left out: it is no setting of unbound that is known here: {KEEP_UNBOUND}",
+        "unbound.conf:12: forward-colour: red: left out: "
+        f"it is no setting of a forward-zone that is known here: {KEEP_UNBOUND}",
+    ),
+    mistake(
+        "policy zones of BIND",
+        "named.conf",
+        'options { forward only; forwarders { 10.0.0.10; }; response-policy { zone "rpz.example"; }; };\n',
+        LEFT_OUT,
+        "named.conf:1: response-policy { .. }: left out: it has no counterpart: "
+        "if you need it, keep named at another address, and write a route to that address",
     ),
 ]
