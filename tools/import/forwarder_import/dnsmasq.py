@@ -82,11 +82,11 @@ class Dnsmasq:
     def why_not_read(self, path):
         """Why dnsmasq does not ask the servers of a resolv.conf; empty if it does."""
         if self.no_resolv_line:
-            return f"dnsmasq does not ask it: no-resolv at {self.files.place(self.no_resolv_line)}"
+            return f"dnsmasq does not ask this server: no-resolv at {self.files.place(self.no_resolv_line)}"
         if self.resolv_files and not any(is_at(path, named) for named in self.resolv_files.values()):
             line, named = next(iter(self.resolv_files.items()))
             place = self.files.place(line)
-            return f"dnsmasq does not ask it: resolv-file at {place}: give {named} instead of this file"
+            return f"dnsmasq does not ask this server: resolv-file at {place}: give {named} instead of this file"
         return ""
 
     def say_of_resolv_files(self, given):

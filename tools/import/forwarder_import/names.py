@@ -31,7 +31,7 @@ PORT_OF_TLS = 853  # RFC 7858, section 3.1
 
 def keep(program):
     """What to do about something of a program that nothing here stands for."""
-    return f"if you need it, keep {program} at another address, and write a route to that address"
+    return f"if you need the line, keep {program} at another address, and write a route to {program}"
 
 
 def port_of(text):

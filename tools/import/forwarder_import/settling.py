@@ -132,6 +132,7 @@ def leave_past(routes, counts, found):
     past = collections.Counter(line for route in routes for line in route.lines())
     for route in routes:
         for line in route.lines():
-            which = "it" if past[line] == counts[line] else route.suffix
+            all_alike = "the suffix" if counts[line] == 1 else "each suffix"
+            which = all_alike if past[line] == counts[line] else route.suffix
             what = f"{which} is past the {MOST_ROUTES} routes of a configuration: join some at a shorter suffix"
             found.leave(line, what)

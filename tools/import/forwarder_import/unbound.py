@@ -153,7 +153,7 @@ class Unbound:
             raise Refused("it has to have a zone and a type")
         zone, kind = statement.values
         if kind == "nodefault":
-            self.found.pass_over(line, "its names are not denied by themselves")
+            self.found.pass_over(line, "no name is denied here without a line")
             return
         suffix = suffix_of(zone)
         self.local.add(key_of(suffix), Local(suffix, line, kind in DENYING, kind in TRANSPARENT))

@@ -28,7 +28,7 @@ PORT_853 = (
     "NOT IN PLAIN: port 853 is for encrypted queries alone: "
     "write a route to a program on this machine that asks it over TLS"
 )
-KEEP_DNSMASQ = "if you need it, keep dnsmasq at another address, and write a route to that address"
+KEEP_DNSMASQ = "if you need the line, keep dnsmasq at another address, and write a route to dnsmasq"
 KEEP_NAMED = KEEP_DNSMASQ.replace("dnsmasq", "named")
 OF_A_VIEW = "it is of a view: write what it says into the file of that view"
 OF_ITSELF = "the server has this zone itself: write a route to a server that has"

@@ -6,7 +6,7 @@ FORWARD_FIRST = (
     "(see row 'Iterating from the root')"
 )
 
-KEEP_UNBOUND = "if you need it, keep unbound at another address, and write a route to that address"
+KEEP_UNBOUND = "if you need the line, keep unbound at another address, and write a route to unbound"
 
 ALL = [
     mistake(
@@ -122,6 +122,6 @@ ALL = [
         'options { forward only; forwarders { 10.0.0.10; }; response-policy { zone "rpz.example"; }; };\n',
         LEFT_OUT,
         "named.conf:1: response-policy { .. }: left out: it has no counterpart: "
-        "if you need it, keep named at another address, and write a route to that address",
+        "if you need the line, keep named at another address, and write a route to named",
     ),
 ]
