@@ -10,16 +10,6 @@ KEEP_UNBOUND = "if you need the line, keep unbound at another address, and write
 
 ALL = [
     mistake(
-        "servers of a file that dnsmasq never reads, and none of the file that it reads",
-        "dnsmasq.conf",
-        "no-hosts\nlisten-address=10.0.0.53\nresolv-file=/nowhere/resolv.up\n",
-        LEFT_OUT,
-        "dnsmasq.conf:3: resolv-file=/nowhere/resolv.up: left out: its servers may change: "
-        "give /nowhere/resolv.up as a file, too, to take those that it has now "
-        "(see row 'Servers from DHCP or the access provider')",
-        "dnsmasq.conf: left out: no line names a server that can be asked: write a route `.`",
-    ),
-    mistake(
         "a quoted string of BIND over several lines, and one with a quotation mark in it",
         "bind.keys",
         'trust-anchors {\n  . initial-key 257 3 8 "AwEAAaz\n    FFeQ==";\n};\nversion "a \\"b";\nforward {\n',
