@@ -14,6 +14,8 @@ HERE, ALL = "127.0.0.1", "0.0.0.0"
 def settle(found):
     """Decides what is written, and leaves the rest. Gives `listen` and the routes in their order."""
     listen = listen_of(found)
+    if "." in found.routes:
+        keep_most(found.routes["."], listen)
     standard(found)
     for route in found.routes.values():
         keep_most(route, listen)
@@ -106,13 +108,14 @@ def one_of_two(route, found):
 def ordered(found):
     """The routes: that for all names first, and last those of a line that has many. What is past the
     most is left, denials first."""
-    counts = collections.Counter(line for route in found.routes.values() for line in route.lines())
+    lines = {route.suffix: route.lines() for route in found.routes.values()}
+    counts = collections.Counter(line for each in lines.values() for line in each)
 
     def place(route):
-        return route.suffix != ".", min((counts[line] for line in route.lines()), default=0) > MANY_ROUTES
+        return route.suffix != ".", min((counts[line] for line in lines[route.suffix]), default=0) > MANY_ROUTES
 
     ranked = sorted(found.routes.values(), key=lambda route: (route.suffix != ".", rank(route), place(route)))
-    leave_past(ranked[MOST_ROUTES:], counts, found)
+    leave_past({route.suffix: lines[route.suffix] for route in ranked[MOST_ROUTES:]}, counts, found)
     kept = {route.suffix for route in ranked[:MOST_ROUTES]}
     routes = sorted((route for route in found.routes.values() if route.suffix in kept), key=place)
     if not routes:
@@ -127,12 +130,12 @@ def rank(route):
     return 0 if route.servers else 1 if route.lost else 2
 
 
-def leave_past(routes, counts, found):
-    """Names the lines of routes that are too many. A suffix is named if its line has others that count."""
-    past = collections.Counter(line for route in routes for line in route.lines())
-    for route in routes:
-        for line in route.lines():
+def leave_past(suffixes, counts, found):
+    """Names the lines of suffixes that are too many. A suffix is named if its line has others that count."""
+    past = collections.Counter(line for lines in suffixes.values() for line in lines)
+    for suffix, lines in suffixes.items():
+        for line in lines:
             all_alike = "the suffix" if counts[line] == 1 else "each suffix"
-            which = all_alike if past[line] == counts[line] else route.suffix
+            which = all_alike if past[line] == counts[line] else suffix
             what = f"{which} is past the {MOST_ROUTES} routes of a configuration: join some at a shorter suffix"
             found.leave(line, what)
