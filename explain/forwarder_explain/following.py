@@ -213,7 +213,14 @@ class Follower:
         there = set(self.events)  # with what earlier rounds took to belong to a packet that was lost
         orphans = [each for each in self.live.orphans if each not in there]
         unasked = [each for each in self.live.unasked if each not in there]
-        return SimpleNamespace(events=self.events, orphans=orphans, unasked=unasked, unsolicited=self.live.unsolicited)
+        live = self.live
+        return SimpleNamespace(
+            events=self.events,
+            orphans=orphans,
+            unasked=unasked,
+            unsolicited=live.unsolicited,
+            unreached=live.unreached,
+        )
 
     def horizon(self):
         """Microseconds before a base of which the events are kept."""

@@ -68,7 +68,7 @@ class Page:
         yield from table(("", "questions"), self.by_fate())
         yield "<h2>Reasons</h2>"
         yield from table(("", "questions", "median ms", "99 % ms"), self.by_reason())
-        yield '<h2>Servers</h2><p class="note">All queries of the capture.</p>'
+        yield '<h2>Servers</h2><p class="note">All queries of the capture, and those without a packet.</p>'
         yield from latency([(server, cells[2], cells[3]) for server, cells in self.tally.by_server()])
         yield from table(("", "queries", "share", "median ms", "99 % ms", "failed", "how"), self.by_server())
         yield "<h2>Failures by name and reason</h2>"

@@ -15,7 +15,7 @@ class Queries:
 
     def __init__(self, configuration, tally):
         self.configuration, self.tally = configuration, tally
-        self.is_step, self.never_left, self.counts_all = {}, [], False
+        self.is_step, self.never_left, self.unshown, self.counts_all = {}, [], [], False
         self.lost, self.foreign = Counter(), 0
 
     def judge(self, part):
@@ -23,9 +23,11 @@ class Queries:
         self.is_step.update(part.is_step)
         before = [each for each in self.never_left if not part.begins <= each < part.ends]
         self.never_left = before + part.never_left
+        before = [each for each in self.unshown if not part.begins <= each[0] < part.ends]
+        self.unshown = before + part.unshown
 
     def count(self, events, history, since):
-        """Counts events, and what could not be sent before a moment."""
+        """Counts events, and before a moment the queries that could not be sent, or that have no packet."""
         for event in events:
             self.lost[type(event).__name__.lower()] += getattr(event, "is_lost", False)
             if isinstance(event, Query):
@@ -33,6 +35,10 @@ class Queries:
         left = [moment for moment in self.never_left if moment >= since]
         self.tally.never_left += len(self.never_left) - len(left)
         self.never_left = left
+        for each in self.unshown:
+            if each[0] < since:
+                self.tally.add_unshown(*each[1:])
+        self.unshown = [each for each in self.unshown if each[0] >= since]
 
     def count_query(self, query, history):
         is_step = self.is_step.pop(query, None)

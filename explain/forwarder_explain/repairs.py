@@ -18,6 +18,7 @@ SLACK = 40  # milliseconds by which the service's clock and the capture's may pa
 HORIZON = 2_000_000  # microseconds after the first change of a run in which others are made
 STALE = 30  # seconds in the TTL of expired data
 A_LITTLE = 300  # milliseconds by which time may be seen late with no stop of the service
+A_FEW = 5  # milliseconds in which the service sees that a try is over
 STEPS = (3, 10, 30)  # milliseconds by which a line is moved, one after another
 
 
@@ -42,6 +43,7 @@ class Repairs:
         for each in outcome.asked:
             self.by_question[self.window.asked_in(each)].append(each)
         dues = self.overdue()
+        self.touched |= {self.window.asked_in(each) for each in outcome.asked if self.due_of(each) in dues}
         changes = [*(query.moment for query in moved), *(self.order_of(due)[0] for due in dues)]
         until = min(changes, default=float("inf")) + HORIZON
         for moment, _, of, repair, what in sorted(self.open_points(), key=lambda point: point[:2]):
@@ -125,8 +127,8 @@ class Repairs:
         """How much the script leaves undone for long that was due at a moment: the service never does."""
         dues = {}
         for each in self.outcome.asked:
-            due = each.moment + self.limits["ask_ms"]
-            if self.is_late(due, each.closed):
+            due = self.due_of(each)
+            if self.is_late(due, each.closed) or self.is_late_unshown(each):
                 dues[due] = dues.get(due, 0) + 1
         for question in self.window.questions:
             line = self.window.maker.line_of.get(question)
@@ -135,6 +137,10 @@ class Repairs:
                 if self.is_late(due, self.answers.get(question, (None,))[0]):
                     dues[due] = dues.get(due, 0) + 1
         return dues
+
+    def due_of(self, each):
+        """When the time of a query of the script is over."""
+        return each.moment + self.limits["ask_ms"]
 
     def stall_at(self, moment):
         return at(self.window.stalls, self.window.maker.micros(moment))
@@ -160,6 +166,15 @@ class Repairs:
         if line is None:
             return seen <= last
         return self.outcome.moments[line.number - 1] > seen + (A_LITTLE if self.lateness.is_shown(line) else SOON)
+
+    def is_late_unshown(self, each):
+        """Whether a query of the script that the capture does not have ends a little late: nothing shows when, and the
+        tries that follow would end later and later."""
+        if each.closed is None or each.closed.kind != "tick" or each in self.pairing.query_of:
+            return False
+        due = self.due_of(each)
+        is_late = self.stall_at(due) is None and self.outcome.moments[each.closed.number - 1] > due + A_FEW
+        return is_late and self.may((due, "unshown"), 2)
 
     def is_meant(self, line):
         each = self.outcome.by_line.get(line.target)

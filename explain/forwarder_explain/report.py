@@ -111,6 +111,7 @@ class Row:
                     "milliseconds": attempt.lasted,
                     "how": attempt.how,
                     **({"unfit": list(attempt.unfit)} if attempt.unfit else {}),
+                    **({"icmp": attempt.news} if attempt.news else {}),
                 }
                 for attempt in result.attempts
             ],
@@ -151,8 +152,9 @@ class Summary:
         paired, others = self.tally.paired, self.tally.other_queries
         said = f"{counted(paired + others, 'query')} to servers: {are(paired)} the step's"
         said += f", {are(others)} not" if others else ""
-        never_left = self.tally.never_left
-        yield said + (f"; {never_left:,} of the step's could not be sent" if never_left else "")
+        never_left, unshown = self.tally.never_left, self.tally.unshown
+        said += f"; {never_left:,} of the step's could not be sent" if never_left else ""
+        yield said + (f"; {unshown:,} of the step's {'has' if unshown == 1 else 'have'} no packet" if unshown else "")
         for moment, server, transport, asked, on_route in self.tally.others:
             over = " over TCP" if transport == "tcp" else ""
             what = f"{messages.text(asked.name)} {messages.kind_text(asked.kind, asked.klass)}"
@@ -182,6 +184,7 @@ class Summary:
                 "queries_of_the_step": tally.paired,
                 "other_queries": tally.other_queries,
                 "never_left": tally.never_left,
+                "without_a_packet": tally.unshown,
                 "begun_anew_by": [moment / 1_000_000 for moment, has_begun in self.beginnings if has_begun],
             }
         }
@@ -197,6 +200,8 @@ def tallied(rows, events, history, explained):
             tally.add_query(event, history)
     for other in explained.others:
         tally.add_other(other)
+    for _, server, how in explained.unshown:
+        tally.add_unshown(server, how)
     tally.paired, tally.never_left = explained.paired, explained.never_left
     return tally
 

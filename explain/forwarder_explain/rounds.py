@@ -18,8 +18,9 @@ MOST_BEFORE = 3  # times that a beginning before the base is looked for
 class Part(NamedTuple):
     """What a window shows. `results` are by question. `others` are the captured queries that its script
     does not make, and `is_step` says of each captured query whether it does. `never_left` are the
-    moments of the script's queries that could not be sent, `accepted` the milliseconds at which
-    replies were read. `script` is its script, if that is wanted.
+    moments of the script's queries that could not be sent, `unshown` those without a packet: the moment, the
+    server, and how each ended; `accepted` are the milliseconds at which replies were read. `script` is its script,
+    if that is wanted.
 
     In `answers` are the questions whose answers were exchanged, each with its answer. The next
     window begins at the moment `ends`. Events are places, until `of_events` puts them there.
@@ -32,6 +33,7 @@ class Part(NamedTuple):
     others: list
     is_step: list
     never_left: list
+    unshown: list
     accepted: list
     script: str
 
@@ -166,6 +168,7 @@ class Round(Cutter):
             others=others_of(window),
             is_step=[(places[query], query in window.pairing.line_of) for query in queries],
             never_left=left,
+            unshown=list(window.unshown.counted()),
             accepted=[(places[reply], window.maker.micros(line.moment) // 1000) for reply, line in read],
             script=window.script.text(window.lines, window.pairs) if self.keeps_scripts else "",
         )

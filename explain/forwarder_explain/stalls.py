@@ -33,7 +33,13 @@ def found_in(history, events, limits, effects):
             came.append(event)
         elif is_output(event, history.foreign):
             before = [each for each in came if event.moment - max(each.moment, last) > STILL]
-            calls = [max(each.moment, last) for each in before if calls_for(history, each, event, limits)]
+            without = {each: True for each in before if waits_for_try(history, each, limits, effects)}
+            joined = {history.wanted(each): each.moment for each in reversed(without)}
+            calls = [
+                max(each.moment, last)
+                for each in before
+                if each not in without and calls_for(history, each, event, limits, joined)
+            ]
             late = (due for due, left in history.late_tries if last < due and left - NEAR < event.moment <= left)
             calls += [due - CLOCKS for due in late]
             if calls:
@@ -54,9 +60,20 @@ def united(known, found):
     return stalls
 
 
-def calls_for(history, event, output, limits):
+def waits_for_try(history, event, limits, effects):
+    """Whether the first query or answer for a question left as the time of a try for it was over: there was a query of
+    which the capture has no packet."""
+    found = history.found.get(event) if isinstance(event, Question) else None
+    if found is None or found.answers or found.was_asked or not event.answer:
+        return False
+    own = min(filter(None, (effects.get(event), event.answer.moment)))
+    return ends_try(own - event.moment, limits)
+
+
+def calls_for(history, event, output, limits, joined):
     """Whether something that came calls for a query or an answer at once, and had none before the
-    output that followed it."""
+    output that followed it. `joined` says by what was asked since when a query for it is open of which the capture
+    has no packet."""
     if isinstance(output, Answer) and output.question.connection and not was_made_late(history, output):
         return False
     if isinstance(event, Question):
@@ -65,7 +82,9 @@ def calls_for(history, event, output, limits):
             return False
         if found and found.was_asked:
             return outlasts(event, limits) or is_overlooked(event, output, limits)
-        return not ends_try(output.moment - event.moment, limits)
+        if found and not found.answers and joined.get(history.wanted(event), event.moment) < event.moment:
+            return False
+        return not ends_try(event.answer.moment - event.moment, limits)
     return event in history.awaited
 
 

@@ -8,6 +8,8 @@ from .wording import duration
 
 FAILED = {
     "silent": "silent for {} ms",
+    "silent, no packet": "no packet of it for {} ms",
+    "deadline, no packet": "no packet of it for {} ms, up to the deadline",
     "deadline": "silent for {} ms, up to the deadline",
     "cut": "a cut reply after {} ms",
     "cut, query lost": "a cut reply; the capture lost the query",
@@ -183,7 +185,8 @@ def how_text(attempt):
     """How a try ended, and why the replies that came to it were not used."""
     if attempt.unfit:
         return f"no reply that fits; {unfit_text(attempt.unfit)}"
-    return FAILED.get(attempt.how, attempt.how + " after {} ms").format(duration(attempt.lasted))
+    said = FAILED.get(attempt.how, attempt.how + " after {} ms").format(duration(attempt.lasted))
+    return f"{said}: {attempt.news}" if attempt.news else said
 
 
 def unfit_text(unfit):

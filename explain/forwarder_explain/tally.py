@@ -76,6 +76,7 @@ class Tally:
 
     def __init__(self):
         self.questions = self.answers = self.late = self.paired = self.never_left = self.other_queries = 0
+        self.unshown = 0
         self.same, self.others, self.slow = Counter(), [], []
         self.reasons, self.servers, self.clients = (defaultdict(Group) for _ in range(3))
 
@@ -114,6 +115,12 @@ class Tally:
             group.times.add((reply.moment - query.moment) / 1000)
         if verdict != "answered":
             group.fail(silence(query) if verdict == "silent" else verdict)
+
+    def add_unshown(self, server, how):
+        """Counts a query of the step that the service must have sent, and that has no packet in the capture."""
+        self.unshown += 1
+        self.servers[server].number += 1
+        self.servers[server].fail(how)
 
     def add_other(self, other):
         """Counts a captured query that is not the step's."""

@@ -1,5 +1,8 @@
 """Who sent what: clients their questions, servers their replies, and the forwarder what it sent to
 them."""
+from collections import deque
+from typing import NamedTuple
+
 from . import messages
 from .answering import Answering
 from .configuration import shown
@@ -15,6 +18,7 @@ PORT_CLOSED, LAST_PORT = 3, 65535
 MOST_KNOWN = 10_000  # clients of the last time
 MOST_ELSEWHERE = 50_000  # paths of what other programs ask, and connections that began before
 MOST_UNSOLICITED = 50_000  # records of messages that nobody asked for
+MOST_UNREACHED = 50_000  # queries that reached nobody, and that the capture does not have
 AT_ONCE = 50_000  # microseconds in which the service's own machine refuses a question
 UNREACHABLE = {
     0: "network unreachable",
@@ -129,6 +133,16 @@ class Refusal(Event):
         self.question = question
 
 
+class Unreached(NamedTuple):
+    """News of a query that the capture does not have: when the news came, the server, what was asked of it, and why it
+    was not reached."""
+
+    moment: int
+    server: str
+    of: tuple
+    why: str
+
+
 class Traffic:
     """All events of the forwarder in a list of packets, by time."""
 
@@ -136,6 +150,7 @@ class Traffic:
         self.servers, self.events, self.orphans = configuration.servers, [], []
         self.paths, self.connections, self.last_of, self.known = {}, {}, {}, {}
         self.elsewhere, self.unsolicited, self.most_last = {}, set(), MOST_KNOWN
+        self.unreached = deque(maxlen=MOST_UNREACHED)
         self.clients = self.foreign = self.gaps = 0
         self.late = set()
         self.has_question = self.has_query = False
@@ -236,6 +251,16 @@ class Traffic:
             and transport == "udp"
         ):
             self.refuse(packet.moment, self.refused_question(packet))
+        elif packet.target in self.servers and packet.octets[2:12] == QUERY_FLAGS:
+            self.unreached_query(packet)
+
+    def unreached_query(self, news):
+        """Notes what ICMP says of a query that the capture does not have: Linux asks for the address of a
+        machine for seconds before it says that the machine can't be reached."""
+        asked = messages.question_in(news.octets[2:])
+        if asked:
+            why = UNREACHABLE.get(news.code, "unreachable")
+            self.unreached.append(Unreached(news.moment, shown(news.target), asked.of(), why))
 
     def refused_question(self, news):
         """The question that ICMP's news is about: the client's last one, if it has just come; else one
@@ -383,7 +408,7 @@ class Traffic:
             yield f"left out: {late} to servers that began before the capture, or of which it lost the beginning"
         if self.has_question and not self.has_query:
             servers = ", ".join(sorted(map(shown, configuration.servers)))
-            yield f"no server of the configuration was asked ({servers})"
+            yield f"has no query to a server of the configuration ({servers})"
 
 
 def rows_of(octets):

@@ -12,6 +12,7 @@ from .repairs import SOON, Repairs, in_order
 from .replay import Script
 from .strangers import strangeness
 from .traffic import Ending, Query, Question, Reply
+from .unshown import Unshown
 from .wording import duration
 
 MOST_RUNS, MOST_EQUAL = 150, 3  # of a script, and of one with equal lines
@@ -23,7 +24,7 @@ class Attempt(NamedTuple):
     """A try for a question: what was asked of whom, when, for how long, and how it ended.
 
     `unfit` says of each reply that came and was not used why; `late` is by how many milliseconds
-    one was read late.
+    one was read late; `news` is what ICMP says of a query that the capture does not have.
     """
 
     name: bytes
@@ -34,6 +35,7 @@ class Attempt(NamedTuple):
     how: str
     unfit: tuple = ()
     late: int = 0
+    news: str = ""
 
 
 class Result(NamedTuple):
@@ -86,6 +88,8 @@ class Window:
         self.endings = [event for event in events if isinstance(event, Ending)]
         self.index()
         self.runs, self.has_ended, self.unheard, self.stalls = 0, False, frozenset(), []
+        # By server and question what ICMP says of queries that the capture does not have, with the moments.
+        self.unreached = {}
 
     def put_preferred(self, preferred):
         """Lines by which each route prefers the server that it preferred when the window began."""
@@ -185,6 +189,7 @@ class Window:
         """The result of each question that is to be judged, and those whose answers were exchanged.
         """
         self.settle()
+        self.unshown = Unshown(self)
         near = lambda question, answer: comparing.differ_by_seconds(answer.octets, self.text_for(question))
         exchanged = exchange(self.judged, lambda question, answer: answer.octets == self.text_for(question))
         exchanged |= exchange(self.judged, near)
@@ -306,7 +311,8 @@ class Window:
     def attempt(self, each):
         query, closed = self.pairing.query_of.get(each), each.closed
         name = question_in(bytes.fromhex(each.body)).name
-        if query is None and (closed is None or not closed.note):
+        is_unshown = self.unshown.has(each)
+        if query is None and not is_unshown and (closed is None or closed.kind == "tick" or not closed.note):
             return Attempt(name, each.transport, each.server, each.moment, -1, "unasked")
         if closed is None:
             return Attempt(name, each.transport, each.server, each.moment, -1, "open", self.unfit(query))
@@ -314,10 +320,13 @@ class Window:
         if query is not None and closed.event is not None and closed.kind != "tick":
             lasted = (closed.event.moment - query.moment) / 1000
         how = lost_text(self.how(closed), query, closed.event)
+        news = self.unshown.news(each) if query is None else ""
         if how != "silent":
-            return Attempt(name, each.transport, each.server, each.moment, lasted, how)
+            return Attempt(name, each.transport, each.server, each.moment, lasted, how, news=news)
         whole = self.configuration.limits["ask_ms"]
         how, lasted = ("silent", whole) if lasted >= whole else ("deadline", lasted)
+        if is_unshown:
+            return Attempt(name, each.transport, each.server, each.moment, lasted, f"{how}, no packet", news=news)
         late = max((self.moved(line) for line in self.lines_of_replies(query)), default=0)
         return Attempt(name, each.transport, each.server, each.moment, lasted, how, self.unfit(query), late)
 
@@ -347,10 +356,11 @@ class Window:
         return "answered"
 
     def queries_of_step(self):
-        """How many captured queries the script makes too, and how many of its own never left."""
+        """How many captured queries the script makes too, how many of its own never left, and those of which the
+        capture has no packet."""
         own = {query for query in self.queries if query.moment >= self.begins and not query.is_lost}
         never_left = sum(1 for line in self.lines if line.note == "never left" and line.order[0] >= self.begins)
-        return len(own.intersection(self.pairing.line_of)), never_left
+        return len(own.intersection(self.pairing.line_of)), never_left, list(self.unshown.counted())
 
     def other_queries(self):
         """The captured queries that the script does not make."""

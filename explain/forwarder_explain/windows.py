@@ -47,6 +47,9 @@ class Cutter:
         self.first, self.aim = self.events[0].moment // 1000, AIM_LINES
         self.losses, self.lost = Losses(configuration, traffic), []
         ask_ms = configuration.limits["ask_ms"]
+        self.unreached = defaultdict(list)
+        for news in traffic.unreached:
+            self.unreached[news.server, news.of].append((news.moment, news.why))
         self.leaps = set_forward(self.events, ask_ms, self.losses.is_used, moment_text)
         near.put_in_order(self.events)
         self.restarted, self.restarts, self.stalls, self.exchanged = restarted, set(), [], set()
@@ -172,6 +175,7 @@ class Cutter:
         preferred = self.history.first_asked | cut.preferred if cut.had_before else cut.preferred
         window = Window(self.configuration, self.history, program, events, judged, (before, preferred), span)
         window.has_ended, window.unheard, window.stalls = has_ended, unheard, self.stalls
+        window.unreached = self.unreached
         return window
 
     def unheard(self, cut, end):
@@ -279,10 +283,10 @@ class Explained:
     def __init__(self):
         self.results, self.windows, self.scripts = {}, {}, []
         self.paired = self.never_left = 0
-        self.others = []
+        self.others, self.unshown = [], []
 
     def add(self, part, events):
-        results, exchanged, (paired, never_left), others, text = part
+        results, exchanged, (paired, never_left, unshown), others, text = part
         for place, answer in exchanged:
             events[place].answer = None if answer is None else events[answer]
         for place, result in results.items():
@@ -293,6 +297,7 @@ class Explained:
         self.windows.update((place, len(self.scripts)) for place in results)
         self.paired += paired
         self.never_left += never_left
+        self.unshown += unshown
         self.others += others
         self.scripts.append(text)
 

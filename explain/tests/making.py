@@ -54,14 +54,16 @@ class Capturing:
         header = struct.pack(">2H2I2B3H", source[1], target[1], sequence, 0, 0x50, flags, 65535, 0, 0)
         self.ip(milliseconds, source[0], target[0], 6, header + payload)
 
-    def unreachable(self, milliseconds, router, source, target, code=3):
-        """ICMP says that a datagram from source did not reach target."""
-        from_, to = peer(source), peer(target)
+    def unreachable(self, milliseconds, router, source, target, code=3, payload=b""):
+        """ICMP says that a datagram from source did not reach target; `payload` is what it carried, if that is there.
+        """
+        from_, to, size = peer(source), peer(target), 8 + len(payload) if payload else 40
         inner = (
-            struct.pack(">BBHHHBBH", 0x45, 0, 60, 1, 0, 64, 17, 0)
+            struct.pack(">BBHHHBBH", 0x45, 0, 20 + size, 1, 0, 64, 17, 0)
             + from_[0]
             + to[0]
-            + struct.pack(">4H", from_[1], to[1], 40, 0)
+            + struct.pack(">4H", from_[1], to[1], size, 0)
+            + payload
         )
         self.ip(
             milliseconds, bytes(map(int, router.split("."))), from_[0], 1, struct.pack(">2BHI", 3, code, 0, 0) + inner

@@ -3,6 +3,7 @@ rules, by hand."""
 import hostile
 import losses
 import lossy
+import off
 import orders
 import outages
 import restarts
@@ -335,4 +336,5 @@ ALL = [
     *losses.ALL,
     *lossy.ALL,
     *orders.ALL,
+    *off.ALL,
 ]

@@ -47,6 +47,8 @@ CODES = (
 ENDS = (
     ("silent", 1000, "silent for 1,000 ms"),
     ("deadline", 500, "silent for 500 ms, up to the deadline"),
+    ("silent, no packet", 1000, "no packet of it for 1,000 ms"),
+    ("deadline, no packet", 500, "no packet of it for 500 ms, up to the deadline"),
     ("cut", 3, "a cut reply after 3.0 ms"),
     ("malformed", 3, "a reply that can't be read after 3.0 ms"),
     ("referral", 3, "a referral after 3.0 ms"),
