@@ -1,4 +1,6 @@
 """Explains a capture as it grows: each question once it is known what became of it (`--follow`)."""
+import contextlib
+import os
 import signal
 import time
 from types import SimpleNamespace
@@ -20,6 +22,7 @@ from .rounds import Round, place_to_keep
 from .story import Teller
 from .tally import Tally
 from .traffic import Query, Question
+from .wording import counted
 
 PAUSE = 0.3  # seconds between two rounds
 SETTLED = 200_000  # microseconds after an answer in which what belongs to it may still come
@@ -31,12 +34,17 @@ RENEWED = 10_000_000  # microseconds between two looks for what is over
 AT_ONCE = 2000  # events of one round
 CONTEXT = 300  # events before those of a round
 MOST_CONTEXT = 8000  # such events if a question waits: at 500 questions a second those of its deadline
+LOOKS = 1.0  # seconds between two looks in a round
 BEHIND = 5  # seconds by which a run is behind before that is said; again at each double of them
 UNHEARD = 30  # seconds without a question, after which that is said
 
 
 class Stopped(Exception):
     """A signal says that the run is to end."""
+
+
+class Ended(BaseException):
+    """A second signal says that the run is to end at once. Nothing else may catch this."""
 
 
 class Behind:
@@ -49,13 +57,17 @@ class Behind:
     def look(self, passed):
         """Takes how many seconds have passed, from any beginning, without those of the packets."""
         self.least = min(self.least, passed)
+        self.look_meanwhile(passed)
+        if self.said and passed - self.least < BEHIND / 2:
+            self.said = 0
+            self.note("no longer behind what comes")
+
+    def look_meanwhile(self, passed):
+        """Takes the same of the first packet of a round that goes on."""
         behind = passed - self.least
         if behind >= max(BEHIND, 2 * self.said):
             self.said = behind
             self.note(f"{behind:,.0f} s behind what comes")
-        elif self.said and behind < BEHIND / 2:
-            self.said = 0
-            self.note("no longer behind what comes")
 
     def begin_anew(self):
         """The times of the packets were changed."""
@@ -80,9 +92,15 @@ class Follower:
         self.events, self.came, self.base, self.history = [], 0, None, None
         self.wanted, self.doubtful, self.guessed, self.accepted = set(), set(), {}, {}
         self.is_stopped, self.is_last, self.is_told, self.behind = False, False, False, Behind(note)
+        self.working = None  # the moment of the first packet of the round that goes on
 
     def stop(self, *_):
         self.is_stopped = True
+
+    def meanwhile(self, *_):
+        """Called again and again, also in the middle of a round: says how far the run is behind."""
+        if self.working is not None:
+            self.behind.look_meanwhile(time.monotonic() - self.working / 1_000_000)
 
     # What comes.
 
@@ -118,13 +136,14 @@ class Follower:
         packets = self.intake.given(is_quiet or is_end)
         self.seen = max(self.seen, self.intake.latest, self.last + self.intake.offset if is_end else 0)
         self.now = self.seen + round(1_000_000 * self.quiet)
+        self.working = packets[0].moment if packets else None
         if packets or is_end:
             self.enter(packets, is_end)
         due = self.due(is_end)
         if self.events and (due or is_end or self.came >= AT_ONCE):
             self.round(due, is_end)
             self.came = 0
-        self.done_at = time.monotonic()
+        self.done_at, self.working = time.monotonic(), None
         self.look_for_questions()
 
     def enter(self, packets, is_end):
@@ -312,10 +331,46 @@ class Follower:
             self.note(text)
         return Summary(self.tally, self.beginnings.at_end())
 
+    def end_at_once(self):
+        """Says what is left out; gives the summary of what was explained."""
+        left = self.intake.raw + self.intake.waiting
+        count = len(self.wanted) + sum(getattr(each, "target", None) in self.live.listen for each in left)
+        self.note(f"a second signal ended the run: left out the last {counted(count, 'question')}, or about so many")
+        return Summary(self.tally, self.beginnings.at_end())
+
 
 def follow(options, settings, follower):
-    """Follows a capture until it ends, or until SIGINT or SIGTERM; gives the summary."""
-    handlers = {number: signal.signal(number, follower.stop) for number in (signal.SIGINT, signal.SIGTERM)}
+    """Follows a capture until it ends, or until SIGINT or SIGTERM; gives the summary. After a second signal this takes
+    no further round."""
+    own = os.getpid()
+
+    def heed(*_):
+        if follower.is_stopped and os.getpid() == own:
+            raise Ended
+        follower.stop()
+
+    heeded = {signal.SIGINT: heed, signal.SIGTERM: heed, signal.SIGALRM: lambda *_: look(follower)}
+    handlers = {number: signal.signal(number, handler) for number, handler in heeded.items()}
+    signal.setitimer(signal.ITIMER_REAL, LOOKS, LOOKS)
+    try:
+        read(options, follower)
+        return follower.end()
+    except Ended:
+        return follower.end_at_once()
+    finally:
+        signal.setitimer(signal.ITIMER_REAL, 0)
+        for number, handler in handlers.items():
+            signal.signal(number, handler)
+
+
+def look(follower):
+    """Has a follower say how far it is behind. If the program just writes to standard error, the next look says it."""
+    with contextlib.suppress(RuntimeError):
+        follower.meanwhile()
+
+
+def read(options, follower):
+    """Gives a follower all packets, until the capture ends or a signal comes."""
     try:
         for file in files_of(options, follower):
             capture = Capture(file)
@@ -326,10 +381,6 @@ def follow(options, settings, follower):
                     follower.note(text)
     except Stopped:
         pass
-    finally:
-        for number, handler in handlers.items():
-            signal.signal(number, handler)
-    return follower.end()
 
 
 def files_of(options, follower):

@@ -6,6 +6,7 @@ import itertools
 import os
 import pathlib
 import queue
+import shlex
 import signal
 import subprocess
 import tempfile
@@ -284,6 +285,52 @@ def how_far_behind(program):
     yield said, [*said], ["5 s behind what comes", "10 s behind what comes", "no longer behind what comes"]
 
 
+def how_far_behind_in_a_round(program):
+    """The second round takes 12 s, and the run looks at its clock each second."""
+    scene, said, clock, lasts = Scene(), [], [0.0], [0, 12]
+    for second in range(4):
+        scene.fetched(1000 * second, ONE, second, asked(f"n{second}.example.com"), 300, (192, 0, 2, second))
+    settings = configuration.read(CAPTURES / "office.toml", program)
+    options = command.arguments(["--program", program, "--follow", "office.toml", "-"])
+
+    class Slow(following.Round):
+        """A round that first takes as many seconds as it is given."""
+
+        def __init__(self, *words):
+            for _ in range(lasts.pop(0) if lasts else 0):
+                clock[0] += 1
+                follower.meanwhile()
+            said.append("a round")
+            super().__init__(*words)
+
+    with unittest.mock.patch.object(following.time, "monotonic", lambda: clock[0]):
+        with unittest.mock.patch.object(following, "Round", Slow):
+            follower = following.Follower(options, settings, lambda _: None, lambda *_: None, said.append)
+            for packet in Capture(io.BytesIO(scene.pcap())).packets():
+                clock[0] = max(clock[0], (packet.moment - START) / 1_000_000)
+                follower.take(packet)
+    yield "said", said[:4], ["a round", "5 s behind what comes", "10 s behind what comes", "a round"]
+
+
+def ended_by_a_second_signal(program):
+    """The first replay takes a minute. After one signal the run waits for that, and after a second one no more."""
+    with tempfile.TemporaryDirectory() as folder:
+        slow = pathlib.Path(folder) / "slow"
+        slow.write_text(f'#!/bin/sh\n[ "$1" = check ] || exec sleep 60\nexec {shlex.quote(str(program))} "$@"\n')
+        slow.chmod(0o755)
+        run, began = Followed(slow, "-"), time.monotonic()
+        run.write(capture_of("answers"))
+        run.wait()
+        for number in (signal.SIGINT, signal.SIGTERM):
+            time.sleep(1)
+            run.run.send_signal(number)
+        printed, said, status = run.end()
+    wanted = "forwarder-explain: -: a second signal ended the run: left out the last 9 questions, or about so many\n"
+    none = "0 questions, 0 answers: 0 are the step's own octets, 0 but for a second, 0 different\n"
+    yield "the end", ("".join(printed[:1]), said, status), (none, wanted, 0)
+    yield "soon", time.monotonic() - began < 2 * LONGEST, True
+
+
 def wrong_words(program):
     """What is for whole captures alone is refused, and so is a folder that is not there."""
     for words in (["--at", "14:03"], ["--to", "14:03"], ["--script", "s"]):
@@ -385,6 +432,8 @@ ALL = [
     without_an_answer,
     reason_among_many,
     how_far_behind,
+    how_far_behind_in_a_round,
+    ended_by_a_second_signal,
     wrong_words,
     packet_by_packet,
     ends_of_lifetimes,
