@@ -187,7 +187,7 @@ def run_whole(options, settings, packets, progress):
         explained.results[place] = doubts.put_apart(traffic.events[place], result)
     for text in cutter.notes():
         note(options.capture, text)
-    teller = Teller(settings, cutter.history)
+    teller = Teller(settings, cutter.history, traffic.missing_ports())
     rows = {
         place: Row(traffic.events[place], result, teller) for place, result in sorted(explained.results.items())
     }

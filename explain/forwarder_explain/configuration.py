@@ -57,6 +57,12 @@ class Configuration:
             self._found[key] = next((route for route in self.routes if is_under(key, route.suffix)), None)
         return self._found[key]
 
+    def ports_among(self, key, ports):
+        """Which of some ports the servers of a name's route have, and whether all these servers have one of them."""
+        route = self.route_of(key) if ports else None
+        found = [port for _, port in route.servers if port in ports] if route else []
+        return found, bool(found) and len(found) == len(route.servers)
+
 
 def peer(text):
     """Address in four octets, and port."""

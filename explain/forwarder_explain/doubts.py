@@ -111,6 +111,9 @@ class Doubts:
             return ""
         if not is_answer_to(question, records) or self.losses.forgeries.any_of(records):
             return ""
+        ports, are_all = self.configuration.ports_among(question.asked.key, self.traffic.missing_ports())
+        if are_all:
+            return f"all packets of port {ports[0]}"
         leap = self.leap(question, octets)
         if leap:
             return f"what shows that its clock was set forward by {leap:,} s"

@@ -239,6 +239,7 @@ class Follower:
             unasked=unasked,
             unsolicited=live.unsolicited,
             unreached=live.unreached,
+            missing_ports=live.missing_ports,
         )
 
     def horizon(self):
@@ -276,7 +277,7 @@ class Follower:
                 if cutter.aim < 20:
                     raise Unreadable("has too much in flight at one time for a script") from None
                 cutter.cut_smaller()
-        teller = Teller(self.settings, cutter.history)
+        teller = Teller(self.settings, cutter.history, traffic.missing_ports())
         others = [each for part in found for each in part.others]
         doubts, rows = Doubts(self.settings, traffic, cutter, others), {}
         for part in found:

@@ -46,9 +46,9 @@ def clock(micros):
 class Teller:
     """Puts results into words."""
 
-    def __init__(self, configuration, history):
+    def __init__(self, configuration, history, missing_ports=frozenset()):
         self.configuration, self.history = configuration, history
-        self.limits = configuration.limits
+        self.limits, self.missing_ports = configuration.limits, missing_ports
 
     def words(self, question, result):
         """What became of a question, in one line."""
@@ -66,8 +66,14 @@ class Teller:
         elif result.same == comparing.GONE:
             said += "; the connection ended before the answer"
         elif result.same == comparing.BEFORE and result.reason is None:
-            said = "from what was kept before the capture began"
+            said = self.without_packet(question.asked.key) or "from what was kept before the capture began"
         return said
+
+    def without_packet(self, key):
+        """Words for an answer of which no packet shows the source, if a server for its name may have been asked; or
+        nothing."""
+        ports, _ = self.configuration.ports_among(key, self.missing_ports)
+        return f"from the cache, or of a server at port {ports[0]}, of which the capture has no packet" if ports else ""
 
     def unjudged(self, question, result):
         """Words where the step gives no reply."""
@@ -146,6 +152,8 @@ class Teller:
         left = left_in(result.octets)
         if left is None:
             left = max(0, held.end() - question.moment // 1000) // 1000
+        if held.source is None and self.without_packet(held.key):
+            return self.without_packet(held.key)
         if held.source is None:
             origin = f"kept since before the capture, {left:,} s left"
         else:

@@ -151,6 +151,8 @@ class Traffic:
         self.paths, self.connections, self.last_of, self.known = {}, {}, {}, {}
         self.elsewhere, self.unsolicited, self.most_last = {}, set(), MOST_KNOWN
         self.unreached = deque(maxlen=MOST_UNREACHED)
+        self.ports = {port for _, port in (configuration.listen, *self.servers)}
+        self.unseen = set(self.ports)  # of these ports no packet has come
         self.clients = self.foreign = self.gaps = 0
         self.late = set()
         self.has_question = self.has_query = False
@@ -167,12 +169,18 @@ class Traffic:
 
     def take(self, packet):
         """Takes what one packet carries."""
+        if self.unseen and not isinstance(packet, Unreachable):
+            self.unseen -= {packet.source[1], packet.target[1]}
         if isinstance(packet, Datagram):
             self.datagram(packet)
         elif isinstance(packet, Segment):
             self.segment(packet)
         else:
             self.unreachable(packet)
+
+    def missing_ports(self):
+        """The ports of the configuration of which the capture has no packet, if it has packets of others."""
+        return self.unseen if self.unseen != self.ports else frozenset()
 
     def own_peers(self, listen, packets):
         """Where clients reach the forwarder: one peer, or with 0.0.0.0 the port at each of its own
@@ -406,6 +414,8 @@ class Traffic:
         if self.late:
             late = counted(len(self.late), "connection")
             yield f"left out: {late} to servers that began before the capture, or of which it lost the beginning"
+        for port in sorted(self.missing_ports()):
+            yield f"no packet of port {port}, which the configuration names"
         if self.has_question and not self.has_query:
             servers = ", ".join(sorted(map(shown, configuration.servers)))
             yield f"has no query to a server of the configuration ({servers})"
