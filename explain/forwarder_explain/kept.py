@@ -160,7 +160,7 @@ class History:
         """Notes whom a route prefers that nobody was seen to ask yet: the server of its first try."""
         route = self.configuration.route_of(query.asked.key)
         is_first = query.transport == "udp" and query.moment - question.read <= 1000 * PROMPT
-        is_first = is_first and not (question.is_lost or query.is_lost)
+        is_first = is_first and not (question.is_lost or query.is_lost or self.losses.was_refused(query, question))
         if self.had_before and is_first and route and query.server in route.servers and route not in self.preferred:
             self.first_asked.setdefault(route, query.server)
 

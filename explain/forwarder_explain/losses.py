@@ -26,7 +26,9 @@ class Losses:
     """Looks for what an answer rests on among what the capture has of it."""
 
     def __init__(self, configuration, traffic):
-        self.configuration, self.orphans = configuration, defaultdict(list)
+        self.configuration, self.orphans, self.unreached = configuration, defaultdict(list), defaultdict(list)
+        for news in traffic.unreached:
+            self.unreached[news.of].append(news.moment)
         self.forgeries = Forgeries(traffic, configuration.limits["ask_ms"])
         for reply in traffic.orphans:
             kept = self.orphans[reply.query.asked.of()]
@@ -37,6 +39,10 @@ class Losses:
             asked = messages.question_of(answer.octets)
             if asked and answer.client.startswith("udp"):
                 self.unasked[asked.of()].append(answer)
+
+    def was_refused(self, query, question):
+        """Whether ICMP says that another query was not reached which left between a question and its query."""
+        return any(question.moment < moment < query.moment for moment in self.unreached.get(query.asked.of(), ()))
 
     def query_lost(self, question, answer, wanted, last):
         """The lost query and its reply, that came between a question and its answer and carries

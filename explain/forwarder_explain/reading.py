@@ -4,16 +4,21 @@ import bisect
 from .traffic import Ending, Question, Reply
 
 LAST = 998_000  # microseconds in which no lifetime falls by a second
+OVER = 10_000  # microseconds after the end of a try in which no reply is taken any more
 SOON = 60_000  # microseconds after the service went on in which the first effects leave of what it reads then
 
 
-def mark(events, stalls, effects):
+def mark(events, stalls, effects, untaken):
     """Notes when it was read of all that came, and its place among what left; gives whether any of this is new.
-    `effects` has what left first for each."""
+    `effects` has what left first for each. The replies that are `untaken` are as if read after what they have there,
+    when the time of their queries was over."""
     queue, changed = Queue(stalls, effects), False
     for event in events:
         if isinstance(event, (Question, Reply, Ending)):
             noted = queue.take(event)
+            if isinstance(event, Reply):
+                event.untaken = event in untaken
+                noted = (untaken[event].moment + OVER, untaken[event].moment + 1) if event.untaken else noted
             changed |= noted != (event.read, event.taken)
             event.read, event.taken = noted
     return changed

@@ -24,9 +24,9 @@ class Stall(NamedTuple):
     before: int = 0
 
 
-def found_in(history, events, limits, effects):
+def found_in(history, events, limits, effects, untaken=()):
     """The stalls that a history shows. `effects` says when the first effect of what came left: until then it
-    has not been read."""
+    has not been read. The replies that are `untaken` call for nothing."""
     came, stalls, last = [], [], 0
     for event in events:
         if isinstance(event, (Question, Reply, Ending)):
@@ -38,7 +38,7 @@ def found_in(history, events, limits, effects):
             calls = [
                 max(each.moment, last)
                 for each in before
-                if each not in without and calls_for(history, each, event, limits, joined)
+                if each not in without and each not in untaken and calls_for(history, each, event, limits, joined)
             ]
             late = (due for due, left in history.late_tries if last < due and left - NEAR < event.moment <= left)
             calls += [due - CLOCKS for due in late]

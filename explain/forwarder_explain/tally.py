@@ -172,4 +172,6 @@ def reason_text(reason, is_asked):
 def silence(query):
     """How a query ended to which no reply was used."""
     reply = next(iter(query.replies), None)
-    return f"replied {strangeness(reply) or 'late'}" if reply else "silent"
+    if reply is None:
+        return "silent"
+    return f"replied {strangeness(reply) or ('and not taken' if reply.untaken else 'late')}"

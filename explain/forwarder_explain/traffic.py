@@ -104,13 +104,13 @@ class Query(Event):
 
 class Reply(Event):
     """A message on the path of a query, from whomever it came. One that `is_lost` is not in the
-    capture."""
+    capture. One that is `untaken` came in time, and the service did not take it."""
 
-    __slots__ = ("query", "source", "octets", "is_lost")
+    __slots__ = ("query", "source", "octets", "is_lost", "untaken")
 
     def __init__(self, moment, query, source, octets):
         super().__init__(moment)
-        self.query, self.source, self.octets, self.is_lost = query, source, octets, False
+        self.query, self.source, self.octets, self.is_lost, self.untaken = query, source, octets, False, False
 
 
 class Ending(Event):

@@ -17,6 +17,7 @@ from .wording import duration
 
 MOST_RUNS, MOST_EQUAL = 150, 3  # of a script, and of one with equal lines
 EXPIRED_DATA = 12  # the reason
+NOT_TAKEN = " and was not taken (or dropped by this machine's packet filter)"
 INPUTS = ("client", "reply", "failed")  # the lines of what came to the service
 
 
@@ -331,8 +332,8 @@ class Window:
         return Attempt(name, each.transport, each.server, each.moment, lasted, how, self.unfit(query), late)
 
     def lines_of_replies(self, query):
-        """The lines of the replies to a query."""
-        lines = [self.maker.line_of.get(reply) for reply in (query.replies if query else ())]
+        """The lines of the replies to a query that were taken."""
+        lines = [self.maker.line_of.get(reply) for reply in (query.replies if query else ()) if not reply.untaken]
         return [line for line in lines if line is not None]
 
     def unfit(self, query):
@@ -343,7 +344,8 @@ class Window:
         """Words for a reply that came late, or in time and was read late."""
         passed = (reply.moment - reply.query.moment) / 1000
         in_time = passed < self.configuration.limits["ask_ms"]
-        return f"after {duration(passed)} ms" + (" and was read too late" if in_time else "")
+        why = NOT_TAKEN if reply.untaken else " and was read too late" if in_time else ""
+        return f"after {duration(passed)} ms{why}"
 
     def how(self, closed):
         """How a try ended, by the line that ended it."""

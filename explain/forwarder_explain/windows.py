@@ -18,6 +18,7 @@ from .reading import mark
 from .replay import MOST_LINES, MOST_OCTETS
 from .stalls import found_in, united
 from .traffic import Answer, Query, Question, Refusal, Reply
+from .untaken import outside, untaken
 from .window import Window
 from .wording import counted, moment_text
 
@@ -60,7 +61,7 @@ class Cutter:
             # With what was lost there may be fewer stalls, and with both fewer new beginnings.
             if self.history.lost:
                 self.put_in(self.history.lost)
-                self.stand_still([], Effects(self.history, []))
+                self.stand_still([], Effects(self.history, []), {})
             elif not self.stood_still():
                 if found <= self.restarts:
                     return
@@ -76,14 +77,16 @@ class Cutter:
     def stood_still(self):
         """Takes it that the service stood still where the history shows it; gives whether that is new."""
         effects = Effects(self.history, self.events)
-        found = found_in(self.history, self.events, self.configuration.limits, effects.first)
-        return self.stand_still(united(self.stalls, found), effects)
+        limits = self.configuration.limits
+        replies = untaken(self.history, effects, limits)
+        stalls = united(self.stalls, found_in(self.history, self.events, limits, effects.first, replies))
+        return self.stand_still(stalls, effects, outside(stalls, replies))
 
-    def stand_still(self, stalls, effects):
-        """Takes it that the service stood still in these spans; gives whether what came was read at other moments
-        than thought before."""
+    def stand_still(self, stalls, effects, replies):
+        """Takes it that the service stood still in these spans, and that it did not take these replies; gives whether
+        what came was read at other moments than thought before."""
         self.stalls = stalls
-        return mark(self.events, stalls, effects)
+        return mark(self.events, stalls, effects, replies)
 
     def put_in(self, lost):
         """Puts events among the others that the capture lost."""

@@ -1,5 +1,6 @@
 """The captures of the tests: who sends what, at which millisecond. Answers are worked out from the
 rules, by hand."""
+import filtered
 import hostile
 import losses
 import lossy
@@ -337,4 +338,5 @@ ALL = [
     *lossy.ALL,
     *orders.ALL,
     *off.ALL,
+    *filtered.ALL,
 ]
