@@ -26,6 +26,7 @@ REASONS = {
 MOST_SHOWN, MOST_CLIENTS = 10, 20  # of queries that are not the step's, and of the clients that asked most
 MOST_COUNTED = 10_000  # clients with counts of their own, and ways in which queries to one server failed
 MOST_SLOW = 5
+FORGOTTEN = "open at a restart"  # a query that the service forgot as it ended
 OTHERS = "others"
 
 
@@ -114,7 +115,7 @@ class Tally:
         if reply:
             group.times.add((reply.moment - query.moment) / 1000)
         if verdict != "answered":
-            group.fail(silence(query) if verdict == "silent" else verdict)
+            group.fail(silence(query) if verdict == "silent" else FORGOTTEN if verdict == "ended" else verdict)
 
     def add_unshown(self, server, how):
         """Counts a query of the step that the service must have sent, and that has no packet in the capture."""

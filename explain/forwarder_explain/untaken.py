@@ -1,5 +1,8 @@
-"""Replies that came in time and were not taken, though the service did not stand still: it asked on, or failed, when the
-time of the query was over. A packet filter of the service's own machine drops a packet after the capture has it."""
+"""Replies that came in time and were not taken, though the service did not stand still.
+
+The service asked on, or failed, when the time of the query was over. A packet filter of the service's own machine drops
+a packet after the capture has the packet.
+"""
 import bisect
 import itertools
 

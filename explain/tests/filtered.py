@@ -1,5 +1,5 @@
-"""Captures of replies that a packet filter on the service's own machine drops, and of queries that it refuses. A capture
-sees a packet that comes before the filter does."""
+"""Captures of replies that a packet filter on the service's own machine drops, and of queries that the filter refuses.
+A capture has a packet that comes before the filter drops the packet."""
 from making import asked
 from office import ACK, CORPORATE, FIRST, FORWARDER, ONE, OTHER, QUERY, REPLY, SECOND, SYN, Scene
 from repository.packing import address, framed, message
