@@ -80,7 +80,7 @@ class RingFile(Growing):
 
 class Ring:
     """The captures of a folder, or one, in the order in which they were begun. `reader.idle` is called
-    again and again while there is nothing to read.
+    again and again while there is nothing to read. A capture that gets another name is still the same one.
 
     Captures all of which is before `since` are left out. `note` is called with what was lost.
     """
@@ -109,17 +109,26 @@ class Ring:
             return
         except OSError as fault:
             raise Unreadable(fault.strerror, self.path) from None
-        found = []
+        found, known = [], {(self.seen[path][0], begun): path for path, begun in self.begun.items()}
         for path in seen:
             if seen[path] == self.seen.get(path):
                 continue
             begun = beginning(path)
-            if begun is not None and self.begun.get(path) != begun:
-                self.begun[path] = begun
+            if begun is None or self.begun.get(path) == begun:
+                continue
+            self.begun[path] = begun
+            before = known.get((seen[path][0], begun))
+            if before is None:
                 found.append((begun, path))
+            else:
+                self.rename((begun, before), (begun, path))
         self.seen = seen
         self.begun = {path: begun for path, begun in self.begun.items() if path in seen}
         self.queue.extend(sorted(found))
+
+    def rename(self, before, after):
+        """Gives another name to a capture that is queued."""
+        self.queue = deque(after if each == before else each for each in self.queue)
 
     def has_more(self):
         self.look()
@@ -136,7 +145,11 @@ class Ring:
         while True:
             while not self.has_more():
                 self.wait()
-            begun, path = self.queue.popleft()
+            begun, path = self.queue[0]
+            if beginning(path) != begun:
+                self.look()  # it may just have got another name
+                begun, path = self.queue[0]
+            self.queue.popleft()
             if self.queue and self.queue[0][0] <= self.since:
                 continue
             if beginning(path) != begun:

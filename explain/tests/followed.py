@@ -14,9 +14,10 @@ import termios
 import threading
 import time
 import unittest.mock
+from types import SimpleNamespace
 
 import many
-from forwarder_explain import command, comparing, configuration, following
+from forwarder_explain import command, comparing, configuration, following, growing
 from forwarder_explain.capture import Capture
 from forwarder_explain.traffic import Question
 from making import START, asked
@@ -154,6 +155,34 @@ def in_a_folder(program):
                 (folder / "seen.pcap1").unlink()
         left, _, status = run.end(signal.SIGTERM)
     yield "the end", (left, status), (wanted, 0)
+
+
+def files_that_get_other_names(program):
+    """The capture begins anew, as with packaging/keep_captures: the file of before gets another name, and is not read
+    again. A file that gets another name before it was read is read."""
+    head, packets = packets_of(capture_of("answers"))
+    wanted = stored("answers", "expected").splitlines(keepends=True)
+    with tempfile.TemporaryDirectory() as folder:
+        first, kept = pathlib.Path(folder) / "seen.pcap0", pathlib.Path(folder) / "kept.1795874590.pcap0"
+        first.write_bytes(head + b"".join(packets[:6]))
+        run = Followed(program, folder, "--from", "2026-11-28T14:03")
+        yield "before", run.lines(2), wanted[:2]
+        first.rename(kept)
+        time.sleep(3 * growing.LOOK)
+        first.write_bytes(head + b"".join(packets[6:]))
+        yield "after", run.lines(7), wanted[2:9]
+        left, said, status = run.end(signal.SIGTERM)
+    yield "the end", (left, said, status), (wanted[9:], "", 0)
+    said, reader = [], SimpleNamespace(idle=lambda: None, reading=lambda: None)
+    with tempfile.TemporaryDirectory() as folder:
+        first, second, kept = (pathlib.Path(folder) / name for name in ("seen.pcap0", "seen.pcap1", "kept.1.pcap1"))
+        first.write_bytes(head + b"".join(packets[:6]))
+        second.write_bytes(head + b"".join(packets[6:]))
+        files = growing.Ring(folder, reader, said.append).captures()
+        size = len(next(files).read(1 << 20))
+        second.rename(kept)
+        wanted = len(head + b"".join(packets[:6])), head + packets[6][:16], []
+        yield "queued", (size, next(files).read(24 + 16), said), wanted
 
 
 def a_file_written_anew(program):
@@ -426,6 +455,7 @@ def nothing_grows(program):
 ALL = [
     through_a_pipe,
     in_a_folder,
+    files_that_get_other_names,
     a_file_written_anew,
     ended_by_a_signal,
     ended_before_the_first_packet,
