@@ -1,6 +1,7 @@
 """The options of the command, and the questions that they choose."""
 import argparse
 import datetime
+import ipaddress
 import re
 
 from . import messages
@@ -49,6 +50,8 @@ def arguments(words):
         "--program", metavar="PATH", default="forwarder", help="the forwarder's program (default: forwarder)"
     )
     options = parser.parse_args(words)
+    if options.client and not is_client(options.client):
+        parser.error(f"--client: {options.client} is no IPv4 address; 10.0.0.7 and 10.0.0.7:40000 are")
     others = ("--at", options.at), ("--to", options.until), ("--html", options.html), ("--script", options.script)
     for name, value in others:
         if options.follow and value:
@@ -77,6 +80,16 @@ def add_choices(parser):
         default=[],
         help="the service was restarted at this time, which the capture may not show; may be repeated",
     )
+
+
+def is_client(text):
+    """Whether a text is an IPv4 address, or one with a port."""
+    address, colon, port = text.partition(":")
+    try:
+        ipaddress.IPv4Address(address)
+    except ValueError:
+        return False
+    return not colon or port.isascii() and port.isdigit() and int(port) < 65536
 
 
 def moment_of(text, first):

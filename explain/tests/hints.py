@@ -54,4 +54,16 @@ def no_port_is_missing(program):
     yield "5300", explained(program, settings, scene.pcap())[1].splitlines(), [missing, none]
 
 
-ALL = [a_port_that_the_filter_lacks, no_port_is_missing]
+def wrong_clients(program):
+    """What is no IPv4 address, nor one with a port, is refused."""
+    scene = Scene()
+    scene.fetched(0, OTHER, 1, asked("www.example.com"), 300, (192, 0, 2, 80))
+    for client in ("foo", "10.0.0", "10.0.0.08", "10.0.0.256", "10.0.0.8:", "10.0.0.8:x", "10.0.0.8:65536", "::1"):
+        printed, said, status = explained(program, OFFICE, scene.pcap(), "--client", client)
+        wanted = f"--client: {client} is no IPv4 address; 10.0.0.7 and 10.0.0.7:40000 are"
+        yield client, (printed, said.splitlines()[-1], status), ("", f"forwarder-explain: error: {wanted}", 2)
+    for client in ("10.0.0.8", OTHER):
+        yield client, explained(program, OFFICE, scene.pcap(), "--client", client)[1:], ("", 0)
+
+
+ALL = [a_port_that_the_filter_lacks, no_port_is_missing, wrong_clients]
