@@ -5,6 +5,7 @@ and answers show when that was.
 """
 import bisect
 
+from . import comparing
 from .lines import Line
 from .traffic import Reply
 
@@ -28,6 +29,7 @@ class Lateness:
         for each, query in pairing.query_of.items():
             if not query.is_lost:
                 self.note(each.line, query)
+        self.answered = {question: octets for question, (_, _, octets) in answers.items()}
         for question, (line, _, octets) in answers.items():
             if line.event is not question or question.answer.octets != octets:
                 self.note(line, question.answer)
@@ -84,6 +86,24 @@ class Lateness:
         line.order, line.moment = (event.moment, -1), max(line.moment, moment)
         if line.kind == "tick":
             line.note = LATE
+        return True
+
+    def is_of_cache(self, question, line):
+        """Whether a question that a reply of the script answers was answered from the cache, long after that reply: by
+        the lifetimes, of which so much had passed."""
+        answer, octets = question.answer, self.answered.get(question)
+        if line.kind != "reply" or answer is None or question.connection is not None or octets is None:
+            return False
+        passed = self.window.maker.moment(answer) - self.outcome.moments[line.number - 1]
+        less = comparing.seconds_more(octets, answer.octets)
+        return passed > SOON and 0 < less and abs(1000 * less - passed) <= 1000
+
+    def read_after(self, question):
+        """Moves the line of a question to when its answer left."""
+        line, answer = self.window.maker.line_of.get(question), question.answer
+        if line is None or not self.may((question, "read after"), 1):
+            return False
+        line.order, line.moment = (answer.moment, -1), max(line.moment, self.window.maker.moment(answer))
         return True
 
     def drop(self, of, event):

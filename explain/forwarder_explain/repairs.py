@@ -18,6 +18,7 @@ SLACK = 40  # milliseconds by which the service's clock and the capture's may pa
 HORIZON = 2_000_000  # microseconds after the first change of a run in which others are made
 STALE = 30  # seconds in the TTL of expired data
 A_LITTLE = 300  # milliseconds by which time may be seen late with no stop of the service
+FULL = (5, 6)  # reasons
 A_FEW = 5  # milliseconds in which the service sees that a try is over
 STEPS = (3, 10, 30)  # milliseconds by which a line is moved, one after another
 
@@ -87,6 +88,8 @@ class Repairs:
         for number, (question, (line, *_)) in enumerate(self.answers.items(), number):
             if question.answer and question.asked and line.kind == "reply" and self.says_failure(question.answer):
                 yield question.answer.moment, number, question.asked.of(), self.failed_late, question
+            elif self.lateness.is_of_cache(question, line):
+                yield question.answer.moment, number, question.asked.of(), self.lateness.read_after, question
         for number, line in enumerate(self.window.lines, number):
             if line.server is not None and not self.is_meant(line):
                 yield line.order[0], number, None, self.take_out, line
@@ -261,10 +264,11 @@ class Repairs:
 
     def may_be_late(self, found):
         """Whether a captured answer may be the script's and shows when the service made it: it is
-        no failure in its place. Over TCP it leaves as the client reads, which may be later."""
-        question, (_, _, octets) = found
+        no failure in its place. Over TCP it leaves as the client reads, which may be later. While lines of a script
+        are too early, too much may wait in it."""
+        question, (_, reason, octets) = found
         answer = question.answer
-        if answer is None or question.connection is not None:
+        if answer is None or question.connection is not None or reason in FULL and answer.octets != octets:
             return False
         return answer.octets == octets or not self.says_failure(answer)
 
@@ -422,7 +426,7 @@ class Repairs:
 
     def late_reply(self, reply):
         """A reply that did nothing, since its query was over by time some milliseconds before: it
-        was taken first."""
+        was taken first. If its query left after that time, it was not."""
         line = self.window.maker.line_of[reply]
         target = self.window.pairs.get(reply.query)
         each = self.outcome.by_line.get(target)
@@ -430,7 +434,7 @@ class Repairs:
             each
             and each.closed
             and each.closed.kind == "tick"
-            and each.closed.order < line.order
+            and (reply.query.moment,) < each.closed.order < line.order
             and line.moment - each.closed.moment <= SLACK
             and self.may((reply, "earlier"), 1)
         ):
