@@ -238,11 +238,13 @@ class Doubts:
         return ""
 
     def is_expired_data(self, answer, query):
-        """Whether an answer is what the service answers once the time of its last try is over."""
-        if self.limits["stale_s"] == 0 or answer.moment - query.moment < 1000 * self.limits["ask_ms"]:
+        """Whether an answer is what the service answers once the time of its last try is over, also to a question that
+        joined the try."""
+        whole = 1000 * self.limits["ask_ms"]
+        if self.limits["stale_s"] == 0 or answer.moment - query.moment < whole:
             return False
         has_expired = any(record.seconds == STALE for record in messages.records(answer.octets))
-        return has_expired and answer.question.moment < query.moment
+        return has_expired and answer.question.moment < query.moment + whole
 
     def went_on(self, query, answer):
         """Whether the service took a query for one without a reply: it asked on, or what was asked failed."""

@@ -1,6 +1,6 @@
 """Captures with packets that anyone can send, and with clients that are more than clients."""
 from making import asked
-from office import ACK, CORPORATE, FIRST, FORWARDER, ONE, OTHER, PLAIN, QUERY, REPLY, SYN, Scene
+from office import ACK, CORPORATE, FIRST, FORWARDER, ONE, OTHER, PLAIN, QUERY, REPLY, SECOND, SYN, Scene
 from repository.packing import TXT, address, framed, message, record
 
 WWW = asked("www.example.com")
@@ -133,6 +133,20 @@ def taken_late():
     return scene.pcap()
 
 
+def forged_expired_data():
+    """Two questions get expired data when both tries are over. The second one joined the last try, and gets another
+    address: a fault, and no sign of a lost reply."""
+    scene, old = Scene(), asked("old.example.com")
+    scene.fetched(0, OTHER, 1, old, 1, (192, 0, 2, 79))
+    scene.question(3000, ONE, 2, old)
+    scene.query(3000.2, FIRST, old)
+    scene.query(4001.2, SECOND, old)
+    scene.question(4500, OTHER, 3, old)
+    scene.answer(5002.2, ONE, 2, old, answers=[address(30, 192, 0, 2, 79)])
+    scene.answer(5002.3, OTHER, 3, old, answers=[address(30, 203, 0, 113, 66)])
+    return scene.pcap()
+
+
 ALL = [
     short_answers,
     unreadable_after_a_silence,
@@ -143,4 +157,5 @@ ALL = [
     one_identifier_without_a_question,
     forged_reply_used,
     taken_late,
+    forged_expired_data,
 ]
