@@ -21,6 +21,7 @@ from .traffic import Answer, Query, Question, Reply
 SPARE = 1_000_000  # microseconds beyond the deadline in which an answer may still come
 MOST = 64  # queries for a name that are looked at
 STALE = 30  # seconds in the TTL of expired data
+KEPT = 2_000_000  # microseconds in which nothing that is kept has to leave a full cache
 
 
 class Source(NamedTuple):
@@ -225,7 +226,7 @@ class Doubts:
                 return ""
             if self.is_expired_data(answer, query):
                 return ""
-            if not (replies or query.ending or self.went_on(query, answer)):
+            if not (replies or query.ending or self.went_on(query, answer) or self.was_not_kept(query, answer)):
                 return f"the reply of {server_text(query)} for {shown(query.asked)}"
         return self.empty_connection(name, question)
 
@@ -245,6 +246,17 @@ class Doubts:
             return False
         has_expired = any(record.seconds == STALE for record in messages.records(answer.octets))
         return has_expired and answer.question.moment < query.moment + whole
+
+    def was_not_kept(self, query, answer):
+        """Whether the same was soon asked again, though what an answer has would have been kept for longer. In between
+        the service did not begin anew."""
+        lives = min((record.seconds for record in messages.records(answer.octets)), default=0)
+        until = answer.moment + min(1_000_000 * lives, KEPT)
+        asked_again = (each for each in self.queries[query.asked.key] if each.asked.of() == query.asked.of())
+        later = next((each for each in asked_again if answer.moment < each.moment < until), None)
+        return later is not None and not any(
+            answer.moment < event.moment <= later.moment for event in self.cutter.restarts
+        )
 
     def went_on(self, query, answer):
         """Whether the service took a query for one without a reply: it asked on, or what was asked failed."""

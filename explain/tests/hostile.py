@@ -147,6 +147,19 @@ def forged_expired_data():
     return scene.pcap()
 
 
+def forged_and_not_kept():
+    """The answer that leaves when both tries are over lives for long: a fault, and no sign of a lost reply, since the
+    same is soon asked again."""
+    scene, old = Scene(), asked("old.example.com")
+    scene.fetched(0, OTHER, 1, old, 1, (192, 0, 2, 79))
+    scene.question(3000, ONE, 2, old)
+    scene.query(3000.2, FIRST, old)
+    scene.query(4001.2, SECOND, old)
+    scene.answer(5002.2, ONE, 2, old, answers=[address(430, 192, 0, 2, 79)])
+    scene.fetched(5100, OTHER, 3, old, 60, (192, 0, 2, 79))
+    return scene.pcap()
+
+
 ALL = [
     short_answers,
     unreadable_after_a_silence,
@@ -158,4 +171,5 @@ ALL = [
     forged_reply_used,
     taken_late,
     forged_expired_data,
+    forged_and_not_kept,
 ]
