@@ -129,7 +129,9 @@ class Moments:
                     continue
                 if told.seconds == piece.seconds and self.is_fresh(question, read):
                     return reply
-                if self.is_kept(question, told, piece, read) and not self.is_replaced(question, reply, piece, came):
+                if self.is_kept(question, told, piece, read) and not (
+                    self.is_replaced(question, reply, piece, came) or self.is_missed(question, reply, piece, queries)
+                ):
                     return reply
                 if told.seconds == STALE and self.is_expired(question, piece, read):
                     if self.failed_since(question, queries, came):
@@ -168,6 +170,15 @@ class Moments:
                 if any(each.slot() == piece.slot() for each in pieces):
                     return True
         return False
+
+    def is_missed(self, question, reply, piece, queries):
+        """Whether a piece of the question's name had ended by the answer: since the piece was read, the question
+        was asked of a server again, and a query leaves before an answer that was looked up after it."""
+        if piece.key != question.asked.key or not is_alike(reply.query, question):
+            return False
+        read, until = self.latest(reply.moment), question.answer.moment
+        later = (query for query in queries if read < self.earliest(query.moment) and query.moment < until)
+        return any(is_alike(query, question) for query in later)
 
     def is_used(self, reply):
         """Whether a reply was read in time for its query, at whichever moment it was read."""
