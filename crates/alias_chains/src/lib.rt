@@ -1,5 +1,5 @@
-//! Look-ups in the cache along aliases (RFC 1034 3.6.2), the promotion of the entries that they
-//! used, copies of aliases, and the offers of the pieces of a reply.
+//! Look-ups in the cache along CNAMEs (RFC 1034 3.6.2), the promotion of the used entries, copies
+//! of aliases, and offers of a reply's pieces to the cache.
 #![tactic(auto)]
 
 mod chain;

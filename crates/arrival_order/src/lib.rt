@@ -1,4 +1,4 @@
-//! Keys in the order of arrival. A key's place is found without a look at all keys.
+//! Keys in the order of arrival. A binary search finds a key.
 #![tactic(auto)]
 
 mod arrival_order;

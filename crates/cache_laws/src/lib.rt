@@ -1,4 +1,5 @@
-//! Laws about replies and look-ups, in the words of the RFCs. There is no code.
+//! Laws that restate, in the words of the RFCs, the definitions of replies and look-ups. The
+//! functions have empty bodies.
 #![tactic(auto)]
 
 mod entries;

@@ -1,4 +1,4 @@
-//! A list of calls that proofs alone read.
+//! A list of calls, for proofs alone. The running program keeps no list.
 #![tactic(auto)]
 
 ghost use Rattle.std.specs.Borrow.{ftrue};
@@ -6,9 +6,9 @@ ghost use Rattle.std.specs.Prelude.{◌≡◌, ◌∷◌, ◌++◌, [], List};
 
 use std::marker::{Model, PhantomData};
 
-/// The pairs that were noted, in order. It takes no octets, and its functions do nothing when the
-/// program runs. Nothing but its functions says what it has, so it binds whoever has no proof by
-/// hand.
+/// The noted pairs, in order. The list takes no octets, and its functions do nothing when the
+/// program runs. Only the contracts of its functions say what the list has. So code without a proof
+/// by hand cannot forge a list.
 #[derive(Drop)]
 pub struct CallLog<A, B> {
     of: PhantomData<(A, B)>,

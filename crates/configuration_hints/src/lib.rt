@@ -1,5 +1,5 @@
-//! Hints for a refused configuration: what a person may mend, in addition to the fault's own text.
-//! No call allocates.
+//! Hints for a refused configuration: a likely correction, printed after the text of the fault. No
+//! call allocates.
 #![tactic(auto)]
 
 mod hint;

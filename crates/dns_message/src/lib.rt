@@ -1,5 +1,5 @@
-//! Messages of the domain name system: RFC 1035 section 4, read from octets and written as octets,
-//! with the data of records by the shape of its type.
+//! DNS messages (RFC 1035 4), read from octets and written as octets. The type of a record gives
+//! its data a shape.
 #![tactic(auto)]
 
 pub mod codes;

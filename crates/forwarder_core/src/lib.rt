@@ -1,5 +1,5 @@
-//! The decisions of the forwarder, one step at a time. A step takes a moment, random words and an
-//! event, and returns actions. It reads no clock, opens no socket and draws nothing at random.
+//! The forwarder, one step at a time. A step takes a moment, random words and an event, and returns
+//! actions. A step reads no clock, opens no socket and draws no random number.
 #![tactic(auto)]
 
 mod deciding;

@@ -1,4 +1,5 @@
-//! Look-ups in the cache of replies, with name errors at and above a name (RFC 2308, RFC 8020).
+//! Finds the cached set, alias, NODATA or name error for a question. A name error at a name or
+//! above it denies the name (RFC 2308, RFC 8020).
 #![tactic(auto)]
 
 mod cache_at;

@@ -1,4 +1,4 @@
-//! Runs of the forwarder: over a list; step by step, with the stored history, which is sound at
+//! Runs of the forwarder: over a list of events; step by step, with the history, which is sound at
 //! each moment; and over a wire, by the loop of `serving_loop`.
 #![tactic(auto)]
 

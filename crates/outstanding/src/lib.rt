@@ -1,4 +1,5 @@
-//! The open asks: question, server, path and moment. No two share a path or have equal questions.
+//! The open asks: question, server, path and moment. No two asks share a path or have equal
+//! questions.
 #![tactic(auto)]
 
 mod ask;

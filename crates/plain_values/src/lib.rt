@@ -1,5 +1,5 @@
-//! Lists, octets and results with contracts of plain values, without their memory. The definitions
-//! of reading with the first fault have no code.
+//! Lists, octets and results whose contracts leave memory out. The definitions of results by the
+//! first fault (`specs/FirstFault.antt`) have no code.
 #![tactic(auto)]
 
 mod few_list;

@@ -1,4 +1,5 @@
-//! Messages read in replies and asks. There is no code.
+//! Laws: reading a reply or an ask gives the message that the claims promise. The functions have
+//! empty bodies.
 #![tactic(auto)]
 
 mod laws;

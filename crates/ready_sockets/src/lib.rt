@@ -1,5 +1,5 @@
-//! The sockets of a wire that may be ready, by their tokens, and the next to try. `Origin` names a
-//! socket, `Readiness` has the sockets that may be ready.
+//! The sockets of a wire that may be ready, and the next to try. An `Origin` names a socket, a
+//! `Readiness` lists sockets by their tokens.
 #![tactic(auto)]
 
 mod origin;

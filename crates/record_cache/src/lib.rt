@@ -1,5 +1,5 @@
-//! A cache of the pieces of replies: entries of different slots, each with the moment of its
-//! acceptance, at most as many as the capacity. A full cache drops the least recently used entry.
+//! A cache of the pieces of replies, each with the moment of its acceptance, at most one for a slot
+//! and at most `capacity` in all. A full cache drops the least recently used entry.
 #![tactic(auto)]
 
 mod cache;

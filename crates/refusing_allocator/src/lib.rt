@@ -1,5 +1,5 @@
-//! An allocator for tests: it grants a given number of allocations, and then refuses each further
-//! one, or the next alone. It may also refuse large allocations.
+//! An allocator for tests. After a given number of allocations it refuses all further ones, or a
+//! single one. It can also refuse large allocations.
 #![tactic(auto)]
 
 use std::alloc::{AllocError, Allocator};

@@ -1,5 +1,5 @@
-//! Scripts of the forwarder: a configuration, a line `---`, and event lines, which run on a new
-//! forwarder and print a line for each action.
+//! Scripts: a configuration, a line `---`, and a line for each event. A script runs on a new
+//! forwarder, and prints a line for each action.
 #![tactic(auto)]
 
 mod actions;

@@ -1,5 +1,5 @@
-//! The decisions on a message of a server, on the failure of a path and on the passing of time:
-//! answers, another ask, or an end. Nothing is changed.
+//! Decides on a server's message, a failed path or the passing of time: answers, a further ask, or
+//! an end. Nothing is changed.
 #![tactic(auto)]
 
 mod attempt;

@@ -1,4 +1,5 @@
-//! Whether octets on the path of an ask are its reply, and how far the reply is usable.
+//! Judges octets that arrive on the path of an ask: whether they are the reply, and how far the
+//! reply can be used.
 #![tactic(auto)]
 
 mod judging;

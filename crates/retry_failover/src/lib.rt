@@ -1,9 +1,9 @@
-//! The next step after a failed ask: a further ask of the group of servers, or none.
+//! Decides what follows a failed ask: an ask of the same server over TCP, an ask of the next
+//! server, or nothing.
 //!
-//! A question goes to one server at a time. The first ask goes by UDP to the preferred server of
-//! the group. After a reply with TC set, the same server is asked over TCP (RFC 2181 9, RFC 7766
-//! 5); after any other failure the next server of the group is asked by UDP, round from the last to
-//! the first. Each ask uses up one try.
+//! The first ask goes by UDP to the preferred server of the group. After a reply with TC set, the
+//! same server is asked over TCP (RFC 2181 9, RFC 7766 5). After any other failure the next server
+//! of the group is asked by UDP, and after the last server the first. Each ask uses up one try.
 #![tactic(auto)]
 
 ghost use Rattle.std.specs.Prelude.{◌≡◌, ◌<◌};

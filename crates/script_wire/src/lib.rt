@@ -1,4 +1,4 @@
-//! A wire in memory, whose arrivals and refusals the caller chooses.
+//! A wire in memory. Its caller chooses the arrivals, and the calls to refuse.
 #![tactic(auto)]
 
 mod script_wire;

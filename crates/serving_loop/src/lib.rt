@@ -1,4 +1,5 @@
-//! The loop of the service over a wire. The wire's arrivals become events of the forwarder.
+//! The loop of the service over a wire. It turns the wire's arrivals into events of the forwarder,
+//! and puts the actions on the wire.
 #![tactic(auto)]
 
 mod counts;

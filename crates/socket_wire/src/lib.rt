@@ -1,4 +1,4 @@
-//! A wire over sockets: clients and servers by UDP and over TCP, without waiting on any of them.
+//! A wire over sockets: clients and servers, by UDP and over TCP. No call waits for a peer.
 #![tactic(auto)]
 
 mod address;

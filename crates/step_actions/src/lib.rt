@@ -1,5 +1,5 @@
-//! The decision of a step: its actions, with texts from `step_texts`, and the change of the
-//! forwarder, with all its memory.
+//! Makes the decision of a step: its actions, with texts from `step_texts`, and its change of the
+//! forwarder, with the memory for the change.
 #![tactic(auto)]
 
 mod attempts;

@@ -1,6 +1,6 @@
-//! Claims about a history of steps: the accepted replies, their pieces, the answers they justify,
-//! the causes of failures, the owners of replies. They look backward over the bare list of steps,
-//! and know nothing of the state of a forwarder.
+//! Claims about a history of steps: the accepted replies, their pieces, the answers that the pieces
+//! justify, the causes of failures, the owners of replies. The definitions look backward over the
+//! bare list of steps, and know no state of a forwarder.
 #![tactic(auto)]
 
 mod laws;

@@ -1,5 +1,5 @@
-//! The rules of a step as one table over plain values: the outcomes that a step from a state may
-//! have, and the state that it leaves. The worked steps are computed by it.
+//! The rules of a step, as one table over plain values: the possible outcomes of a step from a
+//! state, and the state after each. `proofs/Played.antt` computes worked steps by the table.
 #![tactic(auto)]
 
 mod laws;

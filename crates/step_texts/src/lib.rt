@@ -1,4 +1,4 @@
-//! The texts of a step: its queries and replies as actions with their octets.
+//! Writes the queries and replies of a step, as actions with their octets.
 #![tactic(auto)]
 
 mod answers;

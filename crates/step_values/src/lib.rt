@@ -1,4 +1,4 @@
-//! Inputs and outputs of a step of the forwarder as values: events, actions, reasons, outcomes.
+//! The values that enter and leave a step: events, actions, reasons, outcomes.
 #![tactic(auto)]
 
 mod action;

@@ -1,5 +1,5 @@
-//! Connections over TCP from clients and to asked servers: the octets left for each, the client
-//! that gives way to a new one, and the ends to report.
+//! TCP connections, from clients and to asked servers: the octets still to send on each, the client
+//! to close for a new one, and the ends to report.
 #![tactic(auto)]
 
 mod answers;

@@ -1,4 +1,5 @@
-//! The configuration: the listening address, the limits, and the routes by the suffix of a name.
+//! The configuration: the listening address, the limits, and the route of a name by its longest
+//! suffix.
 #![tactic(auto)]
 
 mod config;

@@ -1,9 +1,9 @@
 //! DNS messages over TCP: two octets of length, high octet first, then the message (RFC 1035 4.2.2,
 //! RFC 7766 8).
 //!
-//! `frame` makes the octets of one message for the stream. A `FrameReader` takes a stream in
-//! pieces, cut anywhere, and gives the messages back whole and in order. `Within` is a stream's
-//! position within its frames, `Unsent` the octets that a slow stream has not yet taken.
+//! `frame` makes the octets of one message. A `FrameReader` takes a stream in pieces, cut anywhere,
+//! and returns the messages whole and in order. `Within` is a position inside the frames of a
+//! stream, `Unsent` the octets that a slow stream has not taken yet.
 #![tactic(auto)]
 
 mod fault;

@@ -1,5 +1,5 @@
-//! Tests of asks, frames and streams from outside: allocations succeed where there is memory, calls
-//! that promise not to allocate do not, and the texts of faults.
+//! Tests of `tcp_frames`, `outstanding` and `reply_match`: allocations succeed if there is memory,
+//! calls that promise not to allocate do not, and faults have their texts.
 #![tactic(auto)]
 
 #[cfg(test)]

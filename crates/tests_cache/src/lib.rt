@@ -1,6 +1,5 @@
-//! Tests of the cache against a plain list and with many names, of copies of the pieces of replies
-//! and of a look-up of each kind, and of refused allocations: of the pieces of replies, of copies,
-//! of the cache and of look-ups.
+//! Tests of `trust_rank`, `record_cache` and `negative_cache`: the cache agrees with a plain list,
+//! also with many names; a look-up of each kind is copied; and allocations are refused.
 #![tactic(auto)]
 
 #[cfg(test)]

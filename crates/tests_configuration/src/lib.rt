@@ -1,5 +1,5 @@
-//! Tests of configurations from outside: the defaults where a text says nothing, the texts of
-//! faults and of hints, and allocations: that they succeed where there is memory.
+//! Tests of `suffix_routes` and `configuration_hints`: defaults, the texts of faults and hints, and
+//! allocations that succeed if there is memory.
 #![tactic(auto)]
 
 #[cfg(test)]

@@ -1,6 +1,6 @@
-//! Tests of messages from outside: octets of worked replies, faults in order, refused allocations,
-//! and a sweep over changed messages, in which judging without allocation agrees with reading, and
-//! messages that were read are written and read again.
+//! Tests of `dns_message`: octets of worked replies, faults in their order, refused allocations,
+//! and a sweep over changed messages. There judging without allocation agrees with reading, and
+//! each message that can be read is written and read again.
 #![tactic(auto)]
 
 #[cfg(test)]

@@ -1,5 +1,5 @@
-//! Tests of names from outside: which octets a name has, its first fault, and that allocations
-//! succeed where there is memory. And of the allocator that refuses them in all such tests.
+//! Tests of `dns_name`: a name's octets, the first fault, and allocations that succeed if there is
+//! memory. And tests of `refusing_allocator`, which refuses allocations in all such tests.
 #![tactic(auto)]
 
 #[cfg(test)]

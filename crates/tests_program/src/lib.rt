@@ -1,5 +1,5 @@
-//! Tests of the program's commands, of what no contract or script says: their arguments, what they
-//! read and print, and how they end.
+//! Tests of `forwarder_commands`, beyond contracts and scripts: arguments, input, output, and exit
+//! status.
 #![tactic(auto)]
 
 #[cfg(test)]

@@ -1,5 +1,5 @@
-//! Tests of the step, of its values and of its runs from outside, for what no contract says: that
-//! memory is there, how much of it a run takes, and which calls do not allocate.
+//! Tests of the step, its values and its runs, beyond contracts: allocations succeed if there is
+//! memory, a run allocates no more than it should, and some calls do not allocate.
 #![tactic(auto)]
 
 #[cfg(test)]

@@ -1,6 +1,6 @@
-//! Tests of the loop over a wire in memory, of what no contract says: that memory is there, and
-//! what the wire's script gives and refuses. And over sockets: that what is sent reaches whom it
-//! should.
+//! Tests of the loop, beyond contracts. Over a wire in memory: allocations succeed if there is
+//! memory, and the script decides arrivals and refusals. Over sockets: each message reaches its
+//! addressee.
 #![tactic(auto)]
 
 #[cfg(test)]

@@ -1,5 +1,5 @@
-//! Laws along the table's steps: the history explains the entries of the cache, the look-ups in it,
-//! and the answers from it.
+//! Proves for every step of the table: the history explains the entries of the cache, the look-ups,
+//! and the answers from the cache.
 #![tactic(auto)]
 
 mod laws;

@@ -1,4 +1,5 @@
-//! Every row of the table of steps keeps what explains a forwarder's state, so every run is sound.
+//! Proves for every row of the table: if the history explains a forwarder's state before the row, it
+//! explains the state after the row. So every run is sound.
 #![tactic(auto)]
 
 mod laws;

@@ -1,4 +1,4 @@
-//! Every row of the table of steps uses the standing pieces, if the cache has room for them; so
+//! Proves that every row of the table uses the standing pieces, if the cache has room for them. So
 //! every run serves truly.
 #![tactic(auto)]
 

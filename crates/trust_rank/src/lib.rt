@@ -1,4 +1,5 @@
-//! The record sets and denials of a reply to a question, each with a rank: its degree of trust.
+//! Takes the record sets and denials for a question from a reply, each with a rank: its degree of
+//! trust.
 #![tactic(auto)]
 
 mod denials;

@@ -1,5 +1,5 @@
-//! The waiting questions, in the order of arrival. Those for one question are found without a look
-//! at the rest.
+//! The waiting questions of clients, in the order of arrival. Those that want one question are
+//! found by a binary search.
 #![tactic(auto)]
 
 mod keyed;

@@ -1,5 +1,5 @@
-//! The interface of the loop to the carrier of its messages: arrivals, the doing of actions, the
-//! moment and random words.
+//! The interface between the loop and the carrier of its messages: arrivals, actions to put,
+//! moments and random words.
 #![tactic(auto)]
 
 mod wire;

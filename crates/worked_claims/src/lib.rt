@@ -1,5 +1,4 @@
-//! The claims about histories, tried on worked ones: for each part of a claim one that holds, and a
-//! neighbour that fails.
+//! Worked histories: for each part of a claim, one that meets it and a neighbour that breaks it.
 #![tactic(auto)]
 
 mod laws;

@@ -1,3 +1,3 @@
-//! Steps of the table, computed: for each one a neighbour that differs in one thing, and its
-//! outcome. There is no code.
+//! Worked steps of the table, computed: each with its outcome, and a neighbour that differs in a
+//! single point. There is no code.
 #![tactic(auto)]
