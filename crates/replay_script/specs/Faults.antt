@@ -22,13 +22,13 @@ device_fault kind = Device
 
 -- the number of octets taken by a writer that refused, by the kind of its error: none after a
 -- signal, and writing goes on; otherwise a fault
-abbrev pub count_unless : ErrorKind → Result ℕ ReplayFault
-count_unless Interrupted = Ok 0
-count_unless kind = Err (device_fault kind)
+abbrev pub taken_unless : ErrorKind → Result ℕ ReplayFault
+taken_unless Interrupted = Ok 0
+taken_unless kind = Err (device_fault kind)
 
 -- the number of octets of a non-empty text taken by a writer, by its answer: taking none without an
 -- error is a fault
-abbrev pub written_count : Result ℕ Error → Result ℕ ReplayFault
-written_count (Ok zero) = Err Device
-written_count (Ok (suc more)) = Ok (suc more)
-written_count (Err error) = count_unless (error_kind error)
+abbrev pub taken_by : Result ℕ Error → Result ℕ ReplayFault
+taken_by (Ok zero) = Err Device
+taken_by (Ok (suc more)) = Ok (suc more)
+taken_by (Err error) = taken_unless (error_kind error)

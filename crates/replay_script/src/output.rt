@@ -3,7 +3,7 @@
 ghost use Rattle.std.specs.Prelude.{◌≡◌, ◌≤◌, [], length, take, IfOk, IfErr};
 ghost use Rattle.std.specs.Io.KnownBytes.{Appends};
 ghost use Rattle.replay_script.specs.Configs.{IsOfStream};
-ghost use Rattle.replay_script.specs.Faults.{written_count};
+ghost use Rattle.replay_script.specs.Faults.{taken_by};
 ghost use Rattle.replay_script.specs.Printing.{Writes};
 
 use crate::fault::ReplayFault;
@@ -37,13 +37,13 @@ fn write_some<W: Write>(writer: &mut W, text: &[u8]) -> Result<usize, ReplayFaul
     ensures fault { IfErr result IsOfStream }
     ensures failed { IfErr result (λ fault. Appends (W.contents writer.old) (W.contents writer.new) []) }
 {
-    written_count(writer.write(text))
+    taken_by(writer.write(text))
 }
 
 /// The number of octets of a non-empty text that a writer took, by its answer: none after a signal.
 /// `Device` or `Memory` if it failed, and `Device` if it takes nothing.
-fn written_count(answer: io::Result<usize>) -> Result<usize, ReplayFault>
-    ensures { result ≡ written_count answer }
+fn taken_by(answer: io::Result<usize>) -> Result<usize, ReplayFault>
+    ensures { result ≡ taken_by answer }
 {
     match answer {
         Ok(0) => Err(ReplayFault::Device),

@@ -118,10 +118,8 @@ pub record TakesClient {A : Type 0} (conn now : ℕ) (result : Result (Tried A) 
 -- The arrival of the server on the connection with this number: the octets read, unless memory ran
 -- out. Nothing arrives if the server sends nothing more, the stream failed, or the read would
 -- block.
-abbrev pub ArrivesBy : {A : Type 0} → (conn : ℕ) (buffer : List ℕ) → Peer → Heard
-    → Result (Tried A) AllocError → Type 0
-ArrivesBy conn buffer from (heard.Octets count) (Ok tried) =
-    tried ≡ Arrived (ServerStream conn from (take count buffer))
+abbrev pub ArrivesBy : {A : Type 0} → (conn : ℕ) (buffer : List ℕ) → Peer → Heard → Result (Tried A) AllocError → Type 0
+ArrivesBy conn buffer from (heard.Octets count) (Ok tried) = tried ≡ Arrived (ServerStream conn from (take count buffer))
 ArrivesBy conn buffer from (heard.Octets count) (Err _) = Unit {0}
 ArrivesBy conn buffer from heard.Nothing result = result ≡ Ok Nothing
 ArrivesBy conn buffer from heard.Done result = result ≡ Ok Served
