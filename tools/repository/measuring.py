@@ -36,7 +36,8 @@ def text(name):
     """A digest of a program's files and of all crates below it."""
     texts = tried.of_texts(TOP)
     own = [path.read_bytes() for path in files(name)]
-    return tried.digest(*own, *(texts[used].encode() for used in uses()[name] if used in texts))
+    under = (texts[used].encode() for used in uses()[name] if used in texts)
+    return tried.digest(tried.toolchain(), *own, *under)
 
 
 def below(names):

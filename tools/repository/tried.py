@@ -1,7 +1,7 @@
 """Where the prover refused which wrong bodies of the second tier: `wrong-bodies/tried` of a crate.
 
-A line has an edit's name and a digest of all that decides whether it is refused at a goal: the edit
-without its comments, the files of its crate and of all below it, and the toolchain.
+A line has an edit's name and a digest of all that decides whether it is refused at a goal: the edit,
+the files of its crate and of all below it, each without its comments, and the toolchain's logic.
 """
 import hashlib
 import subprocess
@@ -9,6 +9,8 @@ import subprocess
 from repository.crates import uses
 
 PARTS = ("src", "specs", "proofs")
+# What a line begins with that is a comment alone.
+COMMENTS = {".rt": b"//", ".antt": b"--"}
 HEAD = "# The text on which each edit was refused at a goal. tools/wrong_bodies writes this.\n"
 
 
@@ -20,14 +22,26 @@ def digest(*parts):
     return of_all.hexdigest()[:16]
 
 
+def toolchain():
+    """The line that names the toolchain: its kit, and the sum of the logic by which it judges."""
+    return subprocess.run(["rt", "version"], capture_output=True, check=True).stdout
+
+
+def text_of(file):
+    """The lines of a file, without those that are comments alone."""
+    mark, lines = COMMENTS.get(file.suffix), file.read_bytes().split(b"\n")
+    return b"\n".join(line for line in lines if not mark or not line.lstrip().startswith(mark))
+
+
 def of_texts(top):
-    """A digest for each crate of the copy at `top`: its files, all below it, the toolchain."""
-    found, toolchain = {}, subprocess.run(["rt", "version"], capture_output=True, check=True).stdout
+    """A digest for each crate of the copy at `top`: its files, all below it, the toolchain's logic.
+    Kits of one logic differ in commands and speed."""
+    found, logic = {}, toolchain().partition(b" logic ")[2] or toolchain()
     for name, used in uses().items():
-        crate, parts = top / "crates" / name, [toolchain, " ".join(used).encode()]
+        crate, parts = top / "crates" / name, [logic, " ".join(used).encode()]
         for file in sorted(path for part in PARTS for path in (crate / part).rglob("*")):
             if file.is_file():
-                parts += [str(file.relative_to(crate)).encode(), file.read_bytes()]
+                parts += [str(file.relative_to(crate)).encode(), text_of(file)]
         found[name] = digest(*parts, *(found[each].encode() for each in used if each in found))
     return found
 
