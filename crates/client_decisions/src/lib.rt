@@ -1,5 +1,5 @@
-//! Decides on a client's message: an answer from the cache, a failure, or a waiting question, whose
-//! inquiry gets a first ask if none is open. Nothing is changed.
+//! Decides on a client's message: an answer from the cache, a failure, or a waiting question, with
+//! the first ask of its inquiry if no ask is listed. Nothing is changed.
 #![tactic(auto)]
 
 mod client;
