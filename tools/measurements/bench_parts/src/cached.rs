@@ -129,9 +129,9 @@ fn answer_from(alloc: Global, held: &Held, octets: &[u8], room: &mut Room) -> Re
     let Some(question) = view.question_ref() else {
         return Ok(false);
     };
-    let key = &mut room.slot.key;
-    key.set_octets(question.name());
-    if key.octets() != held.piece.owner.octets() || held.accepted > NOW {
+    let slot = &mut room.slot;
+    slot.set(question.name(), question.class(), Some(question.kind()));
+    if slot.key().octets() != held.piece.owner.octets() || held.accepted > NOW {
         return Ok(false);
     }
     write_answer(alloc, &mut room.text, view.header(), question, held)?;
