@@ -65,7 +65,7 @@ fn asked(
 }
 
 /// The number of octets that the actions send to clients.
-fn octets_sent(actions: &Actions) -> usize {
+fn octets_sent(actions: &Actions<Global>) -> usize {
     let mut sent = 0usize;
     for place in 0..actions.len() {
         if let Some(Action::Reply { bytes, .. }) = actions.get(place) {
