@@ -1,4 +1,4 @@
-//! Keys in the order of arrival. A binary search finds a key.
+//! Keys in the order of arrival, with rising numbers, so that a binary search finds a key.
 #![tactic(auto)]
 
 mod arrival_order;

@@ -1,5 +1,5 @@
-//! Decides on a client's message: an answer from the cache, a failure, or a waiting question, with
-//! the first ask of its inquiry if no ask is listed. Nothing is changed.
+//! Decides on a client's message: nothing, an answer, a failure, or a waiting question, with the
+//! first ask of its inquiry if no ask is listed. Nothing is changed.
 #![tactic(auto)]
 
 mod client;

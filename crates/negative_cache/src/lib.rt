@@ -1,5 +1,5 @@
-//! Finds the cached set, alias, NODATA or name error for a question. A name error at a name or
-//! above it denies the name (RFC 2308, RFC 8020).
+//! Finds the cached set, alias, NODATA or name error for a question; a name error also at a name
+//! above, on the name's route (RFC 2308, RFC 8020).
 #![tactic(auto)]
 
 mod cache_at;

@@ -1,4 +1,4 @@
-//! The open asks: question, server, path and moment. No two asks share a path or have equal
+//! The listed asks: question, server, path and moment. No two asks share a path or have equal
 //! questions.
 #![tactic(auto)]
 

@@ -1,5 +1,5 @@
-//! Lists, octets and results whose contracts leave memory out. The definitions of results by the
-//! first fault (`specs/FirstFault.antt`) have no code.
+//! Lists, octets and results whose contracts leave memory out. `specs/FirstFault.antt`, without
+//! code, defines results: a value, or the first fault.
 #![tactic(auto)]
 
 mod few_list;

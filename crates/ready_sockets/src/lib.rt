@@ -1,4 +1,4 @@
-//! The sockets of a wire that may be ready, and the next to try. An `Origin` names a socket, a
+//! A wire's sockets that may be ready, and the next to try. An `Origin` names a socket, a
 //! `Readiness` lists sockets by their tokens.
 #![tactic(auto)]
 

@@ -1,5 +1,5 @@
 //! Decides on a server's message, a failed path or the passing of time: answers, a further ask, or
-//! an end. Nothing is changed.
+//! failures. Nothing is changed.
 #![tactic(auto)]
 
 mod attempt;

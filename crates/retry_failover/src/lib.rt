@@ -1,9 +1,9 @@
 //! Decides what follows a failed ask: an ask of the same server over TCP, an ask of the next
 //! server, or nothing.
 //!
-//! The first ask goes by UDP to the preferred server of the group. After a reply with TC set, the
-//! same server is asked over TCP (RFC 2181 9, RFC 7766 5). After any other failure the next server
-//! of the group is asked by UDP, and after the last server the first. Each ask uses up one try.
+//! The first ask goes by UDP to the preferred server of the group, a route's servers. After a reply
+//! by UDP with TC set, the same server is asked over TCP (RFC 2181 9, RFC 7766 5). After any other
+//! failure the next server is asked by UDP, after the last the first. Each ask uses up one try.
 #![tactic(auto)]
 
 ghost use Rattle.std.specs.Prelude.{◌≡◌, ◌<◌};

@@ -1,5 +1,5 @@
 //! Proves that every row of the table uses the standing pieces, if the cache has room for them. So
-//! every run serves truly.
+//! every run meets all claims.
 #![tactic(auto)]
 
 mod laws;

@@ -1,5 +1,5 @@
-//! The waiting questions of clients, in the order of arrival. Those that want one question are
-//! found by a binary search.
+//! The waiting questions of clients, in the order of arrival. Those with the same wanted question
+//! are found by a binary search.
 #![tactic(auto)]
 
 mod keyed;
