@@ -1,7 +1,7 @@
 """Where the prover refused which wrong bodies of the second tier: `wrong-bodies/tried` of a crate.
 
 A line has an edit's name and a digest of all that decides whether it is refused at a goal: the edit,
-the files of its crate and of all below it, each without its comments, and the toolchain's logic.
+the files of its crate and of all below it, all without comment lines, and the toolchain's logic.
 """
 import hashlib
 import subprocess
@@ -9,7 +9,7 @@ import subprocess
 from repository.crates import uses
 
 PARTS = ("src", "specs", "proofs")
-# What a line begins with that is a comment alone.
+# What a comment line begins with. No text in quotes of the sources has a line that begins so.
 COMMENTS = {".rt": b"//", ".antt": b"--"}
 HEAD = "# The text on which each edit was refused at a goal. tools/wrong_bodies writes this.\n"
 
