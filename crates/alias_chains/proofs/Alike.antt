@@ -1,12 +1,12 @@
--- Look-ups of questions that differ by letter case alone.
+-- Look-ups of questions different by letter case alone.
 use Rattle.std.proofs.Common.{◌≡◌, ℕ, zero, suc, List, [], ◌∷◌, ◌++◌, Option, Some, None, refl, ap, subst, ◌∙◌, inl, inr}
 use Rattle.dns_message.specs.Values.{Question}
 use Rattle.dns_message.specs.Messages.{IsSameQuestion}
 use Rattle.dns_message.proofs.CallerLemmas.{same_question_reflexive}
-use Rattle.suffix_routes.specs.Values.{Route}
+use Rattle.trust_rank.specs.SuffixRoutes.Values.{Route}
 use Rattle.trust_rank.specs.declared.slot.Slot.{Slot}
 use Rattle.trust_rank.specs.Walks.{target_of}
-use Rattle.record_cache.specs.Values.{Held}
+use Rattle.negative_cache.specs.RecordCache.Values.{Held}
 use Rattle.negative_cache.specs.Values.{Found, local, rows, alias, no_data, denied, miss}
 use Rattle.negative_cache.specs.Finding.{found}
 use Rattle.negative_cache.proofs.CallerLemmas.{equal_questions_find_the_same}

@@ -1,14 +1,14 @@
--- Chains that are put together.
+-- Joined chains.
 use Rattle.std.proofs.Common.{◌≡◌, ℕ, ◌+◌, ◌<◌, List, [], ◌∷◌, ◌++◌, length, take, get_or, sym, ap, ◌∙◌, Bor}
 use Rattle.std.proofs.lemmas.List.{take_more, map-append, append_assoc}
 use Rattle.trust_rank.specs.Values.{Piece}
-use Rattle.record_cache.specs.Values.{Held}
+use Rattle.negative_cache.specs.RecordCache.Values.{Held}
 use Rattle.plain_values.specs.Borrowed.{lent}
 
 abbrev pub held_with : Piece → ℕ → Held
 held_with p n = record { piece = p; accepted = n }
 
--- one more of what is borrowed is copied
+-- one more borrowed item is copied
 pub copied_more : {X : Type 0} (copies more : List X) (copy : X) (r : Bor X) (refs : List (Bor X)) (i : ℕ) → i < length refs → r ≡ get_or refs i r → copies ≡ lent (take i refs) → copy ≡ r.now → more ≡ copies ++ copy ∷ []
     → more ≡ lent (take (i + 1) refs)
 copied_more {X = X} copies more copy r refs i lt is so_far same pushed =

@@ -1,14 +1,14 @@
--- Look-ups from what is found at a name, and on their way along aliases.
+-- Look-ups from a finding at a name, and on the way along aliases.
 use Rattle.std.proofs.Common.{◌≡◌, ℕ, zero, suc, ◌+◌, ◌-◌, ◌<◌, ◌≤◌, List, [], ◌∷◌, ◌++◌, append_assoc, length, length-append, Option, Some, None, refl, sym, ap, subst, ◌∙◌, arith}
 use Rattle.std.specs.Prelude.{nat_le}
 use Rattle.std.proofs.lemmas.List.{append-nil}
 use Rattle.std.proofs.lemmas.Bool.{cond-true, cond-false, le-leb, lt-leb}
 use Rattle.dns_message.specs.Values.{Question}
 use Rattle.dns_message.specs.Questions.{asked_at}
-use Rattle.suffix_routes.specs.Values.{Route}
+use Rattle.trust_rank.specs.SuffixRoutes.Values.{Route}
 use Rattle.trust_rank.specs.declared.slot.Slot.{Slot}
 use Rattle.trust_rank.specs.Walks.{target_of, most_aliases}
-use Rattle.record_cache.specs.Values.{Held}
+use Rattle.negative_cache.specs.RecordCache.Values.{Held}
 use Rattle.negative_cache.specs.Values.{Found, local, rows, alias, no_data, denied, miss}
 use Rattle.negative_cache.specs.Finding.{found}
 use Rattle.alias_chains.specs.LookingUp.{ends, too_long, missed, LookUp, ended, missing, look_up_on, one_too_many, through, look_up, too_many, goes_on}
@@ -41,7 +41,7 @@ put_back : (e : Held) (chain : List Held) → before_last e chain ++ last_of e c
 put_back e [] = refl
 put_back e (f ∷ chain) = ap (λ (hs : List Held). e ∷ hs) (put_back f chain)
 
--- the chain of a look-up that is kept so
+-- the chain of the look-up built from a chain
 pub chain_back : (m : LookUpEnd) (chain : List Held) (q : Question) (used : List Slot) → IsWhole m chain
     → chain_of (looked_so m chain q used) ≡ chain
 chain_back Ends [] q used whole = absurd (omega (arith, whole))
@@ -49,7 +49,7 @@ chain_back Ends (e ∷ chain) q used whole = put_back e chain
 chain_back TooLong chain q used whole = refl
 chain_back Missed chain q used whole = refl
 
--- and how it ended
+-- and the kind of the end
 pub kind_back : (m : LookUpEnd) (chain : List Held) (q : Question) (used : List Slot) → IsWhole m chain
     → kind_of (looked_so m chain q used).met ≡ m
 kind_back Ends [] q used whole = absurd (omega (arith, whole))
@@ -57,7 +57,7 @@ kind_back Ends (e ∷ chain) q used whole = refl
 kind_back TooLong chain q used whole = refl
 kind_back Missed chain q used whole = refl
 
--- at most eight aliases, where nothing was found after them
+-- at most eight aliases, if nothing was found after them
 pub few_back : (m : LookUpEnd) (chain : List Held) (q : Question) (used : List Slot) → IsWhole m chain
     → (looked_so m chain q used).met ≡ missed → length (looked_so m chain q used).held ≤ 8
 few_back Ends [] q used whole is = absurd (omega (arith, whole))
@@ -79,7 +79,7 @@ used_back TooLong chain q used = refl
 used_back Missed chain q used = refl
 
 module _ (routes : List Route) (n : ℕ) (entries : List Held) where
-  -- ---- from what is found
+  -- ---- from a finding
 
   abbrev from : ℕ → List Held → Question → Found → LookUp
   from = look_up_from routes n entries
@@ -90,7 +90,7 @@ module _ (routes : List Route) (n : ℕ) (entries : List Held) where
   from_found zero held q = refl
   from_found (suc more) held q = refl
 
-  -- it may take as many more as make eight
+  -- a look-up with these aliases held may take the rest of eight
   pub goes_from : (held : List Held) (q : Question) (f : Found) → f ≡ found routes n entries q
       → length held ≤ most_aliases → goes_on routes n entries held q ≡ from (most_aliases - length held) held q f
   goes_from held q f is few =
@@ -130,7 +130,7 @@ module _ (routes : List Route) (n : ℕ) (entries : List Held) where
   local_from zero held q = refl
   local_from (suc more) held q = refl
 
-  -- ---- a look-up that takes no alias
+  -- ---- a look-up without a further alias
 
   -- a set or a denial is found at once
   pub hit_is : (held pieces : List Held) (q : Question) (f : Found) (e : Held) (slots : List Slot)
@@ -149,7 +149,7 @@ module _ (routes : List Route) (n : ℕ) (entries : List Held) where
 
   -- ---- from an alias
 
-  -- an alias that leads to no name
+  -- an alias without a target
   no_target_from : (more : ℕ) (held : List Held) (q : Question) (e : Held) → target_of e.piece.body ≡ None
       → from more held q (alias e) ≡ missing held q
   unfolding look_up_from
@@ -163,7 +163,7 @@ module _ (routes : List Route) (n : ℕ) (entries : List Held) where
   unfolding look_up_from
   ninth_from held q e target is = ap (look_up_on held q (one_too_many held q) e) is
 
-  -- an alias that leads on
+  -- an alias with a target
   alias_from : (more : ℕ) (held : List Held) (q : Question) (e : Held) (target : List (List ℕ)) → target_of e.piece.body ≡ Some target
       → from (suc more) held q (alias e)
       ≡ through e (from more (held ++ e ∷ []) (asked_at q target) (found routes n entries (asked_at q target)))
@@ -174,7 +174,8 @@ module _ (routes : List Route) (n : ℕ) (entries : List Held) where
 
   -- ---- on the way
 
-  -- with these aliases held and these slots used, what follows on what is found now is the whole
+  -- with these aliases held and these slots used, the look-up from this finding on is the whole
+  -- look-up
   pub record IsOnWay (held : List Held) (used : List Slot) (wanted : Question) (f : Found) (whole : LookUp) : Type 0 where
     pub few : length held ≤ most_aliases
     pub left : (more : ℕ) → length held + more ≡ most_aliases → with_used used (from more held wanted f) ≡ whole
@@ -211,7 +212,7 @@ module _ (routes : List Route) (n : ℕ) (entries : List Held) where
             ∙ way.left (suc more) (omega (arith, sum, longer));
       }
 
-      -- it is one too many
+      -- the alias is one too many
       pub at_ninth : most_aliases < length held' → looked_so TooLong held' wanted' used' ≡ whole
       at_ninth many =
           let longer = count in
@@ -240,7 +241,7 @@ module _ (routes : List Route) (n : ℕ) (entries : List Held) where
     pub at_local : IsOnWay held used wanted local whole → looked_so Missed held wanted used ≡ whole
     at_local way = missed_so (rest_is local (missing held wanted) way (λ more. local_from more held wanted))
 
-    -- a set or a denial ends it
+    -- a set or a denial ends the look-up
     abbrev at_end : Held → LookUp
     at_end e = record { held = held; wanted = wanted; met = ends e; used = used ++ e.piece.slot ∷ [] }
 

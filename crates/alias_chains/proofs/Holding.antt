@@ -1,14 +1,14 @@
--- The chain of a look-up: the aliases that were held, and entries of the cache.
+-- The chain of a look-up: the aliases given at its start, and entries of the cache.
 use Rattle.std.proofs.Common.{◌≡◌, ℕ, zero, suc, ◌+◌, ◌-◌, ◌≤◌, List, [], ◌∷◌, ◌++◌, length, length-append, take, Option, Some, None, refl, ap, subst, inl, inr, arith}
 use Rattle.std.specs.Prelude.{nat_le}
 use Rattle.std.specs.List.{AllByRecursion}
 use Rattle.std.proofs.lemmas.Bool.{cond_both}
 use Rattle.dns_message.specs.Values.{Question}
 use Rattle.dns_message.specs.Questions.{asked_at}
-use Rattle.suffix_routes.specs.Values.{Route}
+use Rattle.trust_rank.specs.SuffixRoutes.Values.{Route}
 use Rattle.trust_rank.specs.Walks.{target_of, most_aliases}
-use Rattle.record_cache.specs.Values.{Held}
-use Rattle.record_cache.specs.Laws.{Among}
+use Rattle.negative_cache.specs.RecordCache.Values.{Held}
+use Rattle.negative_cache.specs.RecordCache.Laws.{Among}
 use Rattle.negative_cache.specs.Values.{Found, local, rows, alias, no_data, denied, miss}
 use Rattle.negative_cache.specs.Finding.{found}
 use Rattle.negative_cache.specs.Laws.{Fits}
@@ -48,7 +48,7 @@ module _ (P : Held → Type 0) where
       by held missed all = all
 
   module _ (routes : List Route) (n : ℕ) (entries : List Held) (each : All entries) where
-    -- of what is found, if anything
+    -- P holds of the found entry, if any
     abbrev IfFound : Found → Type 0
     IfFound (rows h) = P h
     IfFound (alias h) = P h
@@ -90,16 +90,16 @@ module _ (P : Held → Type 0) where
         (λ h target is. more_holds more (held ++ h ∷ []) (asked_at q target) (all_put held h all is))
         (found routes n entries q) (found_holds q)
 
-    -- what holds of each entry and of each alias held holds of each piece of the chain
+    -- a property of each entry and of each given alias is a property of each piece of the chain
     pub look_up_holds : (held : List Held) (q : Question) → All held → All (chain_of (goes_on routes n entries held q))
     look_up_holds held q all =
         cond_both (nat_le (length held) most_aliases) (look_up routes n entries (most_aliases - length held) held q) (too_many held q)
         (λ (l : LookUp). All (chain_of l))
         (λ _. more_holds (most_aliases - length held) held q all) (λ _. all_taken (suc most_aliases) held all)
 
--- ---- a look-up that took no alias
+-- ---- a look-up without an alias taken
 
--- it holds at least what was held
+-- the look-up holds at least as many aliases as given
 abbrev KeepsHeld : List Held → LookUp → Type 0
 KeepsHeld held l = length held ≤ length l.held
 
@@ -128,7 +128,7 @@ module _ (routes : List Route) (n : ℕ) (entries : List Held) where
       (λ h target. let count = longer held h in let rest = keeps more (held ++ h ∷ []) (asked_at q target) in omega (arith, count, rest))
       (found routes n entries q)
 
-  -- where none is held at the end, the question is still the first
+  -- if no alias is held at the end, the question is still the first
   followed_own : (q : Question) (onward : Held → List (List ℕ) → LookUp)
       → ((h : Held) (target : List (List ℕ)) → 1 ≤ length (onward h target).held)
       → (f : Found) → (look_up_after [] q onward f).held ≡ [] → (look_up_after [] q onward f).wanted ≡ q

@@ -1,13 +1,13 @@
--- Offers, one after another.
+-- Consecutive offers.
 use Rattle.std.proofs.Common.{◌≡◌, ℕ, ◌+◌, ◌^◌, ◌<◌, ◌≤◌, List, [], ◌∷◌, ◌++◌, take, length, Bool, true, false, cond, refl, sym, ap, ◌∙◌, subst, arith, Fits, w32}
 use Rattle.std.proofs.lemmas.List.{length-map, map-append}
 use mir.Val.{bool_byte}
 use Rattle.std.specs.Prelude.{map}
 use Rattle.std.specs.List.{AllByRecursion}
 use Rattle.trust_rank.specs.Values.{Piece}
-use Rattle.record_cache.specs.Values.{Held, Cache}
-use Rattle.record_cache.specs.declared.cache.Offered.{Offered}
-use Rattle.record_cache.specs.declared.cache.Offered.TheVariants.{Kept, Outranked, NotKept, Unkept}
+use Rattle.negative_cache.specs.RecordCache.Values.{Held, Cache}
+use Rattle.negative_cache.specs.RecordCache.declared.cache.Offered.{Offered}
+use Rattle.negative_cache.specs.RecordCache.declared.cache.Offered.TheVariants.{Kept, Outranked, NotKept, Unkept}
 use Rattle.answer_builder.specs.Answers.{IsEarlier}
 use Rattle.alias_chains.specs.Offering.{ended_so, put, count_of, put_all, unkept_of, held_at}
 
@@ -21,7 +21,7 @@ pub held_now : (n : ℕ) (ps : List Piece) → AllByRecursion (IsEarlier n) (map
 held_now n [] = tt
 held_now n (p ∷ ps) = (omega arith, held_now n ps)
 
--- ---- offers, one after another
+-- ---- consecutive offers
 
 count_small : (o : Offered) → count_of o ≤ 1
 count_small Kept = omega arith
@@ -29,12 +29,12 @@ count_small Outranked = omega arith
 count_small NotKept = omega arith
 count_small Unkept = omega arith
 
--- some rooms make these offers so
+-- the offers end like this for some rooms
 abbrev pub AreOffered : ℕ → ℕ → List Piece → List Held → List Held → ℕ → Type 0
 AreOffered capacity n ps before after count =
     (rooms : List Bool) × (length rooms ≡ length ps) × (put_all capacity n rooms ps before ≡ after) × (unkept_of capacity n rooms ps before ≡ count)
 
--- of all pieces these are left, whatever room they find
+-- of all pieces these are left to offer, whatever the rooms
 pub record AreLeft (capacity n : ℕ) (ps : List Piece) (before : List Held) (left : List Piece) (now : List Held) (count : ℕ) : Type 0 where
   pub few : count + length left ≤ length ps
   pub rest : (rooms : List Bool) → length rooms ≡ length left → AreOffered capacity n ps before (put_all capacity n rooms left now) (count + unkept_of capacity n rooms left now)
@@ -77,7 +77,7 @@ byte_small : (b : Bool) → bool_byte b ≤ 1
 byte_small true = omega arith
 byte_small false = omega arith
 
--- the count of one piece more fits
+-- the count with a further piece fits
 pub one_more_fits : {X : Type 0} (count all : ℕ) (x : X) (left left' : List X) (b : Bool) (k : ℕ) → count + length left' ≤ all → left' ≡ x ∷ left → all < 2 ^ 32 → k ≡ bool_byte b → Fits w32 (count + k)
 one_more_fits count all x left left' b k few is fits byte =
     let longer : length left' ≡ length (x ∷ left) = ap (λ ys. length ys) is in let small = byte_small b in omega (arith, few, longer, fits, byte, small)
@@ -102,7 +102,7 @@ loop_ended n ps before now left count were none same =
     let all = all_offered before.capacity n ps before.entries now.entries count (subst (λ (xs : List Piece). AreLeft before.capacity n ps before.entries xs now.entries count) none were) in
     (all.0, all.1, (λ i. record { capacity = same i; entries = sym all.2 i }), sym all.3)
 
--- ---- the walk, in front of what else is held
+-- ---- the walk, in front of more pieces
 
 first_of : {X : Type 0} (xs ys : List X) → take (length xs) (xs ++ ys) ≡ xs
 first_of [] ys = refl

@@ -1,4 +1,4 @@
--- A look-up of stale entries on its way.
+-- A look-up of stale entries on the way.
 use Rattle.std.proofs.Common.{◌≡◌, ℕ, zero, suc, ◌+◌, ◌-◌, ◌≤◌, List, [], ◌∷◌, ◌++◌, length, length-append, Option, Some, None, refl, sym, ap, ◌∙◌, inl, inr, subst, ◌⊎◌, arith}
 use Rattle.std.specs.Prelude.{option_map}
 use Rattle.std.specs.List.{AllByRecursion}
@@ -6,8 +6,8 @@ use Rattle.std.proofs.lemmas.List.{append_assoc}
 use denote.Ref.{Bor}
 use Rattle.dns_message.specs.Values.{Question}
 use Rattle.trust_rank.specs.Walks.{target_of}
-use Rattle.record_cache.specs.Values.{Held}
-use Rattle.record_cache.specs.Laws.{Among}
+use Rattle.negative_cache.specs.RecordCache.Values.{Held}
+use Rattle.negative_cache.specs.RecordCache.Laws.{Among}
 use Rattle.negative_cache.specs.Values.{Found, local, rows, alias, no_data, denied, miss}
 use Rattle.negative_cache.specs.Stale.{stale}
 use Rattle.negative_cache.specs.Laws.{FitsWithin}
@@ -19,7 +19,7 @@ lent_put : (used : List (Bor Held)) (e : Bor Held) → lent (used ++ e ∷ []) �
 lent_put [] e = refl
 lent_put (u ∷ used) e = ap (λ (es : List Held). u.now ∷ es) (lent_put used e)
 
--- all of these lie in the cache
+-- all aliases are in the cache
 abbrev AreAmong : List Held → List Held → Type 0
 AreAmong entries held = AllByRecursion (λ h. Among h entries) held
 
@@ -39,7 +39,7 @@ module _ (window n : ℕ) (entries : List Held) (class kind most : ℕ) where
   abbrev pub at : List (List ℕ) → Question
   at name = record { name = name; kind = kind; class = class }
 
-  -- with these aliases used, what is found from this name on is the whole
+  -- with these aliases used, the look-up from this name on is the whole look-up
   pub record IsOnStale (used : List (Bor Held)) (name : List (List ℕ)) (all : Option (List Held)) : Type 0 where
     pub few : length used ≤ most
     pub left : (more : ℕ) → length used + more ≡ most → behind (lent used) (look_up_stale window n entries more (at name)) ≡ all
@@ -56,7 +56,7 @@ module _ (window n : ℕ) (entries : List Held) (class kind most : ℕ) where
     among = tt;
   }
 
-  -- what is found at a name where this is there
+  -- the look-up at a name with this finding
   found_at : (more : ℕ) (name : List (List ℕ)) (f : Found) (r : Option (List Held)) → f ≡ stale window n entries (at name) → ((onward : List (List ℕ) → Option (List Held)) → stale_followed onward f ≡ r)
       → look_up_stale window n entries more (at name) ≡ r
   found_at zero name f r is so = ap (stale_followed (λ target. None)) (sym is) ∙ so (λ target. None)
@@ -68,7 +68,7 @@ module _ (window n : ℕ) (entries : List Held) (class kind most : ℕ) where
   left_of used name all f r way is so =
       ap (behind (lent used)) (sym (found_at (most - length used) name f r is so)) ∙ way.left (most - length used) (let few = way.few in omega (arith, few))
 
-  -- nothing is found that serves
+  -- no usable finding
   pub at_local : (used : List (Bor Held)) (name : List (List ℕ)) (all : Option (List Held)) → IsOnStale used name all → local ≡ stale window n entries (at name) → None ≡ all
   at_local used name all way is = left_of used name all local None way is (λ onward. refl)
 
@@ -87,7 +87,7 @@ module _ (window n : ℕ) (entries : List Held) (class kind most : ℕ) where
   at_rows used after name all e way is put =
       ap Some (ap lent put ∙ lent_put used e) ∙ left_of used name all (rows e.now) (Some (e.now ∷ [])) way is (λ onward. refl)
 
-  -- an alias that leads nowhere
+  -- an alias without a target
   pub at_no_target : (used : List (Bor Held)) (name : List (List ℕ)) (all : Option (List Held)) (e : Held) → IsOnStale used name all → alias e ≡ stale window n entries (at name) → target_of e.piece.body ≡ None → None ≡ all
   at_no_target used name all e way is none = left_of used name all (alias e) None way is (λ onward. ap (stale_led onward e) none)
 
@@ -95,7 +95,7 @@ module _ (window n : ℕ) (entries : List Held) (class kind most : ℕ) where
   led_nowhere e None = refl
   led_nowhere e (Some target) = refl
 
-  -- one alias more than may be taken
+  -- one alias more than allowed
   pub at_full : (used : List (Bor Held)) (name : List (List ℕ)) (all : Option (List Held)) (e : Held) → IsOnStale used name all → alias e ≡ stale window n entries (at name) → length used ≡ most → None ≡ all
   at_full used name all e way is full =
       ap (behind (lent used)) (sym (ap (stale_followed (λ target. None)) (sym is) ∙ led_nowhere e (target_of e.piece.body))) ∙ way.left 0 (omega (arith, full))
@@ -111,7 +111,7 @@ module _ (window n : ℕ) (entries : List Held) (class kind most : ℕ) where
   among_of name miss fits e (inl is) = absurd (cc)
   among_of name miss fits e (inr is) = absurd (cc)
 
-  -- an alias that leads on
+  -- an alias with a target
   pub on_alias : (used after : List (Bor Held)) (name target : List (List ℕ)) (all : Option (List Held)) (e : Bor Held) → IsOnStale used name all → alias e.now ≡ stale window n entries (at name)
       → (length used ≡ most → ⊥) → target_of e.now.piece.body ≡ Some target → after ≡ used ++ e ∷ [] → IsOnStale after target all
   on_alias used after name target all e way is room leads put =

@@ -2,8 +2,8 @@
 use Rattle.std.specs.Prelude.{◌≡◌, ℕ, List, ◌⊎◌}
 use Rattle.dns_message.specs.Values.{Question}
 use Rattle.dns_message.specs.Messages.{IsSameQuestion}
-use Rattle.suffix_routes.specs.Values.{Route}
-use Rattle.record_cache.specs.Values.{Held}
+use Rattle.trust_rank.specs.SuffixRoutes.Values.{Route}
+use Rattle.negative_cache.specs.RecordCache.Values.{Held}
 use Rattle.alias_chains.specs.LookingUp.{LookUp, look_up}
 
 -- two look-ups that began with these aliases take the same ones, end alike and use the same; they

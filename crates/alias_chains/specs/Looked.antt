@@ -3,10 +3,10 @@ use Rattle.std.specs.Prelude.{ℕ, zero, suc, ◌<◌, ◌≤◌, List, [], ◌�
 use denote.Ref.{Bor}
 use Rattle.dns_message.specs.Values.{Question}
 use Rattle.dns_message.specs.Questions.{asked_at}
-use Rattle.suffix_routes.specs.Values.{Route}
+use Rattle.trust_rank.specs.SuffixRoutes.Values.{Route}
 use Rattle.trust_rank.specs.declared.slot.Slot.{Slot}
 use Rattle.trust_rank.specs.Walks.{most_aliases}
-use Rattle.record_cache.specs.Values.{Held}
+use Rattle.negative_cache.specs.RecordCache.Values.{Held}
 use Rattle.negative_cache.specs.Values.{Found, local, rows, alias, no_data, denied, miss}
 use Rattle.plain_values.specs.Borrowed.{lent}
 use Rattle.alias_chains.specs.LookingUp as rules

@@ -2,11 +2,11 @@
 use Rattle.std.specs.Prelude.{ℕ, zero, suc, ◌-◌, if◌then◌else◌, nat_le, List, [], ◌∷◌, ◌++◌, length, take, Option, Some}
 use Rattle.std.specs.Prelude.{None}
 use Rattle.dns_message.specs.Values.{Question}
-use Rattle.suffix_routes.specs.Values.{Route}
+use Rattle.trust_rank.specs.SuffixRoutes.Values.{Route}
 use Rattle.trust_rank.specs.declared.slot.Slot.{Slot}
 use Rattle.trust_rank.specs.Walks.{target_of, most_aliases}
-use Rattle.record_cache.specs.Values.{Held}
-use Rattle.record_cache.specs.Entries.{promoted}
+use Rattle.negative_cache.specs.RecordCache.Values.{Held}
+use Rattle.negative_cache.specs.RecordCache.Entries.{promoted}
 use Rattle.negative_cache.specs.Values.{Found, local, rows, alias, no_data, denied, miss}
 use Rattle.negative_cache.specs.Finding.{found}
 use Rattle.dns_message.specs.Questions.{asked_at}

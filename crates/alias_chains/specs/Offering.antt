@@ -2,10 +2,10 @@
 use Rattle.std.specs.Prelude.{ℕ, ◌+◌, Bool, true, if◌then◌else◌, List, [], ◌∷◌, map}
 use Rattle.trust_rank.specs.Values.{Piece}
 use Rattle.trust_rank.specs.Replacing.{is_name_error}
-use Rattle.record_cache.specs.Values.{Held}
-use Rattle.record_cache.specs.Offers.{answer, offered}
-use Rattle.record_cache.specs.declared.cache.Offered.{Offered}
-use Rattle.record_cache.specs.declared.cache.Offered.TheVariants.{Kept, Outranked, NotKept, Unkept}
+use Rattle.negative_cache.specs.RecordCache.Values.{Held}
+use Rattle.negative_cache.specs.RecordCache.Offers.{answer, offered}
+use Rattle.negative_cache.specs.RecordCache.declared.cache.Offered.{Offered}
+use Rattle.negative_cache.specs.RecordCache.declared.cache.Offered.TheVariants.{Kept, Outranked, NotKept, Unkept}
 use Rattle.negative_cache.specs.Showing.{shown}
 
 -- a set or NODATA shows that its name is there

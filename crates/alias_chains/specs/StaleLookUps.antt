@@ -4,7 +4,7 @@
 use Rattle.std.specs.Prelude.{ℕ, zero, suc, List, [], ◌∷◌, option_map, Option, Some, None}
 use Rattle.dns_message.specs.Values.{Question}
 use Rattle.trust_rank.specs.Walks.{target_of}
-use Rattle.record_cache.specs.Values.{Held}
+use Rattle.negative_cache.specs.RecordCache.Values.{Held}
 use Rattle.negative_cache.specs.Values.{Found, local, rows, alias, no_data, denied, miss}
 use Rattle.negative_cache.specs.Stale.{stale}
 use Rattle.dns_message.specs.Questions.{asked_at}

@@ -4,7 +4,7 @@ ghost use Rattle.std.specs.Prelude.{◌≡◌, ◌∷◌, ◌++◌, [], IfOk, Is
 ghost use Rattle.plain_values.specs.Borrowed.{lent};
 ghost use Rattle.alias_chains.specs.Looked.{pieces_in};
 
-use record_cache::Held;
+use negative_cache::Held;
 use std::alloc::{AllocError, Allocator};
 use std::slice;
 

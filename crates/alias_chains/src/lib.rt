@@ -15,6 +15,7 @@ pub use chain::copies;
 pub use laws::same_questions_are_looked_up_alike;
 pub use looked::{LookUp, LookUpEnd};
 pub use looking::look_up;
+pub use negative_cache::CacheAt;
 pub use offers::{held_from, offer_all};
 pub use slots::{Slots, promote_all};
 pub use stale_look_up::look_up_stale;

@@ -8,7 +8,7 @@ ghost use Rattle.alias_chains.specs.Looked.{chain_of, kind_of};
 use crate::chain::Chain;
 use crate::slots::Slots;
 use dns_message::QuestionRef;
-use record_cache::Held;
+use negative_cache::Held;
 use std::alloc::{Allocator, Global};
 use std::marker::Model;
 

@@ -7,9 +7,8 @@ ghost use Rattle.trust_rank.specs.Replacing.{is_name_error};
 ghost use Rattle.alias_chains.specs.Offering.{shown_by, ended_so, put, put_all, unkept_of, count_of, held_at};
 ghost use Rattle.alias_chains.specs.Offering.{pieces_of};
 
-use negative_cache::shown;
+use negative_cache::{Cache, Held, Offered, shown};
 use plain_values::PlainList;
-use record_cache::{Cache, Held, Offered};
 use std::alloc::{AllocError, Allocator};
 use std::hash::BuildHasher;
 use trust_rank::Piece;

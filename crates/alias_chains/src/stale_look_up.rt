@@ -6,15 +6,14 @@ ghost use Rattle.std.specs.Option.{IfSome};
 ghost use Rattle.dns_name.specs.Labels.{labels_of, IsLaidOut};
 ghost use Rattle.dns_message.specs.Questions.{asked_at};
 ghost use Rattle.plain_values.specs.Borrowed.{lent};
-ghost use Rattle.record_cache.specs.Laws.{Among};
+ghost use Rattle.negative_cache.specs.RecordCache.Laws.{Among};
 ghost use Rattle.negative_cache.specs.Stale.{stale};
 ghost use Rattle.negative_cache.specs.Values.{found_of};
 ghost use Rattle.alias_chains.specs.StaleLookUps.{look_up_stale};
 
 use crate::looking::target_octets;
 use dns_message::QuestionRef;
-use negative_cache::{CacheAt, Found};
-use record_cache::{Held, LookUpSlot};
+use negative_cache::{CacheAt, Found, Held, LookUpSlot};
 use std::alloc::{AllocError, Allocator};
 use std::hash::BuildHasher;
 

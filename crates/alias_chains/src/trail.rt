@@ -11,7 +11,7 @@ use crate::chain::Chain;
 use crate::looked::{LookUp, LookUpEnd};
 use crate::slots::Slots;
 use dns_message::QuestionRef;
-use record_cache::Held;
+use negative_cache::Held;
 use std::alloc::{AllocError, Allocator, Global};
 use trust_rank::Slot;
 

@@ -1,4 +1,4 @@
--- An answer that ends with the last piece of a chain.
+-- An answer ending with the last piece of a chain.
 use Rattle.std.proofs.Common.{◌≡◌, ℕ, zero, suc, ◌+◌, ◌-◌, ◌<◌, List, [], ◌∷◌, ◌++◌, length, map, take, drop, get_or, refl, sym, ap, subst, ◌∙◌, append_assoc, drop-cons, arith, Option, Some, None, Bor, MatchOption}
 use Rattle.std.proofs.lemmas.List.{append-nil, take_more, map-append}
 use Rattle.std.specs.List.{flat_map, slice_get, AllByRecursion}
@@ -10,18 +10,18 @@ use Rattle.record_cache.specs.Values.{Held}
 use Rattle.answer_builder.specs.Values.{PieceWithTtl}
 use Rattle.answer_builder.specs.Answers.{answers_of, with_ttl, with_stale_ttls, sections_with_ttls}
 use Rattle.answer_builder.specs.Building.{end_of, ending, listed}
-use Rattle.plain_values.specs.Borrowed.{lent}
+use Rattle.dns_message.specs.PlainValues.Borrowed.{lent}
 
 ending_is : (chain : List PieceWithTtl) → ending (flat_map answers_of chain) (end_of chain) ≡ sections_with_ttls chain
 ending_is [] = refl
 ending_is (t ∷ chain) = refl
 
--- the sections with the records of a chain that end with its last piece
+-- the sections of a chain's records, ending with the last piece
 pub pieces_ending : (chain : List PieceWithTtl) (records : List Record) (last : Option PieceWithTtl)
     → records ≡ flat_map answers_of chain → last ≡ end_of chain → ending records last ≡ sections_with_ttls chain
 pieces_ending chain records last all is = (λ i. ending (all i) (is i)) ∙ ending_is chain
 
--- the last of the pieces, if any
+-- the last piece, if any
 pub last_is : (chain : List PieceWithTtl) → slice_get chain (length chain - 1) ≡ end_of chain
 last_is [] = refl
 last_is (t ∷ []) = refl
@@ -31,7 +31,7 @@ last_is (t ∷ other ∷ chain) =
     ap (λ (n : ℕ). slice_get (t ∷ other ∷ chain) n) one ∙ ap (λ (n : ℕ). slice_get (other ∷ chain) n) none
     ∙ last_is (other ∷ chain)
 
--- one more, after others
+-- a further item, after the items so far
 pub told_more : {X Y : Type 0} (f : X → Y) (before items more : List Y) (y : Y) (xs : List X) (i : ℕ) (x : X)
     → i < length xs → x ≡ get_or xs i x → y ≡ f x → items ≡ before ++ map f (take i xs) → more ≡ items ++ y ∷ []
     → more ≡ before ++ map f (take (i + 1) xs)
@@ -42,7 +42,7 @@ told_more {X = X} {Y = Y} f before items more y xs i x lt is pieces so_far pushe
     pushed ∙ (λ j. so_far j ++ y ∷ []) ∙ append_assoc before (map f (take i xs)) (y ∷ [])
     ∙ ap (λ (zs : List Y). before ++ zs) next
 
--- ---- what holds of each piece
+-- ---- properties of each piece
 
 pub drop_more : {X : Type 0} (P : X → Type 0) (xs : List X) (i : ℕ) (x : X) → i < length xs
     → AllByRecursion P (drop i xs) → AllByRecursion P (drop (i + 1) xs)
@@ -63,18 +63,18 @@ of_rest P (suc n) [] all = tt
 of_rest P zero (x ∷ xs) all = all
 of_rest P (suc n) (x ∷ xs) all = of_rest P n xs all.1
 
--- none expired
+-- no piece expired
 pub none_past : (moment : ℕ) (chain : List Held) → with_stale_ttls (length chain) moment chain ≡ map (with_ttl moment) chain
 none_past moment [] = refl
 none_past moment (h ∷ chain) = ap (λ (pieces : List PieceWithTtl). with_ttl moment h ∷ pieces) (none_past moment chain)
 
--- ---- held pieces, borrowed, by what is left of them
+-- ---- borrowed held pieces, with their seconds left
 
--- the last one, if any
+-- the last piece, if any
 abbrev pub last_of_lent : List (Bor Held) → Option Held
 last_of_lent refs = option_copied (slice_get refs (length refs - 1))
 
--- after another one it stays the last
+-- a piece before changes no last piece
 one_more : (r s : Bor Held) (refs : List (Bor Held)) → last_of_lent (s ∷ refs) ≡ last_of_lent (r ∷ s ∷ refs)
 one_more r s refs =
     let longer : length (r ∷ s ∷ refs) - 1 ≡ suc (length refs) = omega arith in
@@ -82,7 +82,7 @@ one_more r s refs =
     sym (ap (λ (n : ℕ). option_copied (slice_get (s ∷ refs) n)) shorter)
     ∙ sym (ap (λ (n : ℕ). option_copied (slice_get (r ∷ s ∷ refs) n)) longer)
 
--- the end of their TTLs is that of the last of them
+-- the last piece with TTL is the last piece, with its TTL
 pub last_lent : (moment : ℕ) (refs : List (Bor Held))
     → end_of (map (with_ttl moment) (lent refs)) ≡ option_map (with_ttl moment) (last_of_lent refs)
 last_lent moment [] = refl
@@ -90,7 +90,7 @@ last_lent moment (r ∷ []) = refl
 last_lent moment (r ∷ s ∷ refs) =
     last_lent moment (s ∷ refs) ∙ ap (λ (last : Option Held). option_map (with_ttl moment) last) (one_more r s refs)
 
--- each was accepted by then, so the last was
+-- a property of each piece holds of the last
 pub last_earlier : (P : Held → Type 0) (refs : List (Bor Held)) → AllByRecursion P (lent refs)
     → IfSome (last_of_lent refs) P
 last_earlier P [] all = tt
@@ -98,7 +98,7 @@ last_earlier P (r ∷ []) all = all.0
 last_earlier P (r ∷ s ∷ refs) all =
     subst (λ (last : Option Held). IfSome last P) (one_more r s refs) (last_earlier P (s ∷ refs) all.1)
 
--- a set that may be missing, as a slice
+-- an optional set, as a slice
 pub listed_slice : (soa : Option (List Record)) (sets : List (List Record))
     → MatchOption soa (sets ≡ []) (λ x. sets ≡ x ∷ []) → records_in sets ≡ listed soa
 listed_slice None sets is = ap records_in is

@@ -1,4 +1,4 @@
--- The octets that are written within a limit, and those that are sent.
+-- The octets written within a limit, and the octets sent.
 use Rattle.std.proofs.Common.{◌≡◌, ℕ, ◌<◌, ◌≤◌, List, [], ◌∷◌, length, Bool, true, false, cond, refl, sym, ap, subst, ◌∙◌, ⊎_elim, arith, Option, Some, None}
 use Rattle.std.specs.Prelude.{nat_lt, nat_le, Result, Ok, Err}
 use Rattle.std.proofs.lemmas.Bool.{cases_Bool, cond-true, cond-false, ltb-false, ltb-true, le-leb, leb-true}
@@ -17,7 +17,7 @@ use Rattle.answer_builder.specs.Faults.{Gives}
 use Rattle.answer_builder.specs.Transports.{sent_over, text_of}
 use Rattle.answer_builder.specs.declared.asked.Transport.{Transport}
 
--- ---- what fits
+-- ---- texts that fit
 
 not_leb : (a b : ℕ) → b < a → nat_le a b ≡ false
 not_leb a b h = ⊎_elim (λ (t : nat_le a b ≡ true). let l : a ≤ b = leb-true a b t in absurd (omega (arith, h, l))) (λ (f : nat_le a b ≡ false). f) (cases_Bool (nat_le a b))
@@ -28,7 +28,7 @@ fits limit text h = cond-true (nat_le (length text) limit) _ _ (le-leb (length t
 fits_not : (limit : ℕ) (text : List ℕ) → limit < length text → fitting limit text ≡ None
 fits_not limit text h = cond-false (nat_le (length text) limit) _ _ (not_leb (length text) limit h)
 
--- what was written within a limit fits
+-- a text written within a limit fits
 pub written_fits : (limit : ℕ) (m : Message) (text : List ℕ) → written_within limit m ≡ Ok text → Some text ≡ fitting limit (written m)
 unfolding written_within
 written_fits limit m text e = ⊎_elim
@@ -39,7 +39,7 @@ written_fits limit m text e = ⊎_elim
     ap (λ (xs : List ℕ). Some xs) same ∙ sym (fits limit (written m) (ltb-false limit (length (written m)) f)))
     (cases_Bool (nat_lt limit (length (written m))))
 
--- what was refused doesn't
+-- a refused text does not fit
 pub refused_fits_not : (limit : ℕ) (m : Message) (fault : Fault) → written_within limit m ≡ Err fault → None ≡ fitting limit (written m)
 unfolding written_within
 refused_fits_not limit m fault e = ⊎_elim
@@ -47,9 +47,9 @@ refused_fits_not limit m fault e = ⊎_elim
     (λ (f : nat_lt limit (length (written m)) ≡ false). let bad : Ok (written m) ≡ Err fault = sym (cond-false (nat_lt limit (length (written m))) _ _ f) ∙ e in absurd (cc))
     (cases_Bool (nat_lt limit (length (written m))))
 
--- ---- the text has the counts of the lists, whatever the header says
+-- ---- the text has the lists' counts, whatever the header says
 
--- an answer as it was put together
+-- an answer, as put together
 abbrev pub made : Asked → Bool → Sections → Message
 made a cut s = record { header = answer_header a cut s.rcode (0 ∷ 0 ∷ 0 ∷ 0 ∷ []); questions = questions_of a.question; answers = s.answers; authority = s.authority; additional = [] }
 
@@ -57,13 +57,12 @@ made_counts : (a : Asked) (cut : Bool) (s : Sections) → written (made a cut s)
 unfolding written
 made_counts a cut s = refl
 
--- a message with this header, and with the question alone
+-- a message with this header and the question alone
 pub bare_text : (a : Asked) (rcode : ℕ) (header : Header) (question : Option Question) → header ≡ answer_header a false rcode (0 ∷ 0 ∷ 0 ∷ 0 ∷ []) → question ≡ a.question
     → written (message_of header question [] []) ≡ written (error_response a rcode)
 bare_text a rcode header question is same = (λ i. written (message_of (is i) (same i) [] [])) ∙ made_counts a false (bare rcode)
 
--- what is sent of a message with this header, the question, these records, and these in the
--- authority section
+-- the octets sent for a message with this header, question, records and authority section
 pub sent_text : (a : Asked) (s : Sections) (transport : Transport) (header : Header) (question : Option Question) (sets authority : List (List Record))
     → header ≡ answer_header a false s.rcode (0 ∷ 0 ∷ 0 ∷ 0 ∷ []) → question ≡ a.question → records_in sets ≡ s.answers → records_in authority ≡ s.authority
     → sent_over transport (written (message_of header question sets authority)) (written (cut_down (message_of header question sets authority))) ≡ text_of a s transport
@@ -73,7 +72,7 @@ sent_text a s transport header question sets authority is same answers last =
     made_of : message_of header question sets authority ≡ made a false s
     made_of = λ i. record { header = is i; questions = questions_of (same i); answers = answers i; authority = last i; additional = [] }
 
--- ---- what is sent
+-- ---- the octets sent
 
 picked : (b : Bool) (full text : List ℕ) → Some text ≡ cond b (Some full) None → (b ≡ true) × (text ≡ full)
 picked true full text e = (refl, cc)

@@ -5,7 +5,7 @@ use Rattle.dns_message.specs.Names.{step as name_step, walk_in, name_within}
 use Rattle.dns_message.specs.Shapes.{shape_of}
 use Rattle.dns_message.specs.Fields.{first_field, fields_of}
 use Rattle.dns_message.specs.Writing.{◌▹◌, each, name_text, data_text, with_length, written}
-use Rattle.trust_rank.specs.Values.{rows}
+use Rattle.record_cache.specs.TrustRank.Values.{rows}
 use Rattle.record_cache.specs.Values.{Held}
 use Rattle.answer_builder.specs.declared.asked.Transport.TheVariants.{Udp, Tcp}
 use Rattle.answer_builder.specs.Values.{PieceWithTtl, Asked}

@@ -5,7 +5,7 @@ use Rattle.std.specs.List.{flat_map}
 use Rattle.dns_message.specs.declared.reading.header.Header.{Header}
 use Rattle.dns_message.specs.Values.{Record, Message}
 use Rattle.dns_message.specs.Borrowed.{questions_of}
-use Rattle.trust_rank.specs.Values.{Body, rows, no_data, denied, Piece}
+use Rattle.record_cache.specs.TrustRank.Values.{Body, rows, no_data, denied, Piece}
 use Rattle.record_cache.specs.Values.{Held}
 use Rattle.record_cache.specs.Ageing.{is_alive, seconds_left}
 use Rattle.answer_builder.specs.Values.{PieceWithTtl, Asked, Sections}

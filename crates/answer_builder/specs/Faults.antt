@@ -1,6 +1,6 @@
 -- The answer of a call, unless memory ran out.
 use Rattle.std.specs.Prelude.{Bool, true, false, Result}
-use Rattle.plain_values.specs.FirstFault as reading
+use Rattle.dns_message.specs.PlainValues.FirstFault as reading
 use Rattle.answer_builder.specs.declared.fault.Fault.{Fault}
 use Rattle.answer_builder.specs.declared.fault.Fault.TheVariants.{TooLarge, Memory}
 

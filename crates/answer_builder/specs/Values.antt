@@ -1,7 +1,7 @@
 -- Questions and answers as contracts see them.
 use Rattle.std.specs.Prelude.{ℕ, Bool, List, Option}
 use Rattle.dns_message.specs.Values.{Question, Record}
-use Rattle.trust_rank.specs.Values.{Piece}
+use Rattle.record_cache.specs.TrustRank.Values.{Piece}
 use Rattle.dns_message.specs.declared.reading.header.Header.{Header}
 
 -- the part of a request repeated in the answer: RFC 1035 4.1.1 and 4.1.2

@@ -12,8 +12,7 @@ use crate::fault::Fault;
 use crate::piece_with_ttl::with_stale_ttls;
 use crate::sections::Sections;
 use crate::text::{UDP_LIMIT, header_of, put_bare};
-use dns_message::MessageParts;
-use plain_values::Octets;
+use dns_message::{MessageParts, Octets};
 use record_cache::Held;
 use std::alloc::{AllocError, Allocator};
 

@@ -13,5 +13,6 @@ pub use asked::{Asked, AskedRef, Transport};
 pub use building::{build, build_local, build_stale, failure, put_failure};
 pub use fault::Fault;
 pub use piece_with_ttl::PieceWithTtl;
+pub use record_cache::Held;
 pub use sections::Sections;
 pub use text::UDP_LIMIT;

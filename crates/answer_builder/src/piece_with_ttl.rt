@@ -5,12 +5,11 @@ ghost use Rattle.std.specs.List.{AllByRecursion};
 ghost use Rattle.record_cache.specs.Ageing.{seconds_left};
 ghost use Rattle.answer_builder.specs.Answers.{with_ttl, with_stale_ttl, with_stale_ttls, IsEarlier};
 ghost use Rattle.answer_builder.specs.Building.{end_of};
-ghost use Rattle.plain_values.specs.Borrowed.{lent};
+ghost use Rattle.dns_message.specs.PlainValues.Borrowed.{lent};
 
-use record_cache::Held;
+use record_cache::{Held, Piece};
 use std::alloc::{AllocError, Allocator, Global};
 use std::marker::Model;
-use trust_rank::Piece;
 
 /// The TTL of a stale piece, in seconds (RFC 8767 4).
 const STALE: u32 = 30;

@@ -5,18 +5,17 @@ ghost use Rattle.std.specs.List.{flat_map, AllByRecursion};
 ghost use Rattle.std.specs.Option.{IfSome};
 ghost use Rattle.dns_message.specs.Borrowed.{data_of, records_in};
 ghost use Rattle.dns_message.specs.Data.{IsShaped};
-ghost use Rattle.trust_rank.specs.Values.{unboxed};
+ghost use Rattle.record_cache.specs.TrustRank.Values.{unboxed};
 ghost use Rattle.answer_builder.specs.Answers.{aged, answers_of, authority_of, rcode_of, record_of, with_ttl};
 ghost use Rattle.answer_builder.specs.Answers.{IsEarlier};
 ghost use Rattle.answer_builder.specs.Building.{listed};
-ghost use Rattle.plain_values.specs.Borrowed.{lent};
+ghost use Rattle.dns_message.specs.PlainValues.Borrowed.{lent};
 
 use crate::piece_with_ttl::PieceWithTtl;
 use dns_message::codes::NXDOMAIN;
 use dns_message::{DataRef, Record, RowsRef};
-use record_cache::Held;
+use record_cache::{Body, Held, Piece};
 use std::alloc::{AllocError, Allocator};
-use trust_rank::{Body, Piece};
 
 /// The records of a set; `None` for a denial.
 pub(crate) fn set_of<'a, A: Allocator>(pieces: &PieceWithTtl<'a, A>) -> Option<RowsRef<'a, A>>

@@ -9,7 +9,7 @@ ghost use Rattle.answer_builder.specs.Building.{ending};
 ghost use Rattle.answer_builder.specs.Faults.{Gives};
 ghost use Rattle.answer_builder.specs.Sets.{records_at};
 ghost use Rattle.answer_builder.specs.Transports.{text_of};
-ghost use Rattle.plain_values.specs.Borrowed.{lent};
+ghost use Rattle.dns_message.specs.PlainValues.Borrowed.{lent};
 
 use crate::asked::{AskedRef, Transport};
 use crate::fault::Fault;

@@ -1,4 +1,4 @@
--- What the definitions of a carried reply say of one name, and what the walk meets there.
+-- The definitions of a carried reply at a name, and the walk's finding there.
 use Rattle.std.proofs.Common.{◌≡◌, ℕ, true, false, ◌⊎◌, inl, inr, List, [], ◌∷◌, length, None, Some}
 use Rattle.std.proofs.Common.{refl, sym, ap, ◌∙◌, subst, arith}
 use Rattle.std.proofs.lemmas.Bool.{false≢true, both_ways, lt-ltb}
@@ -44,7 +44,7 @@ off_by_test r name differ isnt on = both_ways (is_on_route r name) isnt (tested_
 
 -- ---- the set of a type
 
--- the first record of a set, and where it belongs
+-- the first record of a set is for the set's question
 pub first_of : (r : Reply) (kind : ℕ) (name : List (List ℕ)) (p : Piece)
     (b : Begins (rank_at r name) r.route (records_for (at_name r kind name) r.answers) p)
     → IsRecordFor (question_at r kind name) r.answers b.first
@@ -57,7 +57,7 @@ own_set r kind name p e =
     begins (rank_at r name) r.route (records_for (at_name r kind name) r.answers) p e in
     subst (IsOfReply r) b.piece_is (record { name = refl; class = (first_of r kind name p b).class; route = refl })
 
--- each piece that is met is of the reply
+-- each found piece is of the reply
 pub each_of_reply : (r : Reply) → OfAll r (IsPieceOf r)
 each_of_reply r = record {
   sets = λ kind name p e. record {
@@ -93,7 +93,7 @@ set_at r kind name p e =
       body = refl;
     })
 
--- a record that fits, of which the first owner speaks
+-- a fitting record, implied by `FirstOwns`
 pub record IsThere (q : Question) (records : List Record) : Type 0 where
   pub s : Record
   pub fits : IsRecordFor q records s
@@ -114,7 +114,7 @@ is_there q (s ∷ records) owner (inr h) =
       };
     }
 
--- a piece of the reply that is the set of the type at the name is the one that is met
+-- the reply's piece for the set of the type at the name is found
 pub set_is : (r : Reply) (kind : ℕ) (name : List (List ℕ)) (p : Piece) → IsPieceOf r p → IsSetAt kind name p
     → answer_set r kind name ≡ Some p
 set_is r kind name p of_p at =
@@ -134,9 +134,9 @@ set_is r kind name p of_p at =
           of_p.ranked))
     ]) refl
 
--- ---- aliases that are two or lead nowhere
+-- ---- two aliases, or an alias without a target
 
--- the data of a set, for the question at its name
+-- the data of a set, for the question at the set's name
 pub record HasData (r : Reply) (kind : ℕ) (name : List (List ℕ)) (p : Piece) : Type 0 where
   pub each : List (List ℕ)
   pub body : p.body ≡ rows each

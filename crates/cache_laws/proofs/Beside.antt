@@ -1,4 +1,4 @@
--- The name servers beside the walk are those that the definitions allow, and no others are.
+-- The name servers next to the walk are exactly the servers allowed by the definitions.
 use Rattle.std.proofs.Common.{◌≡◌, ℕ, true, false, ◌⊎◌, inl, inr, List, [], ◌∷◌, ◌++◌, Some, refl, sym, ap}
 use Rattle.std.proofs.Common.{◌∙◌, subst}
 use Rattle.std.specs.Prelude.{not}
@@ -41,7 +41,7 @@ second_in p q [] h = absurd h
 second_in p q (x ∷ ps) (inl h) = inr h.1
 second_in p q (x ∷ ps) (inr h) = inr (second_in p q ps h)
 
--- ---- each set is one of name servers
+-- ---- each set is of name servers
 
 record IsServed (r : Reply) (p : Piece) : Type 0 where
   pub at : IsSetAt 2 p.owner p
@@ -81,9 +81,9 @@ all_served r carried (first ∷ others) = cond_both (begins_set r carried first)
     ))
     (λ _. all_served r (carried ++ []) others)
 
--- ---- they are in the order in which they begin
+-- ---- the sets are in the order of their first records
 
--- a record of this owner's name servers serves, as those of the set do
+-- a record of this owner's name servers serves like the set's records
 serves_alike : (r : Reply) (q : Piece) (s : Record) (records : List Record) → IsServed r q
     → IsRecordFor (servers_of r q) records s → Serves r s
 serves_alike r q s records served fits = serves_too r served.first s served.serves (record {
@@ -92,7 +92,7 @@ serves_alike r q s records served fits = serves_too r served.first s served.serv
   name = fits.name ∙ ap (λ (n : List (List ℕ)). lowered n) served.owner;
 })
 
--- the set that begins with the first record comes before each later one
+-- the set of the first record comes before each later set
 first_begins : (r : Reply) (carried : List Piece) (first : Record) (others : List Record) (p q : Piece)
     → begins_set r carried first ≡ true → p ≡ servers_with r first others → BeginsFirst r (first ∷ others) p q
 first_begins r carried first others p q begun is =
@@ -105,7 +105,7 @@ first_begins r carried first others p q begun is =
       name = sym (ap (λ (x : Piece). lowered x.owner) is);
     })
 
--- and its first record is not of a later one
+-- and its first record is not of a later set
 not_of_another : (r : Reply) (carried : List Piece) (first : Record) (others : List Record) (set q : Piece)
     → set.owner ≡ first.owner → IsOneOf q (servers_from r (carried ++ set ∷ []) others)
     → IsRecordFor (servers_of r q) (first ∷ others) first → ⊥
@@ -114,7 +114,7 @@ not_of_another r carried first others set q owner there fits =
     (servers_apart r (carried ++ set ∷ []) others).0 there set (behind set carried (set ∷ []) (inl refl))
     (ap lowered owner ∙ fits.name)
 
--- nor is a first record that begins no set
+-- nor is a first record beginning no set
 not_of_later : (r : Reply) (carried : List Piece) (first : Record) (others : List Record) (q : Piece)
     → begins_set r carried first ≡ false → IsOneOf q (servers_from r (carried ++ []) others)
     → IsRecordFor (servers_of r q) (first ∷ others) first → ⊥
@@ -151,7 +151,7 @@ in_order r carried (first ∷ others) p q h = cond_both (begins_set r carried fi
     ))
     h
 
--- ---- what the walk gives is allowed
+-- ---- the walk's sets are allowed
 
 set_allowed : (r : Reply) (pieces : List Piece) (p : Piece) → IsOneOf p (servers_from r pieces r.authority)
     → IsServerSet r pieces p
@@ -186,7 +186,7 @@ servers_allowed r pieces differ = record {
   in_order = in_order r pieces r.authority;
 }
 
--- ---- no others are
+-- ---- no other sets are allowed
 
 not_both_begin : (r : Reply) (records : List Record) (p q : Piece) → (IsSame p.owner q.owner → ⊥)
     → BeginsFirst r records p q → BeginsFirst r records q p → ⊥
@@ -200,7 +200,7 @@ once_owned : (ps : List Piece) → OwnersDiffer ps → NoneTwice ps
 once_owned [] h = tt
 once_owned (p ∷ ps) h = (λ there. h.0 p there refl, once_owned ps h.1)
 
--- two allowed sets of one owner are one
+-- two allowed sets of an owner are equal
 one_owned : (r : Reply) (pieces : List Piece) (p q : Piece) → IsServerSet r pieces p → IsServerSet r pieces q
     → IsSame p.owner q.owner → p ≡ q
 one_owned r pieces p q of_p of_q same = one_set r r.authority 2 q.owner p q of_p.set of_q.set
@@ -220,7 +220,7 @@ one_or_apart r pieces p q of_p of_q = elim (cases_Bool (same p.owner q.owner)) [
       })
 ]
 
--- a record of a set, which is to be carried
+-- a record of a set, to be carried
 record HasServer (r : Reply) (pieces : List Piece) (p : Piece) : Type 0 where
   pub s : Record
   pub owner : IsSame s.owner p.owner
@@ -250,7 +250,7 @@ has_server r pieces p of_p =
       };
     }
 
--- each set of the ones is one of the others
+-- each set of the first list is in the second
 among : (r : Reply) (pieces ones others : List Piece) (p : Piece) → AreServers r pieces ones
     → AreServers r pieces others → IsOneOf p ones → IsOneOf p others
 among r pieces ones others p of_ones of_others there =

@@ -1,4 +1,4 @@
--- What the walk gives is what a reply carries, and nothing else is.
+-- The walk's pieces are exactly the pieces carried by the reply.
 use Rattle.std.proofs.Common.{◌≡◌, ◌≢◌, ℕ, Bool, true, false, cond, inl, inr, List, [], refl, sym, ap, ◌∙◌, subst}
 use Rattle.std.specs.Prelude.{◌&&◌, not}
 use Rattle.std.proofs.lemmas.Bool.{cond_both, cond-true, cases_Bool, false≢true, and_parts}
@@ -16,7 +16,7 @@ use Rattle.cache_laws.proofs.WalkIs.{walk_is}
 use Rattle.cache_laws.proofs.WalkOnly.{own_walk_only}
 use Rattle.cache_laws.proofs.Beside.{servers_allowed, servers_only}
 
--- a lame walk has no name servers beside it
+-- a lame walk has no name servers next to it
 lame_has_none : (r : Reply) → (own_walk r).end ≡ lame → (with_servers r (own_walk r)).authority ≡ []
 lame_has_none r is = let w : Walk = own_walk r in
     cond_both (carries_servers r w.end) (beside r w) w (λ (x : Walk). x.authority ≡ [])
@@ -42,7 +42,7 @@ is_carried c m q route differ =
       none_if_lame = λ is. lame_has_none r (sym (same_end r w) ∙ is);
     }
 
--- the walk with the name servers that are allowed beside it
+-- the walk with the allowed name servers next to it
 servers_beside : (c : Config) (m : Message) (q : Question) (route : ℕ) (pieces servers : List Piece) (end : End)
     → AllDiffer c.routes → IsCarriedBy c m q route pieces servers end
     → with_servers (reply_of c m q route) (ending pieces end)

@@ -1,4 +1,4 @@
--- A walk ends with a name error exactly where the aliases lead to a denied name.
+-- A walk ends with a name error exactly if the aliases lead to a denied name.
 use Rattle.std.proofs.Common.{◌≡◌, ◌≢◌, ℕ, zero, suc, ◌<◌, Bool, true, false, cond, List, [], ◌∷◌, Option, None, Some}
 use Rattle.std.proofs.Common.{inl, inr, refl, sym, ap, ◌∙◌, subst, arith}
 use Rattle.std.specs.Prelude.{◌==◌, ◌&&◌, not, is_none}
@@ -56,7 +56,8 @@ no_set r kind name none = let q : Question = at_name r kind name in
           absurd (none first (for_is q r.answers first (subst (IsOneOf first) (sym is) (inl refl))))
     ]) refl
 
--- with no alias that counts, there is none: a question for CNAME has no set there either
+-- without an alias to follow there is no set of type CNAME: a question for CNAME has no set here
+-- either
 pub no_alias : (r : Reply) (name : List (List ℕ)) → answer_set r r.question.kind name ≡ None → alias_set r name ≡ None
     → LacksAt r 5 name
 no_alias r name set alias = (elim (r.question.kind == 5) as
@@ -73,7 +74,7 @@ other_type r name p e same = absurd (no (r.question.kind == 5) (eq-eqb r.questio
     no true t e = absurd (cc)
     no false t e = false≢true t
 
--- ---- what is met
+-- ---- the finding
 
 set_is_no_error : (b : Bool) (p q : Piece) → cond b met_lame (met_set p) ≡ met_name_error q → ⊥
 set_is_no_error true p q e = absurd (cc)
@@ -122,7 +123,7 @@ denial_is_no_alias r is_first name lacks_soa p target e =
       | false ↦ λ met. other_is_no_alias r name (lacks_soa && not is_first) (lacks_soa && is_referral r) p target met
     ]) e
 
--- the findings at a name where a name error is met
+-- the findings at a name with a name error
 record MetError (r : Reply) (on : Bool) (set alias : Option Piece) : Type 0 where
   pub on_is : on ≡ true
   pub set_is : set ≡ None
@@ -140,7 +141,7 @@ error_parts r is_first name lacks_soa p true None (Some a) e = absurd (lead_is_n
 error_parts r is_first name lacks_soa p true None None e =
     record { on_is = refl; set_is = refl; alias_is = refl; rcode = rcode_is r is_first name lacks_soa p e }
 
--- and where an alias is met
+-- the findings at a name with an alias to follow
 record MetAlias (target : List (List ℕ)) (on : Bool) (set alias : Option Piece) (p : Piece) : Type 0 where
   pub on_is : on ≡ true
   pub set_is : set ≡ None
@@ -185,7 +186,7 @@ denied_at r is_first name p e =
       };
     }
 
--- data that leads somewhere is that of one record
+-- data with a target is the data of a single record
 record Leads (each : List (List ℕ)) (target : List (List ℕ)) : Type 0 where
   pub datum : List ℕ
   pub each_is : each ≡ datum ∷ []
@@ -229,7 +230,7 @@ alias_at r is_first name target p e =
 
 -- ---- the walk ends so only there
 
--- fewer than `left` aliases lead from a name to a denied one
+-- fewer than `left` aliases lead from a name to a denied name
 record Denies (r : Reply) (left : ℕ) (name : List (List ℕ)) : Type 0 where
   pub count : ℕ
   pub last : List (List ℕ)
@@ -271,9 +272,9 @@ walk_denied r zero is_first name e = absurd (cc)
 walk_denied r (suc left) is_first name e = go_denied r left is_first name (λ target. walk_from r left false target)
     (met_at r is_first name) refl (λ target t. walk_denied r left false target t) e
 
--- ---- and there it does
+-- ---- the denial is found at such a name
 
--- where neither the asked set nor an alias is at a name on the route, its denial is met
+-- at a name on the route with neither the asked set nor an alias, the name's denial is found
 pub denial_is_met : (r : Reply) (is_first : Bool) (name : List (List ℕ))
     → route_of r.config.routes name ≡ Some r.route → HasNothingAt r name
     → met_at r is_first name ≡ denial_at r is_first name
@@ -296,7 +297,7 @@ error_met r is_first name d =
     denial_is_met r is_first name d.on_route d.nothing
     ∙ cond-true (r.rcode == 3) (met_name_error (name_error_at r name)) _ (eq-eqb r.rcode 3 d.rcode)
 
--- a list of one datum, and no other
+-- a list of exactly one datum
 one_list : (each : List (List ℕ)) (datum : List ℕ) → ((x : List ℕ) → IsOneOf x each → x ≡ datum) → NoneTwice each
     → IsOneOf datum each → each ≡ datum ∷ []
 one_list [] datum all once there = absurd there
@@ -304,7 +305,7 @@ one_list (x ∷ []) datum all once there = ap (λ (y : List ℕ). y ∷ []) (all
 one_list (x ∷ y ∷ more) datum all once there =
     absurd (once.0 (inl (all x (inl refl) ∙ sym (all y (inr (inl refl))))))
 
--- the data of one question are one list, where that is of one datum
+-- lists of a question's data are equal, if one has a single datum
 same_data : (q : Question) (records : List Record) (each : List (List ℕ)) (datum : List ℕ) → AreDataOf q records each
     → AreDataOf q records (datum ∷ []) → each ≡ datum ∷ []
 same_data q records each datum a b =
@@ -312,7 +313,7 @@ same_data q records each datum a b =
     (λ x there. let d = a.only x there in sym d.datum_is ∙ only_one d.r.rdata datum (b.whole d.r d.fits)) a.once
     (let d = b.only datum (inl refl) in subst (λ (x : List ℕ). IsOneOf x each) d.datum_is (a.whole d.r d.fits))
 
--- the alias piece of a name that has one
+-- the alias piece of a name with an alias
 pub record HasAlias (r : Reply) (name target : List (List ℕ)) : Type 0 where
   pub alias : Piece
   pub there : answer_set r 5 name ≡ Some alias

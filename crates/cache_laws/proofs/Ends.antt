@@ -1,5 +1,5 @@
--- A walk ends with NODATA exactly where the aliases lead to a name with an SOA, or the asked name
--- has none and the reply does not refer on.
+-- A walk ends with NODATA exactly if the bare name at the aliases' end has an SOA, or is the asked
+-- name in a reply without referral.
 use Rattle.std.proofs.Common.{◌≡◌, ℕ, zero, suc, ◌<◌, Bool, true, false, cond, ◌⊎◌, inl, inr, List, [], ◌∷◌}
 use Rattle.std.proofs.Common.{Option, None, Some, refl, sym, ap, ◌∙◌, subst, arith}
 use Rattle.std.specs.Prelude.{◌==◌, ◌&&◌, ◌||◌, not, is_none}
@@ -114,9 +114,9 @@ not_referral r none = elim (cases_Bool (is_referral r)) [
   | inr other ↦ other
 ]
 
--- ---- what is met at a bare name
+-- ---- the finding at a bare name
 
--- by whether it lacks an SOA, is the asked name, and is in a referral
+-- by whether the name lacks an SOA, is the asked name, and is in a referral
 abbrev pub bare_by : Reply → List (List ℕ) → Bool → Bool → Bool → AtName
 bare_by r name soa is_first referral =
     cond (soa && not is_first) met_nothing (cond (soa && referral) met_lame (met_no_data (no_data_at r name)))
@@ -127,7 +127,7 @@ bare_met r is_first name b =
     denial_is_met r is_first name b.on_route b.nothing
     ∙ cond-false (r.rcode == 3) (met_name_error (name_error_at r name)) _ (ne_eqb r.rcode 3 b.other)
 
--- ---- the walk ends as at the name that aliases lead to
+-- ---- the walk ends as at the name at the aliases' end
 
 pub lame_is : (end : End) → is_lame end ≡ true → end ≡ lame
 lame_is found e = absurd (false≢true e)
@@ -140,7 +140,7 @@ end_behind : (p : Piece) (w : Walk) → (with_alias p w).end ≡ w.end
 end_behind p w = cond_both (is_lame w.end) lame_walk (led_by p w) (λ (x : Walk). x.end ≡ w.end)
     (λ is. sym (lame_is w.end is)) (λ _. refl)
 
--- a name is the first only where no alias was taken
+-- a name is the first only without an alias taken
 abbrev stays_first : Bool → ℕ → Bool
 stays_first is_first zero = is_first
 stays_first is_first (suc count) = false
@@ -166,7 +166,7 @@ ends_at r end (suc left) (suc count) is_first name last few lead h =
     ∙ ends_at r end left count false lead.0 last (omega (arith, few)) lead.2
     (λ rest. subst (λ (b : Bool). (go_on rest last (met_at r b last)).end ≡ end) (sym (never_first count)) (h rest))
 
--- it ends as what is met there says
+-- the walk ends as given by the finding
 bare_end : (r : Reply) (end : End) (count : ℕ) (last : List (List ℕ)) → LeadsToBare r count last
     → ((rest : List (List ℕ) → Walk)
     → (go_on rest last (bare_by r last (lacks_soa r last) (stays_first true count) (is_referral r))).end ≡ end)
@@ -176,7 +176,7 @@ bare_end r end count last h is =
     (λ rest. ap (λ (met : AtName). (go_on rest last met).end) (bare_met r (stays_first true count) last h.bare)
     ∙ is rest)
 
--- ---- it ends so only there
+-- ---- the walk ends with NODATA only at such a name
 
 set_is_no_data : (b : Bool) (p q : Piece) → cond b met_lame (met_set p) ≡ met_no_data q → ⊥
 set_is_no_data true p q e = absurd (cc)
@@ -196,7 +196,7 @@ denial_parts x y p false true false referral e = absurd (cc)
 denial_parts x y p false true true true e = absurd (cc)
 denial_parts x y p false true true false e = (refl, inr (refl, refl))
 
--- the findings at a name where NODATA is met
+-- the findings at a name with NODATA
 record MetNoData (r : Reply) (is_first : Bool) (name : List (List ℕ)) (on : Bool) (set alias : Option Piece)
     : Type 0 where
   pub on_is : on ≡ true
@@ -224,7 +224,8 @@ no_data_met : (r : Reply) (is_first : Bool) (name : List (List ℕ)) (p : Piece)
 no_data_met r is_first name p e =
     no_data_parts r is_first name p (is_on_route r name) (answer_set r r.question.kind name) (alias_set r name) e
 
--- fewer than `left` aliases lead from a name, which may be the asked one, to one without data
+-- fewer than `left` aliases lead from a name, the asked name or a later name, to a name without
+-- data
 record Lacking (r : Reply) (left : ℕ) (is_first : Bool) (name : List (List ℕ)) : Type 0 where
   pub count : ℕ
   pub last : List (List ℕ)

@@ -1,4 +1,4 @@
--- The SOA that a denial holds, and its lifetime by it.
+-- The SOA of a denial, and the denial's lifetime.
 use Rattle.std.proofs.Common.{◌≡◌, ℕ, ◌+◌, ◌-◌, true, false, cond, ◌⊎◌, inl, inr, List, [], ◌∷◌, ◌++◌, length}
 use Rattle.std.proofs.Common.{Option, None, Some, refl, sym, ap, ◌∙◌, subst, arith}
 use Rattle.std.specs.Prelude.{◌==◌, ◌&&◌, min, slice_index}
@@ -17,7 +17,7 @@ use Rattle.cache_laws.specs.Lifetimes.{DenialsLiveByTheirSoa}
 use Rattle.cache_laws.proofs.Sets.{Begins, begins, min_is_one, one_seconds}
 use Rattle.cache_laws.proofs.Walks.{OfAll, each_piece}
 
--- ---- the first SOA that fits
+-- ---- the first fitting SOA
 
 pub soa_of_test : (class : ℕ) (name : List (List ℕ)) (s : Record) → is_soa_for name class s ≡ true
     → IsSoaFor class name s

@@ -1,4 +1,4 @@
--- The items of lists that are put together.
+-- The items of joined lists.
 use Rattle.std.proofs.Common.{◌≡◌, ◌⊎◌, inl, inr, List, [], ◌∷◌, ◌++◌, sym}
 use Rattle.cache_laws.specs.Lists.{IsOneOf, NoneTwice, IsBefore}
 
@@ -19,12 +19,12 @@ one_of_both x (z ∷ xs) ys (inr h) = elim (one_of_both x xs ys h) [
   | inr second ↦ inr second
 ]
 
--- one of a list of one
+-- the item of a list of one
 pub only_one : {X : Type 0} (x y : X) → IsOneOf x (y ∷ []) → x ≡ y
 only_one x y (inl e) = e
 only_one x y (inr none) = absurd none
 
--- a new one at the end
+-- a new item at the end
 pub once_more : {X : Type 0} (xs : List X) (y : X) → NoneTwice xs → (IsOneOf y xs → ⊥) → NoneTwice (xs ++ y ∷ [])
 once_more [] y once new = (λ none. none, tt)
 once_more (x ∷ xs) y once new = (
@@ -35,7 +35,7 @@ once_more (x ∷ xs) y once new = (
   once_more xs y once.1 (λ there. new (inr there)),
 )
 
--- one before another in a list with a new last one: both are old, or the second is the last
+-- x comes before y in a list with a new last item: both are old, or y is the last
 pub before_last : {X : Type 0} (x y z : X) (xs : List X) → IsBefore x y (xs ++ z ∷ [])
     → IsBefore x y xs ⊎ (IsOneOf x xs × (y ≡ z))
 before_last x y z [] (inl h) = absurd h.1

@@ -29,7 +29,7 @@ use Rattle.negative_cache.specs.Laws.{IsTyped}
 use Rattle.cache_laws.specs.LookUps.{IsLivingOf, IsNameError, IsAskedSet, IsAskedAlias, IsAskedNoData, HasNone}
 use Rattle.cache_laws.specs.LookUps.{FindsInOrder, LookUpsFindInOrder}
 
--- ---- what a test finds
+-- ---- items found by a test
 
 found_one : (p : Held → Bool) (es : List Held) (h : Held) → find p es ≡ Some h → Among h es × (p h ≡ true)
 found_one p [] h is = absurd (cc)
@@ -69,7 +69,7 @@ passes_there p (e ∷ es) h (inr rest) passes =
     cond_both (p e) (e ∷ filter p es) (filter p es) (Among h) (λ _. inr (passes_there p es h rest passes))
     (λ _. passes_there p es h rest passes)
 
--- ---- one entry of each slot
+-- ---- a single entry of each slot
 
 record Typed (q : Question) (kind : ℕ) (slot : Slot) : Type 0 where
   pub name : IsSame q.name slot.key
@@ -124,7 +124,7 @@ apart (e ∷ es) a b all (inr in_a) (inl b_is) ab ba =
     (all_among (λ (x : Held). of_slot e.piece.slot x ≡ false) es a all.0 in_a)) ba)
 apart (e ∷ es) a b all (inr in_a) (inr in_b) ab ba = apart es a b all.1 in_a in_b ab ba
 
--- two entries of one type are one
+-- two entries of a type are equal
 record Kept (entries : List Held) : Type 0 where
   pub apart_are : AreApart entries
   pub formed : AllByRecursion (λ (h : Held). IsPiece h.piece) entries
@@ -137,7 +137,7 @@ only_entry entries q kind a b kept in_a in_b s t =
     apart entries a b kept.apart_are in_a in_b (one_slot q kind a b is_a is_b (typed q kind a s) (typed q kind b t))
     (one_slot q kind b a is_b is_a (typed q kind b t) (typed q kind a s))
 
--- ---- living entries of a type that pass a test
+-- ---- living entries of a type passing a test
 
 abbrev living_of : ℕ → Question → ℕ → (Held → Bool) → Held → Bool
 living_of moment q kind test h = is_of_type q kind h && (is_alive moment h && test h)
@@ -184,7 +184,7 @@ none_found moment entries q kind test none = (elim (find (living_of moment q kin
       | Some other ↦ λ is. absurd (none other (passes moment entries q kind test other is))
     ]) refl
 
--- ---- what a living entry is
+-- ---- properties of a living entry
 
 less : (a b : ℕ) → nat_lt a b ≡ true → a < b
 less a b h = grind (arith, nat_tests)

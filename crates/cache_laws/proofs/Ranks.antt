@@ -19,7 +19,7 @@ use Rattle.cache_laws.proofs.Walks.{OfAll, own_walk, own_walk_is_plain, each_pie
 abbrev rank_by : Bool → ℕ
 rank_by b = if b then 3 else 1
 
--- the rank of a piece whose owner is the name, letter case aside
+-- the rank of a piece owned by the name, letter case aside
 ranked : (is_authoritative : Bool) (asked name owner : List (List ℕ)) → IsSame owner name
     → IsRanked is_authoritative asked owner (rank_by (is_authoritative && same name asked))
 ranked is_authoritative asked name owner at = record {

@@ -1,4 +1,4 @@
--- The test by which a piece takes the place of another one, and what it says.
+-- The test by which a piece replaces a piece, and its meaning.
 use Rattle.std.proofs.Common.{◌≡◌, ◌≢◌, ℕ, Bool, true, false, inl, inr, Option, None, Some, refl, sym, ap, ◌∙◌}
 use Rattle.std.specs.Prelude.{◌==◌, ◌&&◌, ◌||◌, nat_le, not, is_none}
 use Rattle.std.proofs.lemmas.Bool.{cond-true, cond-false, cases_Bool, false≢true, and_parts, and_from, or_left}
@@ -85,7 +85,7 @@ shows_test q p h =
 
 -- ---- the test
 
--- for a name error, and for all others
+-- for a name error, and for any other piece
 of_error : (q p : Piece) → p.slot.kind ≡ None → (same_slot q.slot p.slot || shows_name q p) ≡ true → Replaces q p
 of_error q p whole e = elim (cases_Bool (same_slot q.slot p.slot)) [
   | inl is ↦ inr (inl (record { whole = whole; slot = one_slot q.slot p.slot is }))

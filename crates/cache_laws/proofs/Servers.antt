@@ -1,4 +1,4 @@
--- All name servers that fit are carried, in whole sets.
+-- All fitting name servers are carried, in whole sets.
 use Rattle.std.proofs.Common.{◌≡◌, ◌≢◌, ℕ, Bool, true, false, ◌⊎◌, inl, inr, List, [], ◌∷◌, ◌++◌, refl}
 use Rattle.std.proofs.Common.{sym, ap, ◌∙◌, subst, append_assoc, append-nil}
 use Rattle.std.specs.Prelude.{◌==◌, ◌&&◌, ◌||◌, not}
@@ -47,7 +47,7 @@ none_owns name (x ∷ pieces) h =
     ])
     (none_owns name pieces (λ p there. h p (inr there)))
 
--- ---- what fits
+-- ---- fitting records
 
 pub record Serves (r : Reply) (s : Record) : Type 0 where
   pub kind : s.kind ≡ 2
@@ -78,7 +78,7 @@ is_server r s h =
     (eq-eqb s.class r.question.class h.class)) h.above)
     h.on_route
 
--- of two servers with one owner each belongs to the set of the other
+-- two servers of an owner belong to each other's set
 is_of_one : (r : Reply) (first s : Record) → Serves r first → Serves r s → IsSame s.owner first.owner
     → is_of (question_for first) s ≡ true
 is_of_one r first s f h owner =
@@ -87,7 +87,7 @@ is_of_one r first s f h owner =
     (eq-eqb s.class first.class (h.class ∙ sym f.class)))
     ((same_decides s.owner first.owner).1 owner)
 
--- ---- each that fits is carried
+-- ---- each fitting record is carried
 
 first_of_own : (first : Record) → is_of (question_for first) first ≡ true
 first_of_own first =
@@ -96,13 +96,13 @@ first_of_own first =
     (eq-eqb first.class first.class refl))
     ((same_decides first.owner first.owner).1 refl)
 
--- the records for a record's own question, from it on
+-- the records for a record's own question, from this record on
 own_records : (first : Record) (others : List Record)
     → records_for (question_for first) (first ∷ others) ≡ first ∷ records_for (question_for first) others
 own_records first others = cond-true (is_of (question_for first) first)
     (first ∷ records_for (question_for first) others) (records_for (question_for first) others) (first_of_own first)
 
--- a record from the first on, of its question, is in the set that begins with it
+-- a record of the first record's question, from the first on, is in the first record's set
 in_set : (r : Reply) (first : Record) (others : List Record) (s : Record) → IsOneOf s (first ∷ others)
     → is_of (question_for first) s ≡ true → IsSame first.owner s.owner
     → IsCarriedIn (servers_with r first others ∷ []) s
@@ -145,7 +145,7 @@ and_one true true t f = sym f
 and_one true false t f = refl
 and_one false b t f = absurd (false≢true t)
 
--- what was put for the first record, where it has the owner of another
+-- the set added for the first record carries each fitting record of its owner
 put_one : (r : Reply) (carried : List Piece) (first : Record) (others : List Record) (s : Record)
     → IsOneOf s (first ∷ others) → Serves r s → list_any (has_owner s.owner) (servers_at r carried first others) ≡ true
     → IsCarriedIn (servers_at r carried first others) s
@@ -271,11 +271,11 @@ pub has_one : (a b : List (List ℕ)) (pieces : List Piece) → IsSame a b
 has_one a b [] is = refl
 has_one a b (p ∷ pieces) is = λ i. same_respects p.owner p.owner a b refl is i || has_one a b pieces is i
 
--- each record before that fits has a piece of its owner
+-- each earlier fitting record has a piece of its owner
 abbrev AllSeen : Reply → List Piece → List Record → Type 0
 AllSeen r carried front = (s : Record) → IsOneOf s front → Serves r s → list_any (has_owner s.owner) carried ≡ true
 
--- a record of the slot of one that fits does, too
+-- a record of a fitting record's slot fits, too
 pub serves_too : (r : Reply) (first s : Record) → Serves r first → Slotted (question_for first) s → Serves r s
 serves_too r first s f at = record {
   kind = at.kind ∙ f.kind;
@@ -350,7 +350,7 @@ whole_sets r carried front (first ∷ others) whole is seen =
     (whole_sets r (carried ++ put) (front ++ first ∷ []) others whole (append_assoc front (first ∷ []) others ∙ is)
     (seen_more r carried front first others seen))
 
--- the sets of name servers that go with these pieces
+-- the sets of name servers next to these pieces
 pub servers_whole : (r : Reply) (pieces : List Piece)
     → AllByRecursion (IsSetFrom r.authority) (servers_from r pieces r.authority)
 servers_whole r pieces = whole_sets r pieces [] r.authority r.authority refl (λ s there _. absurd there)
@@ -373,14 +373,14 @@ not_is : (b : Bool) → not b ≡ true → b ≡ false
 not_is true e = sym e
 not_is false e = refl
 
--- the other way round
+-- inequality of names, reversed
 not_same : (x y : List (List ℕ)) → same x y ≡ false → same y x ≡ false
 not_same x y e = elim (cases_Bool (same y x)) [
   | inl is ↦ absurd (both_ways (same x y) e ((same_decides x y).1 (sym ((same_decides y x).0 is))))
   | inr other ↦ other
 ]
 
--- pieces that nothing of two lists owns are owned by nothing of either
+-- pieces sharing no owner with a joined list share none with either list
 no_owner : (old put pieces : List Piece) → AllByRecursion (NotOwned (old ++ put)) pieces
     → AllByRecursion (NotOwned old) pieces × AllByRecursion (NotOwned put) pieces
 unfolding NotOwned
@@ -391,7 +391,7 @@ no_owner old put (p ∷ pieces) all =
     (sym (list_any-append (has_owner p.owner) old put) ∙ all.0) in
     ((both.0, rest.0), (both.1, rest.1))
 
--- and such as one alone does not own have other owners
+-- and no piece has p's owner if none shares an owner with the list of p
 other_owners : (p : Piece) (pieces : List Piece) → AllByRecursion (NotOwned (p ∷ [])) pieces
     → list_any (has_owner p.owner) pieces ≡ false
 unfolding NotOwned
@@ -408,7 +408,7 @@ Differ (p ∷ pieces) = (list_any (has_owner p.owner) pieces ≡ false) × Diffe
 AreApart : List Piece → List Piece → Type 0
 AreApart carried sets = AllByRecursion (NotOwned carried) sets × Differ sets
 
--- what was put for a record, before others that are apart from it
+-- the set added for a record, put before sets apart from it
 put_apart : (r : Reply) (carried : List Piece) (first : Record) (others : List Record) (more : List Piece)
     → AreApart (carried ++ servers_at r carried first others) more
     → AreApart carried (servers_at r carried first others ++ more)

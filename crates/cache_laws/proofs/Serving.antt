@@ -1,4 +1,4 @@
--- The route that serves or denies a name, and what it is.
+-- The route serving or denying a name.
 use Rattle.std.proofs.Common.{◌≡◌, ℕ, true, false, List, inl, inr, Option, Some, None, refl, sym, ap, ◌∙◌, subst}
 use Rattle.std.proofs.lemmas.Bool.{cond-false, cases_Bool, false≢true}
 use Rattle.suffix_routes.specs.Values.{Config, AllDiffer}
@@ -30,7 +30,7 @@ serves c name place differ h =
 pub serves_exactly : ServesExactly
 serves_exactly = record { only = served_is; each = serves }
 
--- ---- names that are denied
+-- ---- denied names
 
 denied_is : (c : Config) (name : List (List ℕ)) → is_local c name ≡ true → IsDenied c name
 denied_is c name e = by (route_of c.routes name) refl e

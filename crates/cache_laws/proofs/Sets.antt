@@ -19,7 +19,7 @@ use Rattle.cache_laws.specs.Sets.{IsRecordFor, AreDataOf, ComesFirst, AreInOrder
 use Rattle.cache_laws.specs.Sets.{IsLowestTtl, IsSetFrom, TopBitIsNone}
 use Rattle.cache_laws.proofs.Lists.{before, behind, one_of_both, only_one, once_more, before_last}
 
--- ---- data that is already there is left out
+-- ---- repeated data is left out
 
 is_there : (octets : List ℕ) (kept : List (List ℕ)) → list_any (same_octets octets) kept ≡ true → IsOneOf octets kept
 is_there octets [] e = absurd (false≢true e)
@@ -281,7 +281,7 @@ top_bit_is_none ttl = record {
   clear = λ short. cond-false (nat_le (2 ^ 31) ttl) 0 ttl (grind (arith, nat_tests, short));
 }
 
--- there are no others
+-- the TTL's seconds are unique
 pub one_seconds : (ttl seconds : ℕ) → AreSeconds ttl seconds → seconds ≡ seconds_of ttl
 one_seconds ttl seconds are = elim (cases_lt ttl (2 ^ 31)) [
   | inl short ↦ are.clear short ∙ sym ((top_bit_is_none ttl).clear short)
@@ -348,7 +348,7 @@ life_of_set q records first others is =
       one = one;
     }
 
--- ---- a set of one question is that of its own slot
+-- ---- a set for a question is the set for its own slot
 
 -- the question for a record
 abbrev pub question_for : Record → Question
@@ -418,7 +418,7 @@ some_is a b e = cc
 rows_are : (a b : List (List ℕ)) → rows a ≡ rows b → a ≡ b
 rows_are a b e = cc
 
--- the set that begins with a record of the question is the section's
+-- the set beginning with a record of the question is the section's set
 pub set_from : (q : Question) (rank route : ℕ) (records : List Record) (first : Record) (others : List Record)
     → records_for q records ≡ first ∷ others → IsSetFrom records (set_with rank route first others)
 set_from q rank route records first others is =
@@ -448,7 +448,7 @@ set_from q rank route records first others is =
           (life_of_set q records first others is));
     }
 
--- a set of records, as its first and the others
+-- a set of records: the first and the rest
 pub record Begins (rank route : ℕ) (records : List Record) (p : Piece) : Type 0 where
   pub first : Record
   pub others : List Record

@@ -1,4 +1,4 @@
--- Two pieces of which the same is said are one.
+-- Two pieces are equal if the definitions say the same of both.
 use Rattle.std.proofs.Common.{◌≡◌, ◌≢◌, ℕ, ◌≤◌, Bool, ◌⊎◌, inl, inr, List, [], ◌∷◌, ◌++◌, length, Option}
 use Rattle.std.proofs.Common.{None, Some, refl, sym, ap, ◌∙◌, subst, arith}
 use Rattle.std.specs.Prelude.{◌==◌}
@@ -20,9 +20,9 @@ use Rattle.cache_laws.specs.Lifetimes.{IsFirstSoa, IsLeastOf, LivesBy, HoldsSoa}
 use Rattle.cache_laws.specs.Carried.{IsOfReply, IsSetAt}
 use Rattle.cache_laws.proofs.Sets.{top_bit_is_none}
 
--- ---- lists of the same items in one order
+-- ---- lists of equal items in a single order
 
--- two items differ, and do not each come before the other
+-- two items differ, and do not come before each other
 pub record AreApart {X : Type 0} (comes : X → X → Type 0) (x y : X) : Type 0 where
   pub differ : x ≡ y → ⊥
   pub never : comes x y → comes y x → ⊥
@@ -41,7 +41,8 @@ other_than : {X : Type 0} (x y : X) (xs : List X) → (x ≡ y → ⊥) → IsOn
 other_than x y xs differ (inl is) = absurd (differ is)
 other_than x y xs differ (inr rest) = rest
 
--- an item of the rest of a list is in the rest of the other, where the first items are one
+-- an item of the first rest and of the second list is in the second rest, if the first items are
+-- equal
 in_rest : {X : Type 0} (x y z : X) (xs ys : List X) → x ≡ y → NoneTwice (x ∷ xs) → IsOneOf z xs → IsOneOf z (y ∷ ys)
     → IsOneOf z ys
 in_rest x y z xs ys is once there (inl one) = absurd (once.0 (subst (λ w. IsOneOf w xs) (one ∙ sym is) there))
@@ -66,7 +67,7 @@ one_list comes (x ∷ xs) (y ∷ ys) h = elim (h.decide x y (inl refl) (inl refl
       (h.second_in_order y x (inl (refl, other_than x y ys apart.differ (h.to x (inl refl))))))
 ]
 
--- ---- sets of questions that are alike
+-- ---- sets of alike questions
 
 -- questions of equal type, class and name, letter case aside
 pub record AreAlike (q p : Question) : Type 0 where
@@ -128,7 +129,7 @@ one_or_apart q records x y = elim (cases_Bool (same_octets x y)) [
       inr (record { differ = differ; never = λ h k. not_both_first q records x y differ h k })
 ]
 
--- each row of the one is a row of the other
+-- each row of a is a row of b
 rows_among : (q p : Question) (records : List Record) (a b : List (List ℕ)) (x : List ℕ) → AreAlike q p
     → AreDataOf q records a → AreDataOf p records b → IsOneOf x a → IsOneOf x b
 rows_among q p records a b x alike of_a of_b there = let d = of_a.only x there in
@@ -171,7 +172,7 @@ one_piece a b h = λ i. record {
 one_key : (r : Reply) (a b : Piece) → IsOfReply r a → IsOfReply r b → a.owner ≡ b.owner → a.slot.key ≡ b.slot.key
 one_key r a b of_a of_b owner = of_a.name ∙ ap lowered owner ∙ sym of_b.name
 
--- two sets of one name and type are one, where their ranks are equal once they have one owner
+-- two sets of a name and type are equal, if with equal owners their ranks are equal
 pub one_set : (r : Reply) (records : List Record) (kind : ℕ) (name : List (List ℕ)) (a b : Piece)
     → IsSetFrom records a → IsSetFrom records b → IsSetAt kind name a → IsSetAt kind name b → IsOfReply r a
     → IsOfReply r b → (a.owner ≡ b.owner → a.rank ≡ b.rank) → a ≡ b
@@ -279,7 +280,7 @@ one_lifetime (Some soa) a b has h k =
     let of_b = k f.front f.a f.b f.c f.d seconds f.parts (top_bit_is_none soa.ttl) in
     omega (arith, no_more seconds _ a b of_a of_b, no_more seconds _ b a of_b of_a)
 
--- two denials of one name with these SOAs in bodies of one form
+-- two denials of a name with these SOAs in bodies of a single form
 pub record AreDenials (r : Reply) (a b : Piece) : Type 0 where
   pub form : Option Record → Body
   pub first : Option Record

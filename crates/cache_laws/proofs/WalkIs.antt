@@ -1,4 +1,4 @@
--- The walk of a reply is one that the definitions allow.
+-- The walk of a reply is allowed by the definitions.
 use Rattle.std.proofs.Common.{◌≡◌, ℕ, zero, suc, ◌+◌, ◌<◌, Bool, true, false, cond, inl, inr, List, []}
 use Rattle.std.proofs.Common.{◌∷◌, ◌++◌, length, Option, None, Some, refl, ap, subst, arith}
 use Rattle.std.specs.Prelude.{◌==◌, ◌&&◌, not}
@@ -18,7 +18,7 @@ use Rattle.cache_laws.proofs.Denials.{lacks, no_alias, other_type, alias_at}
 use Rattle.cache_laws.proofs.Ends.{lacks_soa, soa_is_there, has_soa, refers, is_a_referral}
 use Rattle.cache_laws.proofs.AtNames.{on_by_test, off_by_test, set_at, are_two, have_many, lost_way}
 
--- the walk goes on from a name to which `count` aliases led
+-- the walk goes on from a name after `count` aliases
 pub record GoesFrom (r : Reply) (count : ℕ) (name : List (List ℕ)) (pieces : List Piece) (end : End) : Type 0 where
   pub targets : List (List (List ℕ))
   pub last : List (List ℕ)
@@ -29,7 +29,7 @@ pub record GoesFrom (r : Reply) (count : ℕ) (name : List (List ℕ)) (pieces :
   pub are : AreAliases name targets aliases
   pub ends : EndsSo r (count + length targets) last closing end
 
--- it is lame there or further on
+-- the walk is lame here or further on
 pub record LameFrom (r : Reply) (count : ℕ) (name : List (List ℕ)) : Type 0 where
   pub targets : List (List (List ℕ))
   pub last : List (List ℕ)
@@ -131,7 +131,7 @@ behind_walk r count name p w = by (is_lame w.end)
     by true g = g
     by false g = g
 
--- ---- what is met at a name
+-- ---- the finding at a name
 
 set_here : (r : Reply) (count : ℕ) (name : List (List ℕ)) (p : Piece) (rest : List (List ℕ) → Walk) (many : Bool)
     → count < 8 → IsOnRoute r name → answer_set r r.question.kind name ≡ Some p
@@ -255,7 +255,7 @@ denial_here r zero name rest false true false few on nothing three soa refers_on
       };
     })
 
--- what is met at a name, and the walk with_alias it
+-- a finding at a name, and the walk with the finding
 met_here : (r : Reply) (count : ℕ) (name : List (List ℕ)) (rest : List (List ℕ) → Walk) (on : Bool)
     (set alias : Option Piece) → AllDiffer r.config.routes → count < 8 → is_on_route r name ≡ on
     → answer_set r r.question.kind name ≡ set → alias_set r name ≡ alias
@@ -320,7 +320,7 @@ all_walked r pieces ends_no_data g = from_first r pieces ends_no_data g
 all_walked r pieces ends_denied g = from_first r pieces ends_denied g
 all_walked r pieces (elsewhere name) g = from_first r pieces (elsewhere name) g
 
--- the walk of a reply is one
+-- the walk of a reply is allowed (`AreWalked`)
 pub walk_is : (r : Reply) → AllDiffer r.config.routes → AreWalked r (own_walk r).pieces (own_walk r).end
 walk_is r differ = all_walked r (own_walk r).pieces (own_walk r).end
     (walk_goes r most_aliases 0 r.question.name differ refl)

@@ -1,4 +1,4 @@
--- Pieces and an end that the definitions allow are those of the walk.
+-- Pieces and an end allowed by the definitions are the walk's.
 use Rattle.std.proofs.Common.{◌≡◌, ℕ, zero, suc, ◌+◌, ◌<◌, ◌≤◌, Bool, true, false, ◌⊎◌, inl, inr, List, []}
 use Rattle.std.proofs.Common.{◌∷◌, ◌++◌, length, Option, None, Some, refl, sym, ap, ◌∙◌, subst, arith}
 use Rattle.std.specs.Prelude.{◌==◌, ◌&&◌}
@@ -28,7 +28,7 @@ use Rattle.cache_laws.proofs.AtNames.{route_is, tested_on, on_by_test, each_of_r
 use Rattle.cache_laws.proofs.AtNames.{no_target}
 use Rattle.cache_laws.proofs.WalkIs.{none_yet}
 
--- ---- what is met at the last name
+-- ---- the finding at the last name
 
 found_met : (r : Reply) (is_first : Bool) (name : List (List ℕ)) (p : Piece) → AllDiffer r.config.routes
     → IsOnRoute r name → IsPieceOf r p → IsFoundAt r name p → met_at r is_first name ≡ met_set p
@@ -89,7 +89,7 @@ no_data_is r count name p shaped of_p h =
       kind = sym h.kind_is;
     }) of_own.own of_p.own (same_rank r own p of_own of_p (sym h.owner))
 
--- with an SOA, or of the asked name in a reply that does not refer on, NODATA is met
+-- with an SOA, or at the asked name in a reply without referral, NODATA is found
 told_met : (r : Reply) (name : List (List ℕ)) (soa is_first referral : Bool)
     → (soa ≡ false) ⊎ ((is_first ≡ true) × (referral ≡ false))
     → bare_by r name soa is_first referral ≡ met_no_data (no_data_at r name)
@@ -199,7 +199,7 @@ not_lame r count name closing ends_no_data c = refl
 not_lame r count name closing (elsewhere last) h = refl
 not_lame r count name closing lame h = absurd h
 
--- the piece that is met is the one that the definitions allow
+-- the found alias is the alias allowed by the definitions
 alias_step : (r : Reply) (is_first : Bool) (name target : List (List ℕ)) (p : Piece) (pieces : List Piece)
     (end : End) (rest : List (List ℕ) → Walk) → AllDiffer r.config.routes → IsOnRoute r name
     → IsLoneAlias r name target → IsPieceOf r p → IsSetAt 5 name p → is_lame end ≡ false
@@ -242,7 +242,7 @@ walk_only r (suc left) count name (target ∷ targets) (p ∷ aliases) closing l
 
 -- ---- a lame walk
 
--- a set of which a record is there
+-- the set of a given record
 there_is : (r : Reply) (kind : ℕ) (name : List (List ℕ)) (s : Record)
     → IsRecordFor (question_at r kind name) r.answers s → (p : Piece) × (answer_set r kind name ≡ Some p)
 there_is r kind name s fits = (elim (answer_set r kind name) as

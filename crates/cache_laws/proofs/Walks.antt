@@ -1,4 +1,4 @@
--- A fact of each set and denial that is met is a fact of each piece on the walk.
+-- A fact about each found set and denial is a fact about each piece of the walk.
 use Rattle.std.proofs.Common.{◌≡◌, ℕ, zero, suc, Bool, true, false, cond, List, [], ◌∷◌, Option, None, Some, refl}
 use Rattle.std.specs.Prelude.{◌==◌, ◌&&◌, not, is_none}
 use Rattle.std.specs.List.{AllByRecursion}
@@ -21,12 +21,12 @@ EachMet P (met_name_error p) = P p
 EachMet P (met_alias p target) = P p
 EachMet P met_lame = Unit {0}
 
--- where another type is asked for, an alias is the set of type CNAME
+-- if a type other than CNAME is asked for, an alias is the set of type CNAME
 pub alias_is : (asks : Bool) (there : Option Piece) (p : Piece) → cond asks None there ≡ Some p → there ≡ Some p
 alias_is true there p e = absurd (cc)
 alias_is false there p e = e
 
--- what holds of each set of the answer section and of each denial
+-- P holds of each set of the answer section and of each denial
 pub record OfAll (r : Reply) (P : Piece → Type 0) : Type 0 where
   pub sets : (kind : ℕ) (name : List (List ℕ)) (p : Piece) → answer_set r kind name ≡ Some p → P p
   pub none : (name : List (List ℕ)) → P (no_data_at r name)

@@ -1,4 +1,4 @@
--- The look-up of a client's question among the entries, and the row that its fate takes then.
+-- The look-up of a client's question among the entries, and the row chosen by its fate.
 use Rattle.std.proofs.Common.{◌≡◌, ℕ, List, [], ◌∷◌, inl, inr, refl, sym, ap, ◌∙◌, subst, Option, Some, None}
 use Rattle.std.specs.Prelude.{◌&&◌, ◌==◌}
 use Rattle.std.specs.List.{AllByRecursion}
@@ -20,22 +20,22 @@ use Rattle.negative_cache.specs.Laws.{Fits, IsTyped}
 use Rattle.negative_cache.proofs.CallerLemmas.{found_fits}
 use Rattle.suffix_routes.specs.Serving.{serving_route_of}
 use Rattle.dns_message.specs.Questions.{asked_at}
-use Rattle.alias_chains.specs.LookingUp.{LookUp, missing, look_up_after, through, look_up, goes_on}
-use Rattle.alias_chains.proofs.CallerLemmas.{wants_own}
-use Rattle.step_table.specs.State.{State, start}
-use Rattle.waiting_questions.specs.Values.{Waiting}
-use Rattle.step_table.specs.Steps.{Fate, with_promoted}
-use Rattle.step_table.specs.Clients.{row_of_fate, fate_missed, fate_of, row_of_look_up, row_of_route, waits_with}
-use Rattle.step_table.specs.Progress.{IsOnRoute}
+use Rattle.step_actions.specs.AliasChains.LookingUp.{LookUp, missing, look_up_after, through, look_up, goes_on}
+use Rattle.step_actions.proofs.AliasChains.CallerLemmas.{wants_own}
+use Rattle.step_actions.specs.StepTable.State.{State, start}
+use Rattle.step_actions.specs.WaitingQuestions.Values.{Waiting}
+use Rattle.step_actions.specs.StepTable.Steps.{Fate, with_promoted}
+use Rattle.step_actions.specs.StepTable.Clients.{row_of_fate, fate_missed, fate_of, row_of_look_up, row_of_route, waits_with}
+use Rattle.step_actions.specs.StepTable.Progress.{IsOnRoute}
 
--- ---- what is found
+-- ---- the finding
 
 all_among : (P : Held → Type 0) (h : Held) (entries : List Held) → AllByRecursion P entries → Among h entries → P h
 all_among P h [] all among = absurd among
 all_among P h (e ∷ entries) all (inl here) = subst P here all.0
 all_among P h (e ∷ entries) all (inr later) = all_among P h entries all.1 later
 
--- an entry of a slot of the question's name has the route of that name
+-- an entry of the question's slot has a name equal to the question's
 typed_route : (routes : List Route) (n : ℕ) (entries : List Held) (q : Question) (kind : ℕ) (h : Held) → IsTyped n entries q kind h → IsSame q.name h.piece.slot.key
 typed_route routes n entries q kind h typed =
     let outer = and_parts (same q.name h.piece.slot.key && (q.class == h.piece.slot.class)) (same_kind (Some kind) h.piece.slot.kind) typed.slot in
@@ -61,7 +61,7 @@ module _ (c : Config) (n : ℕ) (entries : List Held) (on : AllByRecursion (IsOn
   fits_none local fits = absurd fits
   fits_none miss fits = refl
 
-  -- nothing is found, since an entry has the route of its name
+  -- nothing is found, since an entry has its name's route
   nothing_found : found c.routes n entries q ≡ miss
   nothing_found = fits_none (found c.routes n entries q) (found_fits c.routes n entries q)
 
@@ -70,7 +70,7 @@ module _ (c : Config) (n : ℕ) (entries : List Held) (on : AllByRecursion (IsOn
 
 -- ---- the look-up of a client's question
 
--- where it took no alias, the question waits for its own
+-- if no alias was taken, the waiting question is unchanged
 pub own_waits : (routes : List Route) (n : ℕ) (entries : List Held) (x : Waiting) (l : LookUp) → x.held ≡ []
     → l ≡ goes_on routes n entries [] x.wanted → l.held ≡ [] → waits_with x l ≡ x
 own_waits routes n entries x l own is none = λ i. record x { held = (none ∙ sym own) i; wanted = wants i }
@@ -78,7 +78,7 @@ own_waits routes n entries x l own is none = λ i. record x { held = (none ∙ s
     wants : l.wanted ≡ x.wanted
     wants = ap (λ (k : LookUp). k.wanted) is ∙ wants_own routes n entries x.wanted (sym (ap (λ (k : LookUp). k.held) is) ∙ none)
 
--- no route is looked for before the look-up: a name without one meets nothing
+-- no route is needed before the look-up: a name without a route meets nothing
 pub looked_row : (c : Config) (n : ℕ) (words : List ℕ) (x : Waiting) (s : State)
     → AllByRecursion (IsOnRoute c) s.cache.entries
     → row_of_look_up (start c n words s) x (look_up c.routes n s.cache.entries most_aliases [] x.wanted)
@@ -92,7 +92,7 @@ looked_row c n words x s on = by (serving_route_of c x.wanted.name) refl
         ∙ ap (λ (o : Option ℕ). row_of_fate (start c n words s) (fate_missed c n x (missing [] x.wanted) o)) none
     by (Some route) there = refl
 
--- the entries that it used are promoted, and its fate is the table's
+-- the used entries are promoted, and the fate is the table's
 pub fate_row : (c : Config) (n : ℕ) (words : List ℕ) (x : Waiting) (s : State) (slots : List Slot) (fate : Fate)
     → AllByRecursion (IsOnRoute c) s.cache.entries
     → slots ≡ (look_up c.routes n s.cache.entries most_aliases [] x.wanted).used

@@ -19,32 +19,33 @@ ghost use Rattle.suffix_routes.specs.Serving.{serving_route_of};
 ghost use Rattle.step_values.specs.Requests.{is_taken};
 ghost use Rattle.step_actions.specs.Kept.{HoldsEarlier};
 ghost use Rattle.answer_builder.specs.Answers.{IsEarlier};
-ghost use Rattle.alias_chains.specs.LookingUp.{missed};
-ghost use Rattle.step_table.specs.Attempts.{first_ask};
+ghost use Rattle.step_actions.specs.AliasChains.LookingUp.{missed};
+ghost use Rattle.step_actions.specs.StepTable.Attempts.{first_ask};
 ghost use Rattle.answer_builder.specs.Values.{asked_in};
-ghost use Rattle.step_table.specs.Steps.{with_promoted, idle_step, reply_step, taking_step, gives_up, failed};
-ghost use Rattle.step_table.specs.Clients.{row_of_opening, row_of_new_inquiry, row_of_inquiry};
-ghost use Rattle.step_table.specs.Clients.{row_of_waiting, row_of_route, row_of_service, waits_with};
-ghost use Rattle.step_table.specs.Clients.{row_of_question, row_of_request};
+ghost use Rattle.step_actions.specs.StepTable.Steps.{with_promoted, idle_step, reply_step, taking_step};
+ghost use Rattle.step_actions.specs.StepTable.Steps.{gives_up, failed};
+ghost use Rattle.step_actions.specs.StepTable.Clients.{row_of_opening, row_of_new_inquiry, row_of_inquiry};
+ghost use Rattle.step_actions.specs.StepTable.Clients.{row_of_waiting, row_of_route, row_of_service, waits_with};
+ghost use Rattle.step_actions.specs.StepTable.Clients.{row_of_question, row_of_request};
 ghost use Rattle.step_values.specs.Values.{action_of};
 ghost use Rattle.step_actions.specs.Decision.{IsQuiet, CanWait, CanFollow, MeetsStep};
-ghost use Rattle.step_table.specs.State.{start, from_state};
+ghost use Rattle.step_actions.specs.StepTable.State.{start, from_state};
 
 use crate::request::{is_not_served, owned_question, taken_header, with_one_question};
-use alias_chains::{LookUp, Slots, look_up};
 use dns_message::{Header, MessageRef, Question, QuestionRef};
 use outstanding::{Ask, KeyedAsk, QuestionKey, draw};
 use record_cache::LookUpSlot;
 use std::alloc::{AllocError, Allocator};
 use std::hash::BuildHasher;
+use step_actions::chains::{LookUp, Slots, look_up};
+use step_actions::texts::{ask as ask_action, failure, refusal};
+use step_actions::waiting::{KeyedWaiting, Request, Waiting};
 use step_actions::{
     Attempt, Change, Decision, Fate, Opening, StepStartRef, by_udp, fate_of, new_ask, nothing,
     redirected,
 };
-use step_texts::{ask as ask_action, failure, refusal};
 use step_values::{Action, Actions, Client, Why};
 use suffix_routes::RouteId;
-use waiting_questions::{KeyedWaiting, Request, Waiting};
 
 /// Decides a message of a client. The slot may be any: the look-up fills it, and the decision may
 /// borrow it. Nothing is decided on octets without a header, on more than 65,535, and on a reply.

@@ -6,3 +6,4 @@ mod client;
 mod request;
 
 pub use client::on_client;
+pub use step_actions::{Decision, Due, Kept, StepStartRef, first_due};

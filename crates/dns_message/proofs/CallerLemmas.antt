@@ -1,4 +1,4 @@
--- Lemmas about messages that the proofs of crates above cite.
+-- Lemmas about messages, for proofs of crates above.
 use Rattle.std.proofs.Common.{◌≡◌, ℕ, ◌≤◌, List, [], length, Ok, ◌-◌, take, None, Some, ◌+◌, ◌<◌, Option}
 use Rattle.dns_name.specs.Labels.{size_of, labels_of, IsLaidOut, IsName}
 use Rattle.dns_message.specs.Names.{NameAt, name_at}
@@ -9,7 +9,7 @@ use Rattle.dns_message.specs.Data.{name_octets, name_of_rdata}
 use Rattle.dns_message.specs.Questions.{same_question}
 use Rattle.dns_message.specs.Messages.{Spells, FirstQuestion, HasShapes, IsSameQuestion, first_question, message_of}
 use Rattle.std.specs.Option.{IfSome}
-use Rattle.plain_values.specs.Octets.{AreOctets}
+use Rattle.dns_name.specs.PlainValues.Octets.{AreOctets}
 use Rattle.dns_message.specs.Numbers.{number16}
 use Rattle.dns_message.specs.declared.reading.header.Header.{Header}
 use Rattle.dns_message.specs.Records.{QuestionAt}
@@ -24,19 +24,19 @@ use Rattle.dns_message.proofs.writing.Reading as reading
 use Rattle.dns_message.proofs.writing.Short as short
 use Rattle.dns_message.proofs.writing.RoundTripMessage as round
 
--- ---- a name is read exactly where it is laid out, in at most 255 octets
+-- ---- a name is read exactly if laid out, in at most 255 octets
 
--- a name that was read is there
+-- a read name is laid out
 pub name_read_stands : (bytes : List ℕ) (o : ℕ) (labels : List (List ℕ)) (e : ℕ) → name_at bytes o ≡ Ok (labels, e) → NameAt bytes o o labels e × (size_of labels ≤ 255)
 name_read_stands = names.name_sound
 
--- a name that is there is read
+-- a laid out name is read
 pub standing_name_is_read : (bytes : List ℕ) (o : ℕ) (labels : List (List ℕ)) (e : ℕ) → NameAt bytes o o labels e → size_of labels ≤ 255 → name_at bytes o ≡ Ok (labels, e)
 standing_name_is_read = names.name_complete
 
--- ---- questions that are equal, letter case aside
+-- ---- equal questions, letter case aside
 
--- the test of equal questions
+-- the test decides equality of questions
 pub same_question_decides : (a b : Question) → Decides (same_question a b) (IsSameQuestion a b)
 same_question_decides = questions.same_question_decides
 
@@ -50,7 +50,7 @@ same_question_symmetric = questions.same_question_sym
 pub same_question_transitive : (a b c : Question) → IsSameQuestion a b → IsSameQuestion b c → IsSameQuestion a c
 same_question_transitive = questions.same_question_trans
 
--- ---- a message is read exactly where the octets spell it
+-- ---- a message is read exactly if the octets spell the message
 
 pub message_read_is_spelled : (bytes : List ℕ) (message : Message) → message_of bytes ≡ Ok message → Spells bytes message
 message_read_is_spelled = whole.spelled_by
@@ -62,11 +62,11 @@ spelled_message_is_read = whole.of_spelled
 pub one_message_is_spelled : (bytes : List ℕ) (a b : Message) → Spells bytes a → Spells bytes b → a ≡ b
 one_message_is_spelled = whole.one_message
 
--- the data of a message's records is of their types' shapes
+-- the data of a message's records has the types' shapes
 pub spelled_message_has_shapes : (bytes : List ℕ) (message : Message) → Spells bytes message → HasShapes message
 spelled_message_has_shapes = shapes.spelled_shapes
 
--- ---- the first question is read exactly where it is laid out
+-- ---- the first question is read exactly if laid out
 
 pub first_question_read_stands : (bytes : List ℕ) (question : Question) → first_question bytes ≡ Ok question → FirstQuestion bytes question
 first_question_read_stands = whole.first_sound
@@ -78,11 +78,11 @@ standing_first_question_is_read = whole.first_complete
 pub standing_name_is_name : (bytes : List ℕ) (o f e : ℕ) (labels : List (List ℕ)) → NameAt bytes o f labels e → size_of labels ≤ 255 → IsName labels
 standing_name_is_name = shapes.name_is
 
--- data that is one name is that name, written out in full
+-- data of a single name is the name in full
 pub data_that_is_a_name : (octets : List ℕ) (labels : List (List ℕ)) → name_of_rdata octets ≡ Some labels → IsName labels × (octets ≡ name_octets labels)
 data_that_is_a_name = shapes.named_sound
 
--- data to whose end a name goes is that name; data whose end no name reaches is none
+-- data that a name fills is the name; other data is no name
 pub name_to_the_end : (octets : List ℕ) (end : ℕ) → end_read (name_at octets 0) ≡ Ok end → end ≡ length octets
     → (1 ≤ end) × IsLaidOut (take (end - 1) octets) × (name_of_rdata octets ≡ Some (labels_of (take (end - 1) octets)))
 name_to_the_end octets end ends all = let only = shapes.only_name octets end ends all in (only.some, only.laid, only.name)
@@ -90,18 +90,18 @@ name_to_the_end octets end ends all = let only = shapes.only_name octets end end
 pub no_name_to_the_end : (octets : List ℕ) → (end_read (name_at octets 0) ≡ Ok (length octets) → ⊥) → name_of_rdata octets ≡ None
 no_name_to_the_end = shapes.no_name
 
--- ---- what is written
+-- ---- written messages
 
--- The octets written for a message spell it, where its header counts its lists, its data is of its
--- types' shapes, and the octets are no more than a message can have.
+-- The octets written for a message spell the message, if the header counts the lists, the data has
+-- the types' shapes, and the octets are within a message's limit.
 pub written_message_is_spelled : (message : Message) → IsMessage message → IsCounted message → HasShapes message → length (written message) ≤ 65535 → Spells (written message) message
 written_message_is_spelled = round.message_spelled
 
--- A header and one question at most have 271 octets at most, wherever the question's name is one.
+-- A header with at most a question has at most 271 octets, if the question's name is a name.
 pub bare_message_is_short : (header : Header) (question : Option Question) → IfSome question (λ q. IsName q.name) → length (written (message_of_parts header question [] [])) ≤ 271
 bare_message_is_short = short.bare_message_is_short
 
--- ---- what is read of octets can be written
+-- ---- values read from octets can be written
 
 -- a number at a place
 pub number_at_place_is_small : (bytes : List ℕ) (o : ℕ) → AreOctets bytes → o + 2 ≤ length bytes → number16 bytes o < 65536

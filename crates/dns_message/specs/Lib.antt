@@ -18,3 +18,5 @@ pub mod Writing
 pub mod Borrowed
 pub mod Writer
 pub mod Written
+pub use Rattle.dns_name.specs as DnsName
+pub use Rattle.dns_name.specs.PlainValues as PlainValues

@@ -1,7 +1,7 @@
 -- Reading from the front, with the first fault.
 use Rattle.std.specs.Prelude.{Bool, true, false, Result}
-use Rattle.plain_values.specs.FirstFault as reading
-pub use Rattle.plain_values.specs.FirstFault.{◌>>=◌, end_read}
+use Rattle.dns_name.specs.PlainValues.FirstFault as reading
+pub use Rattle.dns_name.specs.PlainValues.FirstFault.{◌>>=◌, end_read}
 use Rattle.dns_message.specs.declared.names.fault.Fault.{Fault}
 use Rattle.dns_message.specs.declared.names.fault.Fault.TheVariants.{Memory}
 

@@ -9,6 +9,7 @@ mod reading;
 pub mod types;
 mod writing;
 
+pub use dns_name::{FewList, Name, NameKey, Octets, PlainList};
 pub use laws::what_is_written_is_read_back;
 pub use names::{Bound, Fault, skip_name};
 pub use reading::{

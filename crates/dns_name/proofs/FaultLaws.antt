@@ -1,4 +1,4 @@
--- Labels that are a name, and the faults of those that are not.
+-- Labels of a name, and the faults of other labels.
 use Rattle.std.proofs.Common.{◌≡◌, ℕ, ◌+◌, ◌<◌, ◌≤◌, List, [], ◌∷◌, ◌++◌, length, take, drop, get_or, map, Option, Some, None, Result, Ok, Err, refl, sym, ap, ◌∙◌, append_assoc, arith, inl, inr}
 use Rattle.std.proofs.lemmas.Bool.{lt-ltb, le-ltb, cases_lt}
 use Rattle.plain_values.proofs.CallerLemmas.{fault_of_part}
@@ -23,7 +23,7 @@ pushed_fits labels label le = rw (le-ltb 255 (size_of (labels ++ label ∷ [])) 
 pub pushes : (old new label : List ℕ) → Grows old new label → pushed (labels_of old) label ≡ Ok (labels_of new)
 pushes old new label g = pushed_fits (labels_of old) label g.size ∙ ap Ok (sym g.labels)
 
--- ---- a loop over labels, after none of them had a fault
+-- ---- a loop over labels, with no fault so far
 
 abbrev pub FaultOf : Type 0
 FaultOf = List ℕ → Option NameFault
@@ -32,7 +32,7 @@ both_none : (here next : Option NameFault) → fault_or here next ≡ None → (
 both_none None next none = (refl, none)
 both_none (Some e) next none = absurd cc
 
--- a label among those that have no fault has none
+-- a label among labels without a fault has no fault
 pub none_at : (fault_of : FaultOf) (front : List (List ℕ)) (label : List ℕ) (rest : List (List ℕ)) → first_fault fault_of (front ++ label ∷ rest) ≡ None → fault_of label ≡ None
 none_at fault_of [] label rest none = (both_none (fault_of label) (first_fault fault_of rest) none).0
 none_at fault_of (l ∷ ls) label rest none = none_at fault_of ls label rest (both_none (fault_of l) (first_fault fault_of (ls ++ label ∷ rest)) none).1
@@ -65,7 +65,7 @@ judged_fault fault_of labels e is = rw is refl
 abbrev bad : NameFault → Result (List (List ℕ)) NameFault
 bad e = Err e
 
--- what pushed refuses is too long
+-- `pushed` refuses only too long a name
 pushed_refuses : (labels : List (List ℕ)) (label : List ℕ) (e : NameFault) → pushed labels label ≡ bad e → (e ≡ NameLong) × (255 < size_of (labels ++ label ∷ []))
 pushed_refuses labels label e is =
     elim (cases_lt 255 (size_of (labels ++ label ∷ []))) [
@@ -79,13 +79,13 @@ refused fault_of labels front label rest e parts none fails =
     let p = pushed_refuses front label e fails in
     rw p.0 (judged_long fault_of labels none (omega (arith, p.1, ap size_of parts, size_of-append front (label ∷ rest), size_of-push front label, size_of-some rest)))
 
--- where a label can't be put after those before it, the labels are no name
+-- if a label cannot follow the labels before, the labels are no name
 pub refuses : (fault_of : FaultOf) (labels front : List (List ℕ)) (label : List ℕ) (rest : List (List ℕ)) (e : NameFault) → labels ≡ front ++ label ∷ rest → first_fault fault_of labels ≡ None
     → Fails e (pushed front label) → Fails e (judged fault_of labels)
 refuses fault_of labels front label rest e parts none fails =
     fault_of_part wants_memory e (pushed front label) (judged fault_of labels) (refused fault_of labels front label rest e parts none) fails
 
--- what pushed gives is short
+-- `pushed` gives the labels with the new label, if short enough
 pub pushed_gives : (labels new : List (List ℕ)) (label : List ℕ) → pushed labels label ≡ Ok new → (new ≡ labels ++ label ∷ []) × (size_of new ≤ 255)
 pushed_gives labels new label is =
     elim (cases_lt 255 (size_of (labels ++ label ∷ []))) [
@@ -96,7 +96,7 @@ pushed_gives labels new label is =
           (same, rw same le)
     ]
 
--- ---- what is no fault is a name
+-- ---- labels without a fault are a name
 
 each_label : (fault_of : FaultOf) → ((label : List ℕ) → fault_of label ≡ None → IsLabel label) → (labels : List (List ℕ)) → first_fault fault_of labels ≡ None → AllByRecursion IsLabel labels
 each_label fault_of told [] none = tt
@@ -135,7 +135,7 @@ parts_at : {Z : Type 0} → (vs : List (Vec ℕ Z)) (i : ℕ) (v : Vec ℕ Z) �
 parts_at {Z = Z} vs i v lt =
     sym (take-append-drop (i + 1) vs) ∙ ap (λ (front : List (Vec ℕ Z)). front ++ drop (i + 1) vs) (take_more vs i v lt) ∙ append_assoc (take i vs) (get_or vs i v ∷ []) (drop (i + 1) vs)
 
--- the labels before a place, the one there, and those after it
+-- the labels before a place, the label at the place, and the labels after
 pub items_split : {Z : Type 0} → (vs : List (Vec ℕ Z)) (i : ℕ) (v : Vec ℕ Z) → i < length vs → v ≡ get_or vs i v → items_of vs ≡ items_of (take i vs) ++ v.items ∷ items_of (drop (i + 1) vs)
 items_split {Z = Z} vs i v lt is =
     let same : v.items ≡ (get_or vs i v).items = ap (λ (w : Vec ℕ Z). w.items) is in

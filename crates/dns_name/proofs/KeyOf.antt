@@ -26,7 +26,7 @@ pub lowered_twice : (xs : List ℕ) → map to_ascii_lowercase (map to_ascii_low
 lowered_twice [] = refl
 lowered_twice (x ∷ xs) = rw (lower_twice x, lowered_twice xs) refl
 
--- the octets of a name in lower case
+-- a name's octets in lower case
 pub lower_octets : (octets : List ℕ) → IsLaidOut octets → map to_ascii_lowercase octets ≡ octets_of (lowered (labels_of octets))
 lower_octets octets laid = ap (map to_ascii_lowercase) (sym laid.whole) ∙ map-octets_of (labels_of octets) laid.name.each
 
@@ -47,9 +47,9 @@ is_key octets laid =
       zeros = rw front refl;
     }
 
--- ---- a key that becomes that of another name
+-- ---- overwriting a key with another name's key
 
--- the octets after those that the length of a key counts are zeros
+-- the octets past a key's length are zeros
 zeros_behind : (octets : List ℕ) (len : ℕ) → IsKey octets len → length octets ≡ 255 → drop len octets ≡ replicate (255 - len) 0
 zeros_behind octets len key size =
     let name : List ℕ = take (len - 1) octets in
@@ -58,11 +58,11 @@ zeros_behind octets len key size =
     let whole : octets ≡ (name ++ 0 ∷ []) ++ replicate (255 - len) 0 = sym key.zeros ∙ ap (λ (n : ℕ). name ++ replicate n 0) one ∙ sym (append_assoc name (0 ∷ []) (replicate (255 - len) 0)) in
     ap (drop len) whole ∙ drop_at (name ++ 0 ∷ []) (replicate (255 - len) 0) len (omega (arith, length-append name (0 ∷ []), long, key.some))
 
--- in the place of the first of 255 zeros
+-- a name in lower case, over the first of 255 zeros
 pub over_zeros : (octets : List ℕ) → map to_ascii_lowercase octets ++ drop (length octets) (replicate 255 0) ≡ padded (map to_ascii_lowercase octets)
 over_zeros octets = ap (λ (xs : List ℕ). map to_ascii_lowercase octets ++ xs) (drop-replicate {X = ℕ} (length octets) 255 0 ∙ ap (λ (n : ℕ). replicate (255 - n) 0) (sym (length-map octets to_ascii_lowercase)))
 
--- where those octets are zeros too, those of another name in lower case are followed by zeros
+-- a new name in lower case over a cleared key is followed by zeros
 pub became : (octets : List ℕ) (len : ℕ) (name : List ℕ) → IsKey octets len → length octets ≡ 255
     → map to_ascii_lowercase name ++ drop (length name) (replicate len 0 ++ drop len octets) ≡ padded (map to_ascii_lowercase name)
 became octets len name key size =
@@ -70,14 +70,14 @@ became octets len name key size =
     let zeros : replicate len 0 ++ drop len octets ≡ replicate 255 0 = ap (λ (xs : List ℕ). replicate len 0 ++ xs) (zeros_behind octets len key size) ∙ replicate-append-replicate len (255 - len) 0 ∙ ap (λ (n : ℕ). replicate n 0) all in
     ap (λ (xs : List ℕ). map to_ascii_lowercase name ++ drop (length name) xs) zeros ∙ over_zeros name
 
--- one more octet in lower case, in the place of the next one
+-- another octet in lower case, over the next octet
 pub lower_more : (octets before : List ℕ) (i : ℕ) → i < length octets → length octets ≤ length before
     → set (map to_ascii_lowercase (take i octets) ++ drop i before) i (to_ascii_lowercase (get_or octets i 0)) ≡ map to_ascii_lowercase (take (i + 1) octets) ++ drop (i + 1) before
 lower_more octets before i lt le =
     let front : length (map to_ascii_lowercase (take i octets)) ≡ i = omega (arith, length-map (take i octets) to_ascii_lowercase, length-take i octets) in
     rw (drop_more before i 0 (omega (arith, lt, le)), take_more octets i 0 lt, map-append) (set_at (map to_ascii_lowercase (take i octets)) (get_or before i 0) (drop (i + 1) before) (to_ascii_lowercase (get_or octets i 0)) i front ∙ sym (append_assoc (map to_ascii_lowercase (take i octets)) (to_ascii_lowercase (get_or octets i 0) ∷ []) (drop (i + 1) before)))
 
--- octets in lower case are equal if they are equal with zeros after them
+-- octets of equal lengths are equal in lower case if equal with zeros after them
 pub padded_same : (a b : List ℕ) → length a ≡ length b → padded (map to_ascii_lowercase a) ≡ padded (map to_ascii_lowercase b) → map to_ascii_lowercase a ≡ map to_ascii_lowercase b
 padded_same a b size same =
     let long : length (map to_ascii_lowercase a) ≡ length (map to_ascii_lowercase b) = omega (arith, size, length-map a to_ascii_lowercase, length-map b to_ascii_lowercase) in
@@ -93,7 +93,7 @@ key_lower octets len key =
 cons-tails : (x y : List ℕ) (xs ys : List (List ℕ)) → x ∷ xs ≡ y ∷ ys → xs ≡ ys
 cons-tails x y xs ys e = cc
 
--- the labels after the first one are in lower case too
+-- the labels after the first are in lower case, too
 pub lowered_tail : (label : List ℕ) (labels : List (List ℕ)) → lowered (label ∷ labels) ≡ label ∷ labels → lowered labels ≡ labels
 lowered_tail label labels e = cons-tails (map to_ascii_lowercase label) label (lowered labels) labels e
 
@@ -110,7 +110,7 @@ and_both : (x y : Bool) → (x && y) ≡ true → (x ≡ true) × (y ≡ true)
 and_both true y e = (refl, e)
 and_both false y e = absurd cc
 
--- what `==` on keys says
+-- `==` decides equality of keys
 pub key_decides : (a b : List (List ℕ)) → Decides (pointwise eqb (key_octets a) (key_octets b) && eqb (key_len a) (key_len b)) (a ≡ b)
 key_decides a b =
     let octets = slice_eq-Decides Decides-eqb (key_octets a) (key_octets b) (pointwise eqb (key_octets a) (key_octets b)) refl in
@@ -121,14 +121,14 @@ key_decides a b =
 
 -- ---- keys compared by the octets up to their length
 
--- the octets before the last one that the length counts
+-- the octets before the last counted octet
 before_last : (octets : List ℕ) (len : ℕ) → 1 ≤ len → len ≤ length octets → take (len - 1) (take len octets) ≡ take (len - 1) octets
 before_last octets len some short =
     let next : len ≡ len - 1 + 1 = omega (arith, some) in
     let whole : take len octets ≡ take (len - 1) octets ++ get_or octets (len - 1) 0 ∷ [] = ap (λ (n : ℕ). take n octets) next ∙ take_more octets (len - 1) 0 (omega (arith, some, short)) in
     ap (take (len - 1)) whole ∙ take_at (take (len - 1) octets) (get_or octets (len - 1) 0 ∷ []) (len - 1) (omega (arith, length-take (len - 1) octets, some, short))
 
--- the rest are zeros
+-- keys with equal counted octets are equal: the rest are zeros
 fronts_say_all : (a b : List ℕ) (m n : ℕ) → IsKey a m → IsKey b n → length a ≡ 255 → length b ≡ 255 → m ≡ n → take m a ≡ take m b → a ≡ b
 fronts_say_all a b m n left right long longer same front =
     let names : take (m - 1) a ≡ take (n - 1) b =
@@ -139,7 +139,7 @@ and_true : (x y : Bool) → x ≡ true → y ≡ true → (x && y) ≡ true
 and_true true y e f = f
 and_true false y e f = e
 
--- keys of one length are equal where their octets up to it are
+-- keys of equal lengths are equal if their counted octets are
 pub same_length : (a b : List ℕ) (m n : ℕ) → IsKey a m → IsKey b n → length a ≡ 255 → length b ≡ 255 → m ≡ n → pointwise eqb (take m a) (take m b) ≡ (pointwise eqb a b && eqb m n)
 same_length a b m n left right long longer same =
     let front = pointwise eqb (take m a) (take m b) in
@@ -152,7 +152,7 @@ same_length a b m n left right long longer same =
       λ e. and_true octets (eqb m n) ((bytes_decides a b).1 e) ((Decides-eqb m n).1 same),
     )
 
--- keys of other lengths are not
+-- keys of different lengths differ
 pub other_length : (x : Bool) (m n : ℕ) → (m ≡ n → ⊥) → eqb m n ≡ (x && eqb m n)
 other_length x m n other =
     same_from_decides {P = ⊥} (eqb m n) (x && eqb m n)

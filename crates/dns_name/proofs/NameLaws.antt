@@ -1,4 +1,4 @@
--- Names that are the same, names under another, and names with equal keys.
+-- Equal names, names under a suffix, and names with equal keys.
 use Rattle.std.proofs.Common.{◌<◌, ◌≡◌, ℕ, ◌+◌, ◌-◌, ◌≤◌, List, [], ◌∷◌, length, take, drop, map, refl, sym, ap, ◌∙◌, arith}
 use Rattle.std.proofs.Common.{Bool, true, false, ◌&&◌, nat_eq, nat_le, le-leb}
 use Rattle.std.specs.Bool.{Decides}
@@ -12,7 +12,7 @@ use Rattle.dns_name.specs.Labels.{octets_of, size_of, IsName, IsSame, IsUnder, s
 use Rattle.dns_name.proofs.LabelLaws.{labels_of-octets_of, laid_out, same_under, size_of-lowered, size_of-append, size_of-some}
 use Rattle.dns_name.proofs.KeyOf.{lowered_twice, name-lowered}
 
--- ---- sameness is an equivalence
+-- ---- equality of names is an equivalence
 
 pub same_refl : (a : List (List ℕ)) → IsSame a a
 same_refl a = refl
@@ -26,15 +26,15 @@ same_trans a b c first second = first ∙ second
 pub same_count : (a b : List (List ℕ)) → IsSame a b → length a ≡ length b
 same_count a b same = omega (arith, ap length same, length-map a (map to_ascii_lowercase), length-map b (map to_ascii_lowercase))
 
--- names that are the same have octets of one length
+-- equal names have equally many octets
 pub same_size : (a b : List (List ℕ)) → IsSame a b → size_of a ≡ size_of b
 same_size a b same = sym (size_of-lowered a) ∙ ap size_of same ∙ size_of-lowered b
 
--- the last labels of names that are the same are the same
+-- equal names without their first k labels are equal
 pub same_drop : (k : ℕ) (a b : List (List ℕ)) → IsSame a b → IsSame (drop k a) (drop k b)
 same_drop k a b same = sym (drop-map (map to_ascii_lowercase) k a) ∙ ap (drop k) same ∙ drop-map (map to_ascii_lowercase) k b
 
--- ---- a name is under s where its last labels, as many as s has, are those of s
+-- ---- n is under s if the last labels of n, as many as s has, equal s
 
 pub record EndsIn (n s : List (List ℕ)) : Type 0 where
   pub fewer : length s ≤ length n
@@ -53,7 +53,7 @@ pub ends_under : (n s : List (List ℕ)) → EndsIn n s → IsUnder n s
 ends_under n s ends =
     (take (length n - length s) n, drop (length n - length s) n, sym (take-append-drop (length n - length s) n), ends.last)
 
--- ---- what being under another name keeps
+-- ---- names that stay under a suffix
 
 pub under_refl : (n : List (List ℕ)) → IsUnder n n
 under_refl n = same_under n n refl
@@ -61,7 +61,7 @@ under_refl n = same_under n n refl
 pub under_root : (n : List (List ℕ)) → IsUnder n []
 under_root n = ends_under n [] (record { fewer = omega arith; last = ap lowered (drop_all (length n - 0) n (omega arith)) })
 
--- a name that is the same as one under s is under s, also where s is spelled otherwise
+-- if n is under s, each name equal to n is under each name equal to s
 pub under_same_names : (n m s t : List (List ℕ)) → IsSame n m → IsSame s t → IsUnder n s → IsUnder m t
 under_same_names n m s t nm st under =
     let ends = under_ends n s under in
@@ -83,7 +83,7 @@ under_trans a b c ab bc =
       last = rw cut (rw drop-drop at last ∙ second.last);
     })
 
--- an end of a name that is under a suffix is under it, as long as it has the suffix's labels
+-- if a name is under s, so is the name without its first k labels, if s has no more labels
 pub end_under : (k : ℕ) (n s : List (List ℕ)) → k + length s ≤ length n → IsUnder n s → IsUnder (drop k n) s
 end_under k n s long under =
     let ends = under_ends n s under in
@@ -91,7 +91,7 @@ end_under k n s long under =
     let left : k + (length (drop k n) - length s) ≡ length n - length s = omega (arith, shorter, long, ends.fewer) in
     ends_under (drop k n) s (record { fewer = omega (arith, shorter, long); last = rw (drop-drop, left) ends.last })
 
--- of suffixes with equally many labels there is one alone
+-- suffixes of a name with equally many labels are equal
 pub under_count : (n s t : List (List ℕ)) → IsUnder n s → IsUnder n t → length s ≡ length t → IsSame s t
 under_count n s t ns nt count =
     let a = under_ends n s ns in
@@ -99,7 +99,7 @@ under_count n s t ns nt count =
     let cut : length n - length s ≡ length n - length t = omega (arith, count) in
     sym a.last ∙ rw cut b.last
 
--- a suffix of a name that is not shorter than another suffix is under it
+-- of two suffixes of a name, the suffix with no fewer labels is under the other
 pub under_longer : (n s t : List (List ℕ)) → IsUnder n s → IsUnder n t → length t ≤ length s → IsUnder s t
 under_longer n s t ns nt le =
     let a = under_ends n s ns in
@@ -109,7 +109,7 @@ under_longer n s t ns nt le =
     let inner : IsSame (drop k (drop (length n - length s) n)) (drop k s) = same_drop k (drop (length n - length s) n) s a.last in
     ends_under s t (record { fewer = le; last = sym (rw (drop-drop, cut) at inner) ∙ b.last })
 
--- of two suffixes of one name the one with more labels is the longer one
+-- of two suffixes of a name, the suffix with more labels has more octets
 pub more_labels : (n s t : List (List ℕ)) → IsUnder n s → IsUnder n t → length t < length s → size_of t < size_of s
 more_labels n s t ns nt lt = longer s t (under_longer n s t ns nt (omega arith)) lt
   where
@@ -137,14 +137,14 @@ is_under_decides n s =
           rw (le-leb (length s) (length n) ends.fewer, last.1 ends.last) refl,
     )
 
--- tests that decide facts of which each follows from the other are equal
+-- tests of equivalent facts are equal
 pub equal_tests : {P Q : Type 0} (a b : Bool) → Decides a P → Decides b Q → (P → Q) → (Q → P) → a ≡ b
 equal_tests true true first second there back = refl
 equal_tests false false first second there back = refl
 equal_tests true false first second there back = absurd (let no : false ≡ true = second.1 (there (first.0 refl)) in cc)
 equal_tests false true first second there back = absurd (let no : false ≡ true = first.1 (back (second.0 refl)) in cc)
 
--- the tests treat names that are the same alike
+-- the tests give equal answers for equal names
 pub same_respects : (n m s t : List (List ℕ)) → IsSame n m → IsSame s t → same n s ≡ same m t
 same_respects n m s t nm st =
     equal_tests (same n s) (same m t) (same_decides n s) (same_decides m t) (λ ns. sym nm ∙ ns ∙ st) (λ mt. nm ∙ mt ∙ sym st)
@@ -154,7 +154,7 @@ is_under_respects n m s t nm st =
     equal_tests (is_under n s) (is_under m t) (is_under_decides n s) (is_under_decides m t)
     (λ ns. under_same_names n m s t nm st ns) (λ mt. under_same_names m n t s (sym nm) (sym st) mt)
 
--- the meaning of a call's answer about P, where a test decides P
+-- a call's answer about P equals each test that decides P
 pub told : {P : Type 0} (answer test : Bool) → (answer ≡ true → P) × (P → answer ≡ true) → Decides test P → answer ≡ test
 told true true answered decided = refl
 told false false answered decided = refl
@@ -171,12 +171,12 @@ labels_octets labels = labels_of-octets_of labels
 
 -- ---- keys
 
--- the key of a key's labels is itself
+-- a key's key is the key
 pub lowered_again : (labels : List (List ℕ)) → lowered (lowered labels) ≡ lowered labels
 lowered_again [] = refl
 lowered_again (l ∷ ls) = rw (lowered_twice l, lowered_again ls) refl
 
--- a name and its key's labels are the same name
+-- a name equals its key
 pub same_lowered : (labels : List (List ℕ)) → IsSame (lowered labels) labels
 same_lowered labels = lowered_again labels
 

@@ -31,7 +31,7 @@ impl Draws {
         (self.words.next_word() % 65_536) as u16
     }
 
-    /// True once in so many draws.
+    /// True once in `many` draws.
     pub(crate) fn one_in(&mut self, many: u32) -> bool
         requires { 0 < many }
     {

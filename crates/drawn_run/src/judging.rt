@@ -116,7 +116,7 @@ impl Judge {
         }
     }
 
-    /// Goes on to a part of a step; not back.
+    /// Goes on to a part of a step; never back.
     fn reach(&mut self, done: Done) -> Result<(), Fault> {
         if self.done > done || self.done == done && done != Done::Replies {
             return Err(Fault::Order);

@@ -2,3 +2,4 @@ pub mod Commands
 pub mod Counts
 pub mod Service
 pub mod Statuses
+pub use Rattle.serving_loop.specs as ServingLoop

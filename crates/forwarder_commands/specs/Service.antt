@@ -3,7 +3,7 @@ use Rattle.std.specs.Prelude.{◌≡◌, ◌⊎◌, ℕ, List, [], ◌∷◌, �
 use Rattle.std.specs.declared.alloc.AllocError.{AllocError}
 use Rattle.std.specs.Io.KnownBytes.{Appends}
 use Rattle.suffix_routes.specs.Values.{Config}
-use Rattle.step_table.specs.State.{Running}
+use Rattle.replay_script.specs.StepTable.State.{Running}
 use Rattle.wires.specs.Wire.{Journal, silence, journal}
 use Rattle.serving_loop.specs.declared.counts.Served.{Served}
 use Rattle.serving_loop.specs.Serving.{Serves}

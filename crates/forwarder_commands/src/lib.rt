@@ -18,5 +18,6 @@ pub use arguments::{LONGEST, argument, count, text};
 pub use checked::write_checked;
 pub use commands::{Command, command_of, load, run};
 pub use fault::Fault;
+pub use replay_script as scripts;
 pub use serving::serve_config;
 pub use wanted_turns::{Turns, read_turns};

@@ -1,7 +1,7 @@
 //! The service: a forwarder over sockets, both of one configuration.
 
 ghost use Rattle.std.specs.Prelude.{◌≡◌, IfOk, IfErr, OnOk};
-ghost use Rattle.step_table.specs.Steps.{initial};
+ghost use Rattle.replay_script.specs.StepTable.Steps.{initial};
 ghost use Rattle.wires.specs.Wire.{journal};
 ghost use Rattle.replay_script.specs.Configs.{IsOfStream};
 ghost use Rattle.forwarder_commands.specs.Commands.{IsFaultOfStream};
@@ -12,9 +12,8 @@ use crate::counted::Counted;
 use crate::fault::Fault;
 use crate::saying::unlistened;
 use crate::wanted_turns::Turns;
-use forwarder_core::Forwarder;
 use replay_script::ReplayFault;
-use serving_loop::serve;
+use serving_loop::{Forwarder, serve};
 use socket_wire::MioWire;
 use std::alloc::Allocator;
 use std::hash::{BuildHasher, RandomState};

@@ -1,4 +1,4 @@
--- What is done is what was decided.
+-- The decision is carried out.
 use Rattle.std.proofs.Common.{◌≡◌, ℕ, List, [], Bool, refl, sym, ◌∙◌, subst, Option, Some}
 use Rattle.std.specs.Prelude.{Ok, IfSome}
 use Rattle.suffix_routes.specs.Values.{Config}
@@ -6,16 +6,16 @@ use Rattle.step_values.specs.Values.{Event, Action, actions_of, Outcome}
 use Rattle.trust_rank.specs.declared.slot.Slot.{Slot}
 use Rattle.trust_rank.specs.Values.{Piece}
 use Rattle.step_table.specs.State.{State, StepStart, start}
-use Rattle.alias_chains.specs.LookingUp.{promoted_all}
-use Rattle.alias_chains.specs.Offering.{put_all, unkept_of, pieces_of}
+use Rattle.step_table.specs.AliasChains.LookingUp.{promoted_all}
+use Rattle.step_table.specs.AliasChains.Offering.{put_all, unkept_of, pieces_of}
 use Rattle.step_table.specs.Steps.{offering_step, with_promoted, with_entries}
 use Rattle.step_table.specs.Row.{Happens, HandsOctets, effective, Row}
-use Rattle.step_actions.specs.declared.decision.Change.{Change}
-use Rattle.step_actions.specs.declared.decision.Change.TheVariants.{Nothing, Join, Open, Close, SendOn, AskAgain, Expire}
-use Rattle.step_actions.specs.declared.decision.Decision.{Decision}
-use Rattle.step_actions.specs.Decision.{changed, next_of, CanChange, IsDecided, IsDecidedQuietly, IsOutcome}
+use Rattle.client_decisions.specs.StepActions.declared.decision.Change.{Change}
+use Rattle.client_decisions.specs.StepActions.declared.decision.Change.TheVariants.{Nothing, Join, Open, Close, SendOn, AskAgain, Expire}
+use Rattle.client_decisions.specs.StepActions.declared.decision.Decision.{Decision}
+use Rattle.client_decisions.specs.StepActions.Decision.{changed, next_of, CanChange, IsDecided, IsDecidedQuietly, IsOutcome}
 
--- what was put in place is what was decided
+-- the changed values are the decided values
 by_change : {A : Type 0} (n : ℕ) (rooms : List Bool) (s : State) (actions : List Action) (used : List Slot)
     (ps : List Piece) (change : Change A)
     → record {
@@ -56,7 +56,7 @@ carried_out n rooms s d mid after unkept first second count =
     })
     ∙ by_change n rooms s (actions_of d.actions) d.used (pieces_of d.carried.items) d.change
 
--- an outcome that is what was decided
+-- an outcome as decided is the row's
 pub row_is : {A : Type 0} (c : Config) (s s' : State) (now n : ℕ) (words : List ℕ) (e : Event)
     (d : Option (Decision A)) (next : Decision A) (o : Outcome) → n ≡ effective now s → HandsOctets e
     → IsDecided (start c n words s) e d → d ≡ Some next
@@ -79,7 +79,7 @@ pub quiet_at : {A : Type 0} (d : Option (Decision A)) (next : Decision A) → d 
     → IsDecidedQuietly {A = A} (Ok d) → (next.used ≡ []) × (next.change ≡ Nothing)
 quiet_at {A} d next is quiet = subst (λ (r : Option (Decision A)). IsDecidedQuietly {A = A} (Ok r)) is quiet
 
--- the change of a decision fits
+-- a decision's change fits
 pub fits_at : {A : Type 0} (t : StepStart) (c : Config) (n m : ℕ) (words : List ℕ) (s : State)
     (d : Option (Decision A)) (next : Decision A) → t ≡ start c m words s → n ≡ m → d ≡ Some next
     → IfSome d (λ some. CanChange t.config t.moment t.state some) → CanChange c n s next

@@ -1,4 +1,4 @@
--- What holds of all entries still holds after promotions and offers.
+-- A property of all entries holds after promotions and offers.
 use Rattle.std.proofs.Common.{◌≡◌, ℕ, zero, suc, List, [], ◌∷◌, take, filter, Bool, true, ◌∙◌, arith}
 use Rattle.std.specs.Prelude.{not}
 use Rattle.std.specs.List.{AllByRecursion}
@@ -11,11 +11,11 @@ use Rattle.record_cache.specs.Entries.{of_slot, without, promoted}
 use Rattle.record_cache.specs.Offers.{offered}
 use Rattle.record_cache.specs.declared.cache.Offered.{Offered}
 use Rattle.record_cache.specs.declared.cache.Offered.TheVariants.{Kept, Outranked, NotKept, Unkept}
-use Rattle.negative_cache.specs.Entries.{denies}
-use Rattle.negative_cache.specs.Showing.{shown}
+use Rattle.step_table.specs.NegativeCache.Entries.{denies}
+use Rattle.step_table.specs.NegativeCache.Showing.{shown}
 use Rattle.answer_builder.specs.Answers.{IsEarlier}
-use Rattle.alias_chains.specs.LookingUp.{promoted_all}
-use Rattle.alias_chains.specs.Offering.{shown_by, ended_so, put, put_all, unkept_of, held_at}
+use Rattle.step_table.specs.AliasChains.LookingUp.{promoted_all}
+use Rattle.step_table.specs.AliasChains.Offering.{shown_by, ended_so, put, put_all, unkept_of, held_at}
 use Rattle.step_table.proofs.CallerLemmas.{All-append, All-filter}
 
 All-take : (P : Held → Type 0) (n : ℕ) (es : List Held) → AllByRecursion P es → AllByRecursion P (take n es)
@@ -59,7 +59,7 @@ kept_in_turn n used ps before mid after count first second = (
   second.2 ∙ (λ i. unkept_of (first i).capacity n second.0 ps (first i).entries),
 )
 
--- what is accepted now is accepted no later
+-- pieces accepted now are accepted no later than now
 pub all_now : (n : ℕ) (ps : List Piece) → AllByRecursion (λ p. IsEarlier n (held_at n p)) ps
 all_now n [] = tt
 all_now n (p ∷ ps) = (omega arith, all_now n ps)

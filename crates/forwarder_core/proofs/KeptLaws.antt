@@ -1,11 +1,11 @@
--- What a forwarder keeps still holds after each change.
+-- A forwarder's invariant holds after each change.
 use Rattle.std.proofs.Common.{◌≡◌, ℕ, zero, suc, ◌+◌, ◌<◌, List, [], ◌∷◌, ◌++◌, length, false, refl, sym, ap, ◌∙◌, subst, arith, None}
 use Rattle.std.specs.Prelude.{◌||◌, take, drop, map, slice_set, nat_le}
 use Rattle.std.specs.List.{AllByRecursion, list_any}
 use Rattle.suffix_routes.specs.Values.{Config, Route, IsConfig}
 use Rattle.outstanding.specs.Values.{Ask, Inquiries}
 use Rattle.step_table.specs.State.{State}
-use Rattle.waiting_questions.specs.Values.{Waiting}
+use Rattle.step_table.specs.WaitingQuestions.Values.{Waiting}
 use Rattle.step_table.specs.Ticks.{deadline_of}
 use Rattle.step_table.specs.Replies.{timeout_of}
 use Rattle.record_cache.specs.Values.{Held, Cache}
@@ -13,7 +13,7 @@ use Rattle.answer_builder.specs.Answers.{IsEarlier}
 use Rattle.step_table.specs.Progress.{IsTry, IsOnRoute, least, next_due, IsInOrder, ArePreferred}
 use Rattle.step_table.specs.Row.{is_due_at}
 use Rattle.step_table.proofs.CallerLemmas.{All-weaker, preferred_first}
-use Rattle.step_actions.specs.Kept.{IsKeptAsk, IsKeptForwarder}
+use Rattle.client_decisions.specs.StepActions.Kept.{IsKeptAsk, IsKeptForwarder}
 
 -- other entries are kept
 pub kept_entries : (c : Config) (e e' : Cache) (entries : List Held) (i : Inquiries) (ws : List Waiting) (ps : List ℕ) (m k : ℕ) → IsKeptForwarder c e i ws ps m k → AllByRecursion (IsOnRoute c) entries → AllByRecursion (IsEarlier m) entries

@@ -1,4 +1,4 @@
--- A tick where nothing is due.
+-- A tick with nothing due.
 use Rattle.std.proofs.Common.{◌≡◌, ℕ, List, [], ◌∷◌, Bool, true, false, refl, sym, ap, subst, ◌∙◌}
 use Rattle.std.specs.Prelude.{nat_le, if◌then◌else◌}
 use Rattle.std.specs.List.{list_any}
@@ -6,7 +6,7 @@ use Rattle.std.proofs.lemmas.Bool.{cond-false, or_parts}
 use Rattle.suffix_routes.specs.Values.{Config}
 use Rattle.outstanding.specs.Values.{Ask}
 use Rattle.step_table.specs.State.{State, start}
-use Rattle.waiting_questions.specs.Values.{Waiting}
+use Rattle.step_table.specs.WaitingQuestions.Values.{Waiting}
 use Rattle.step_table.specs.Steps.{idle_step}
 use Rattle.step_table.specs.Row.{is_due_at, effective, Happens, HandsOctets, Row}
 use Rattle.step_table.specs.Ticks.{question, attempt, deadline_of, first_item, row_of_item, row_of_tick}

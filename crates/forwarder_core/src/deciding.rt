@@ -3,14 +3,13 @@
 ghost use Rattle.std.specs.Prelude.{IfOk, IfSome};
 ghost use Rattle.step_values.specs.Values.{event_of};
 ghost use Rattle.step_table.specs.Row.{HandsOctets, TakesNoMemory};
-ghost use Rattle.step_actions.specs.Decision.{IsDecided, IsDecidedQuietly, CanChange};
+ghost use Rattle.client_decisions.specs.StepActions.Decision.{IsDecided, IsDecidedQuietly, CanChange};
 
-use client_decisions::on_client;
+use client_decisions::{Decision, StepStartRef, on_client};
 use record_cache::LookUpSlot;
 use reply_decisions::{on_delivery, on_failed_path, on_tick};
 use std::alloc::{AllocError, Allocator};
 use std::hash::BuildHasher;
-use step_actions::{Decision, StepStartRef};
 use step_values::Event;
 
 /// The decision on an event; `None` for a restart. The slot may be any: it serves a look-up, and

@@ -3,9 +3,9 @@
 ghost use Rattle.std.specs.Prelude.{◌≤◌};
 
 use crate::script::{Heap, Runner, Script, input_in, run_again, run_first};
-use forwarder_core::{Event, StepInput};
+use forwarder_commands::scripts::{MOST_LINES, ReplayFault};
+use network_model::{Event, StepInput};
 use plain_values::PlainList;
-use replay_script::{MOST_LINES, ReplayFault};
 use std::alloc::AllocError;
 use std::io::Write;
 

@@ -5,8 +5,8 @@ ghost use Rattle.std.specs.Prelude.{◌≤◌};
 
 use crate::beginnings::octets_of;
 use crate::script::{Heap, Runner, Script, input_in, lines_of};
-use forwarder_core::{Outcome, StepInput};
-use replay_script::{MOST_LINES, ReplayFault};
+use forwarder_commands::scripts::{MOST_LINES, ReplayFault};
+use network_model::{Outcome, StepInput};
 use std::io::Write;
 
 /// The most octets of a block in addition to the event's octets.

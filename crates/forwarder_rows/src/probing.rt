@@ -5,8 +5,8 @@ use crate::narrow::run_narrow;
 use crate::restarting::tell_restart;
 use crate::script::{Heap, Runner, Script, Way, begin, script_in};
 use crate::sparing::run_line;
+use forwarder_commands::scripts::{MOST_LINES, ReplayFault};
 use refusing_allocator::Refusing;
-use replay_script::{MOST_LINES, ReplayFault};
 use std::alloc::Global;
 use std::io::Write;
 

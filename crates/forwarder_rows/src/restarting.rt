@@ -3,9 +3,8 @@
 ghost use Rattle.std.specs.Prelude.{◌≤◌};
 
 use crate::script::{Heap, Runner, Script, input_in, lines_of, read_in, run_first};
-use forwarder_core::{Event, Outcome, Step, StepInput};
-use network_model::run_list;
-use replay_script::{MOST_LINES, ReplayFault};
+use forwarder_commands::scripts::{MOST_LINES, ReplayFault};
+use network_model::{Event, Outcome, Step, StepInput, run_list};
 use std::io::Write;
 
 /// Prints a line if a restart after line `number` has an action, or if the later steps differ from

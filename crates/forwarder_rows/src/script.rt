@@ -2,12 +2,12 @@
 
 ghost use Rattle.std.specs.Prelude.{◌≤◌};
 
-use forwarder_core::{Forwarder, Outcome, StepInput};
-use lru::DefaultHasher;
-use refusing_allocator::Refusing;
-use replay_script::{
+use forwarder_commands::scripts::{
     MOST_LINES, ReplayFault, ScriptParts, input_of_line, parts, print, read_config,
 };
+use lru::DefaultHasher;
+use network_model::{Forwarder, Outcome, StepInput};
+use refusing_allocator::Refusing;
 use std::alloc::Global;
 use std::io::Write;
 use suffix_routes::Config;

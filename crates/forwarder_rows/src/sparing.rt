@@ -3,8 +3,8 @@
 ghost use Rattle.std.specs.Prelude.{◌≤◌};
 
 use crate::script::{Heap, Runner, Script, Way, input_in, lines_of, run_first};
-use forwarder_core::{Event, Outcome, StepInput};
-use replay_script::{MOST_LINES, ReplayFault};
+use forwarder_commands::scripts::{MOST_LINES, ReplayFault};
+use network_model::{Event, Outcome, StepInput};
 use std::io::Write;
 
 /// More allocations than any step of a row makes.

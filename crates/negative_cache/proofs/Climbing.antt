@@ -22,7 +22,7 @@ pub or_none : (o : Option Held) → o ≡ option_or o None
 or_none None = refl
 or_none (Some h) = refl
 
--- the nearest is that of the name itself, otherwise the nearest above
+-- the nearest name error is the name's own, otherwise the nearest above
 pub climbed_is : (there : There) (key : List (List ℕ)) → climbed there key ≡ option_or (there key) (above there key)
 climbed_is there [] = or_none (there [])
 climbed_is there (label ∷ key) = refl
@@ -33,7 +33,7 @@ climbed_here there key h is = climbed_is there key ∙ ap (λ o. option_or o (ab
 pub climbed_higher : (there : There) (key : List (List ℕ)) → there key ≡ None → climbed there key ≡ above there key
 climbed_higher there key is = climbed_is there key ∙ ap (λ o. option_or o (above there key)) is
 
--- where none may deny a name, none is near
+-- if no entry may deny a name, there is no nearest name error
 pub none_near : (routes : List Route) (route : Option ℕ) (moment class : ℕ) (entries : List Held) (key : List (List ℕ))
     → may_deny key entries ≡ false → climbed (name_error_on routes route moment (slots_of entries) class) key ≡ None
 none_near routes route moment class entries [] none = ap (only (is_on routes route)) (no_denial moment class [] entries none)
@@ -42,13 +42,13 @@ none_near routes route moment class entries (label ∷ key) none =
     (ap (only (is_on routes route)) (no_denial moment class (label ∷ key) entries none))
     ∙ none_near routes route moment class entries key (denied_higher label key entries none)
 
--- ---- the name's own
+-- ---- the name's own entry
 
--- the entry that is found is of the name
+-- the found entry has the name
 pub error_key : (moment class : ℕ) (entries : List Held) (key : List (List ℕ)) (h : Held) → name_error_of moment (slots_of entries) class key ≡ Some h → error_slot class key ≡ h.piece.slot
 error_key moment class entries key h found = entry_has_slot (error_slot class key) entries h (only_some (is_alive moment) (entry_of (error_slot class key) entries) h found).0
 
--- the name has its own route
+-- the found entry's name is on the name's route
 own_route : (routes : List Route) (moment class : ℕ) (entries : List Held) (key : List (List ℕ)) (h : Held) → name_error_of moment (slots_of entries) class key ≡ Some h → is_on routes (route_of routes key) h ≡ true
 own_route routes moment class entries key h found =
     (option_decides (route_of routes h.piece.slot.key) (route_of routes key)).1 (ap (λ s. route_of routes s.key) (sym (error_key moment class entries key h found)))
@@ -64,7 +64,7 @@ pub own_is_none : (routes : List Route) (moment class : ℕ) (entries : List Hel
 own_is_none routes moment class entries key none =
     climbed_higher (name_error_on routes (route_of routes key) moment (slots_of entries) class) key (ap (only (is_on routes (route_of routes key))) none)
 
--- the name of the entry has the name's route
+-- the test of the entry's route is a test of the name's route
 pub on_is : (routes : List Route) (route : Option ℕ) (moment class : ℕ) (entries : List Held) (key : List (List ℕ)) (h : Held) → name_error_of moment (slots_of entries) class key ≡ Some h
     → is_on routes route h ≡ option_eq nat_eq (route_of routes key) route
 on_is routes route moment class entries key h found =
@@ -80,18 +80,18 @@ pub off_route : (routes : List Route) (route : Option ℕ) (moment class : ℕ) 
 off_route routes route moment class entries key h found off =
     sym (ap (only (is_on routes route)) (sym found) ∙ only_false (is_on routes route) h (on_is routes route moment class entries key h (sym found) ∙ off))
 
--- ---- one name higher
+-- ---- a name higher
 
--- a name is under the name one label higher too
+-- a name under another is under the name a label higher, too
 pub under_higher : (key rest higher : List (List ℕ)) (label : List ℕ) → rest ≡ label ∷ higher → IsUnder key rest → IsUnder key higher
 under_higher key rest higher label is under =
     under_transitive key rest higher under (subst (λ (n : List (List ℕ)). IsUnder n higher) (sym is) (longer_is_under label higher higher (under_itself higher)))
 
--- the labels after the first one are in lower case too
+-- the labels after the first are in lower case, too
 pub lower_higher : (rest higher : List (List ℕ)) (label : List ℕ) → rest ≡ label ∷ higher → lowered rest ≡ rest → lowered higher ≡ higher
 lower_higher rest higher label is lower = let both : lowered (label ∷ higher) ≡ label ∷ higher = subst (λ (r : List (List ℕ)). lowered r ≡ r) is lower in cc
 
--- what is above a name is the nearest of the name one label higher
+-- the nearest above a name is the nearest of the name a label higher
 above_higher : (there : There) (asked rest higher : List (List ℕ)) (label : List ℕ) → rest ≡ label ∷ higher → above there rest ≡ above there asked → climbed there higher ≡ above there asked
 above_higher there asked rest higher label is left = sym (ap (above there) is) ∙ left
 

@@ -1,4 +1,4 @@
--- Which entries deny a name: the name error of the very name, and those of the names above it.
+-- Entries that deny a name: the name's own name error, and the name errors of names above.
 use Rattle.std.proofs.Common.{◌≡◌, ℕ, ◌≤◌, Bool, true, false, ◌&&◌, ◌||◌, ◌==◌, ◌⊎◌, inl, inr, List, [], ◌∷◌, ◌++◌, length, Option, None, Some, refl, sym, ap, subst, ◌∙◌, arith, length-append}
 use Rattle.std.specs.Prelude.{is_none}
 use Rattle.std.specs.Bool.{Decides}
@@ -7,9 +7,9 @@ use Rattle.std.specs.Cmp.{first_so, second_so}
 use Rattle.std.proofs.lemmas.Bool.Decides.{Decides-eqb}
 use Rattle.dns_name.specs.Labels.{lowered, is_under, IsSame, IsUnder}
 use Rattle.dns_name.proofs.CallerLemmas.{lowered_again, same_as_many_labels, longer_is_under, is_under_decides}
-use Rattle.trust_rank.specs.declared.slot.Slot.{Slot}
-use Rattle.trust_rank.specs.Replacing.{is_name_error}
-use Rattle.trust_rank.specs.Formed.{IsPiece}
+use Rattle.record_cache.specs.TrustRank.declared.slot.Slot.{Slot}
+use Rattle.record_cache.specs.TrustRank.Replacing.{is_name_error}
+use Rattle.record_cache.specs.TrustRank.Formed.{IsPiece}
 use Rattle.record_cache.specs.Values.{Held}
 use Rattle.record_cache.specs.Entries.{of_slot}
 use Rattle.record_cache.proofs.CallerLemmas.{slots_decide}
@@ -77,7 +77,7 @@ kind_none : (kind : Option ℕ) → is_none kind ≡ true → None ≡ kind
 kind_none None e = refl
 kind_none (Some kind) e = absurd cc
 
--- ---- the name error of the very name
+-- ---- the name's own name error
 
 own_denies : (name : List (List ℕ)) (class : ℕ) (h : Held) → IsLower h → error_slot class (lowered name) ≡ h.piece.slot → IsDenied name class h
 own_denies name class h lower e = (
@@ -96,7 +96,7 @@ slot_of_same name class h lower error same =
 tail_is : (x y : List ℕ) (xs ys : List (List ℕ)) → x ∷ xs ≡ y ∷ ys → xs ≡ ys
 tail_is x y xs ys e = cc
 
--- a name is under what it is the same as, and under what the name above it is under
+-- a name is under a key equal to the name, and under each key that the name above is under
 one_higher : (label : List ℕ) (name key front back : List (List ℕ)) → label ∷ name ≡ front ++ back → IsSame back key → IsSame (label ∷ name) key ⊎ IsUnder name key
 one_higher label name key [] back e same = inl (subst (λ (n : List (List ℕ)). IsSame n key) (sym e) same)
 one_higher label name key (first ∷ front) back e same = inr (front, back, tail_is label first name (front ++ back) e, same)
@@ -105,7 +105,7 @@ at_root : (key front back : List (List ℕ)) → [] ≡ front ++ back → IsSame
 at_root key [] back e same = subst (λ (n : List (List ℕ)). IsSame n key) (sym e) same
 at_root key (first ∷ front) back e same = absurd cc
 
--- the root is denied by its own name error alone
+-- the root is denied only by its own name error
 pub denies_root : (class : ℕ) (h : Held) → IsLower h → denies [] class h ≡ of_slot (error_slot class (lowered [])) h
 denies_root class h lower = one_test (denies [] class h) (of_slot (error_slot class (lowered [])) h) to from
   where
@@ -117,7 +117,7 @@ denies_root class h lower = one_test (denies [] class h) (of_slot (error_slot cl
     from : of_slot (error_slot class (lowered [])) h ≡ true → denies [] class h ≡ true
     from e = (denies_decides [] class h).1 (own_denies [] class h lower ((slots_decide (error_slot class (lowered [])) h.piece.slot).0 e))
 
--- another name by its own name error, and by what denies the name above it
+-- any other name is denied by its own name error, and by each denial of the name above
 pub denies_higher : (label : List ℕ) (name : List (List ℕ)) (class : ℕ) (h : Held) → IsLower h → denies (label ∷ name) class h ≡ (of_slot (error_slot class (lowered (label ∷ name))) h || denies name class h)
 denies_higher label name class h lower = one_test (denies (label ∷ name) class h) (of_slot (error_slot class (lowered (label ∷ name))) h || denies name class h) to from
   where
@@ -145,6 +145,6 @@ denies_higher label name class h lower = one_test (denies (label ∷ name) class
 under_is_short : (name key : List (List ℕ)) → IsUnder name key → length key ≤ length name
 under_is_short name key under = omega (arith, ap length under.2, length-append under.0 under.1, same_as_many_labels under.1 key under.3)
 
--- what denies a name has no more labels
+-- an entry that denies a name has no more labels
 pub denies_is_short : (name : List (List ℕ)) (class : ℕ) (h : Held) → denies name class h ≡ true → length h.piece.slot.key ≤ length name
 denies_is_short name class h is = under_is_short name h.piece.slot.key ((denies_decides name class h).0 is).1

@@ -10,7 +10,7 @@ use Rattle.dns_message.specs.Values.{Question}
 use Rattle.suffix_routes.specs.Values.{Route}
 use Rattle.suffix_routes.specs.Routes.{route_of, is_denied, denies as denies_route}
 use Rattle.suffix_routes.proofs.CallerLemmas.{denied_respects_same}
-use Rattle.trust_rank.specs.Replacing.{same_kind}
+use Rattle.record_cache.specs.TrustRank.Replacing.{same_kind}
 use Rattle.record_cache.specs.Values.{Held}
 use Rattle.record_cache.specs.Ageing.{is_alive}
 use Rattle.record_cache.specs.Laws.{Among}
@@ -22,7 +22,7 @@ use Rattle.negative_cache.specs.Laws.{IsTyped, IsDenial, Fits, FoundFits, IsNear
 use Rattle.negative_cache.proofs.Options.{option_decides}
 use Rattle.negative_cache.proofs.Denying.{and_true}
 
--- ---- what is found in a list
+-- ---- the entry found in a list
 
 pub find_some : (p : Held → Bool) (es : List Held) (h : Held) → find p es ≡ Some h → Among h es × (p h ≡ true)
 find_some p [] h is = cc
@@ -85,7 +85,7 @@ nearest_is_near (e ∷ es) other (inr rest) = (elim (nearest es) as (λ o. IsNea
   | Some x ↦ λ near. omega (arith, near, nearer_second e x)
 ]) (nearest_is_near es other rest)
 
--- ---- what fits
+-- ---- findings that fit
 
 typed_fits : (moment : ℕ) (entries : List Held) (q : Question) (kind : ℕ) (P : Held → Bool) (h : Held)
     → find (λ x. is_of_type q kind x && (is_alive moment x && P x)) entries ≡ Some h → IsTyped moment entries q kind h × (P h ≡ true)
@@ -111,12 +111,12 @@ denial_fits routes moment entries q h is =
       route = (option_decides (route_of routes h.piece.slot.key) (route_of routes q.name)).0 (second_so (is_alive moment h) (is_on_route routes q h) first);
     }
 
--- what was found so, or what comes next
+-- the finding of an entry, or the next finding
 pub or_holds : (F : Found → Type 0) (so : Held → Found) (o : Option Held) (next : Found) → ((h : Held) → o ≡ Some h → F (so h)) → F next → F (found_or so o next)
 or_holds F so (Some h) next f n = f h refl
 or_holds F so None next f n = n
 
--- what holds of each of the four holds of what is found
+-- a property of each of the four findings holds of the result
 found_holds : (F : Found → Type 0) (routes : List Route) (moment : ℕ) (entries : List Held) (q : Question)
     → ((h : Held) → set_for moment entries q q.kind ≡ Some h → F (rows h))
     → ((h : Held) → alias_for moment entries q ≡ Some h → F (alias h))
@@ -146,21 +146,21 @@ nearest_is_found routes moment entries q other denial =
     found_holds (λ f. IsNearer f other) routes moment entries q (λ h e. tt) (λ h e. tt) (λ h e. tt)
     (nearest_is_near (filter (is_denial_for routes moment q) entries) other (among_filter (is_denial_for routes moment q) entries other denial.living.among passes))
 
--- ---- names that are denied
+-- ---- denied names
 
 none_denied : (routes : List Route) (entries : List Held) (h : Held) → NoneIsDenied routes entries → Among h entries → is_denied routes h.piece.slot.key ≡ false
 none_denied routes [] h all among = absurd among
 none_denied routes (e ∷ es) h all (inl same) = subst (λ (x : Held). is_denied routes x.piece.slot.key ≡ false) same all.0
 none_denied routes (e ∷ es) h all (inr rest) = none_denied routes es h all.1 rest
 
--- an entry in a slot of the name is denied where the name is
+-- an entry in a slot of the name is denied if the name is
 pub typed_denied : (routes : List Route) (q : Question) (kind : ℕ) (h : Held) → is_of_type q kind h ≡ true → is_denied routes h.piece.slot.key ≡ is_denied routes q.name
 typed_denied routes q kind h slot =
     let key = h.piece.slot.key in
     let outer = first_so (same q.name key && (q.class == h.piece.slot.class)) (same_kind (Some kind) h.piece.slot.kind) slot in
     sym (denied_respects_same routes q.name key ((same_decides q.name key).0 (first_so (same q.name key) (q.class == h.piece.slot.class) outer)))
 
--- so is one in a denied slot among none of them
+-- no held entry is denied, so none is of a denied name
 pub none_of_denied : (routes : List Route) (entries : List Held) (q : Question) (h : Held) → NoneIsDenied routes entries → is_denied routes q.name ≡ true
     → Among h entries → is_denied routes h.piece.slot.key ≡ is_denied routes q.name → ⊥
 none_of_denied routes entries q h none denied_is among same =

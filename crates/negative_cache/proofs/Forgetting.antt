@@ -1,8 +1,8 @@
--- Removal of the name errors of a name and of the names above it.
+-- Removal of the name errors of a name and of the names above.
 use Rattle.std.proofs.Common.{◌≡◌, ℕ, Bool, true, false, cond, ◌||◌, not, inl, inr, List, [], ◌∷◌, filter, refl, sym, ap, ◌∙◌}
 use Rattle.std.specs.List.{AllByRecursion}
 use Rattle.dns_name.specs.Labels.{lowered}
-use Rattle.trust_rank.specs.Formed.{IsPiece}
+use Rattle.record_cache.specs.TrustRank.Formed.{IsPiece}
 use Rattle.record_cache.specs.Values.{Held, Cache}
 use Rattle.record_cache.specs.Entries.{of_slot, without, may_deny}
 use Rattle.record_cache.specs.Laws.{Among}
@@ -11,12 +11,12 @@ use Rattle.negative_cache.specs.Entries.{denies}
 use Rattle.negative_cache.specs.Showing.{shown}
 use Rattle.negative_cache.proofs.Denying.{error_slot, IsLower, lower_key, denies_decides, denies_root, denies_higher}
 
--- the entries without the name errors of a name and of those above it, one name after another
+-- the entries without the name errors of a name and of the names above, one name after another
 abbrev pub forgotten : ℕ → List (List ℕ) → List Held → List Held
 forgotten class [] entries = without (error_slot class (lowered [])) entries
 forgotten class (label ∷ name) entries = forgotten class name (without (error_slot class (lowered (label ∷ name))) entries)
 
--- without those of the names above it alone
+-- the entries without the name errors of the names above alone
 abbrev pub forgotten_above : ℕ → List (List ℕ) → List Held → List Held
 forgotten_above class [] entries = entries
 forgotten_above class (label ∷ name) entries = forgotten class name entries
@@ -25,7 +25,7 @@ pub forgotten_is : (class : ℕ) (name : List (List ℕ)) (entries : List Held) 
 forgotten_is class [] entries = refl
 forgotten_is class (label ∷ name) entries = refl
 
--- ---- one after another is all at once
+-- ---- removing one after another removes all at once
 
 all_filter : (P : Held → Type 0) (test : Held → Bool) (es : List Held) → AllByRecursion P es → AllByRecursion P (filter test es)
 all_filter P test [] h = h
@@ -82,7 +82,7 @@ nothing_shown name class entries formed none = all_stay (denies name class) entr
 pub cache_is : (a b : Cache) (entries : List Held) → a.capacity ≡ b.capacity → a.entries ≡ entries → a ≡ record b { entries = entries }
 cache_is a b entries c e = λ i. record { capacity = c i; entries = e i }
 
--- one name higher
+-- a name higher
 pub one_more : (class : ℕ) (rest higher : List (List ℕ)) (label : List ℕ) (entries entries' all : List Held) → rest ≡ label ∷ higher
     → forgotten_above class rest entries ≡ all → entries' ≡ without (error_slot class (lowered higher)) entries → forgotten_above class higher entries' ≡ all
 one_more class rest higher label entries entries' all is left e =

@@ -1,4 +1,4 @@
--- Changes that leave each look-up as it was, and the removed name errors.
+-- Changes that keep the result of each look-up, and the removed name errors.
 use Rattle.std.proofs.Common.{◌≡◌, ℕ, Bool, true, false, if◌then◌else◌, ◌&&◌, ◌||◌, ◌==◌, not, nat_eq, nat_le, List, filter, Option, None, Some, refl, sym, ap, ◌∙◌}
 use Rattle.std.specs.Prelude.{is_none}
 use Rattle.std.specs.Option.{option_eq}
@@ -10,7 +10,7 @@ use Rattle.dns_message.specs.Values.{Question}
 use Rattle.suffix_routes.specs.Values.{Route}
 use Rattle.suffix_routes.specs.Routes.{route_of}
 use Rattle.suffix_routes.proofs.CallerLemmas.{route_of_respects_same}
-use Rattle.trust_rank.specs.Replacing.{same_kind, is_name_error}
+use Rattle.record_cache.specs.TrustRank.Replacing.{same_kind, is_name_error}
 use Rattle.record_cache.specs.Values.{Held}
 use Rattle.record_cache.specs.Ageing.{is_alive}
 use Rattle.record_cache.specs.Entries.{promoted, AreHeld}
@@ -39,7 +39,7 @@ equal_questions_find_the_same routes moment entries kind class name other same =
 as_key : (routes : List Route) (moment : ℕ) (entries : List Held) (q : Question) → found routes moment entries q ≡ found routes moment entries (record { name = lowered q.name; kind = q.kind; class = q.class })
 as_key routes moment entries q = equal_questions_find_the_same routes moment entries q.kind q.class q.name (lowered q.name) (same_symmetric (lowered q.name) q.name (lowered_is_same q.name))
 
--- what is found slot by slot for the key of the name
+-- the finding, slot by slot, for the name's key
 pub by_slot : (routes : List Route) (moment capacity : ℕ) (entries : List Held) (q : Question) → AreHeld (record { capacity = capacity; entries = entries })
     → found_by_slot routes moment (slots_of entries) (lowered q.name) q.class q.kind ≡ found routes moment entries q
 by_slot routes moment capacity entries q held =

@@ -1,7 +1,7 @@
--- Where no name error has the size of a name, and no alias its ending, none is found.
+-- If no name error has a name's size, and no alias its ending, none is found.
 use Rattle.std.proofs.Common.{◌≡◌, ℕ, true, false, if◌then◌else◌, ◌==◌, List, length, Option, None, Some, refl, ap}
 use Rattle.dns_name.specs.Labels.{octets_of}
-use Rattle.trust_rank.specs.declared.slot.Slot.{Slot}
+use Rattle.record_cache.specs.TrustRank.declared.slot.Slot.{Slot}
 use Rattle.record_cache.specs.Values.{Held}
 use Rattle.record_cache.specs.Entries.{entry_of, ending, name_error_size, name_error_ending, alias_ending, has_name_error, may_deny, may_have_alias}
 use Rattle.record_cache.specs.Ageing.{is_alive}

@@ -1,4 +1,4 @@
--- The code's way, slot by slot, ends where the definition says.
+-- The code's look-up, slot by slot, has the definition's result.
 use Rattle.std.proofs.Common.{◌≡◌, ℕ, ◌<◌, Bool, true, false, cond, if◌then◌else◌, ◌&&◌, ◌||◌, ◌==◌, nat_lt, List, [], ◌∷◌, length, filter, Option, None, Some, refl, sym, ap, subst, ◌∙◌, arith}
 use Rattle.std.specs.List.{find, AllByRecursion}
 use Rattle.std.specs.Option.{option_or}
@@ -7,8 +7,8 @@ use Rattle.dns_name.specs.Labels.{lowered}
 use Rattle.dns_message.specs.Values.{Question}
 use Rattle.suffix_routes.specs.Values.{Route}
 use Rattle.suffix_routes.specs.Routes.{route_of}
-use Rattle.trust_rank.specs.declared.slot.Slot.{Slot}
-use Rattle.trust_rank.specs.Formed.{IsPiece}
+use Rattle.record_cache.specs.TrustRank.declared.slot.Slot.{Slot}
+use Rattle.record_cache.specs.TrustRank.Formed.{IsPiece}
 use Rattle.record_cache.specs.Values.{Held}
 use Rattle.record_cache.specs.Ageing.{is_alive}
 use Rattle.record_cache.specs.Entries.{of_slot, entry_of, AreApart}
@@ -42,13 +42,13 @@ all_are Q f (e ∷ es) = (f e, all_are Q f es)
 abbrev NoneOf : Slot → List Held → Type 0
 NoneOf s es = AllByRecursion (λ e. of_slot s e ≡ false) es
 
--- ---- the entry of a slot
+-- ---- a slot's entry
 
 find_none : (s : Slot) (P : Held → Bool) (es : List Held) → NoneOf s es → find (λ h. of_slot s h && P h) es ≡ None
 find_none s P [] none = refl
 find_none s P (e ∷ es) none = rw none.0 (find_none s P es none.1)
 
--- the entry of a slot that passes a test is the one of the slot, where it passes
+-- the entry of a slot and a test is the slot's entry, if passing
 find_entry : (s : Slot) (P : Held → Bool) (es : List Held) → AreApart es → find (λ h. of_slot s h && P h) es ≡ only P (entry_of s es)
 find_entry s P [] apart = refl
 find_entry s P (e ∷ es) apart = (elim (of_slot s e) as (λ b. of_slot s e ≡ b → cond (b && P e) (Some e) (find (λ h. of_slot s h && P h) es) ≡ only P (cond b (Some e) (entry_of s es))) [
@@ -60,7 +60,7 @@ module _ (entries : List Held) (q : Question) (apart : AreApart entries) (lower 
   abbrev slot : ℕ → Slot
   slot kind = record { key = q.name; class = q.class; kind = Some kind }
 
-  -- what the slot of a type has that passes two tests
+  -- the entry of a type's slot, if passing two tests
   pub typed_is : (T P : Held → Bool) (kind : ℕ) → only P (only T (entry_of (slot kind) entries)) ≡ find (λ h. is_of_type q kind h && (T h && P h)) entries
   typed_is T P kind =
       only_both T P (entry_of (slot kind) entries)
@@ -71,7 +71,7 @@ module _ (entries : List Held) (q : Question) (apart : AreApart entries) (lower 
 
 -- ---- the nearest
 
--- of fewer labels than this
+-- an entry of fewer than n labels
 abbrev IsShorter : ℕ → Held → Type 0
 IsShorter n h = length h.piece.slot.key < n
 
@@ -99,7 +99,7 @@ not_less a b h = grind (arith, nat_tests)
 is_less : (a b : ℕ) → a < b → nat_lt a b ≡ true
 is_less a b h = grind (arith, nat_tests)
 
--- none is nearer than what has more labels
+-- an entry with more labels is nearest
 nearer_first : (h : Held) (o : Option Held) → AreShorter (length h.piece.slot.key) o → nearer h o ≡ h
 nearer_first h None shorter = refl
 nearer_first h (Some other) shorter = rw (not_less (length h.piece.slot.key) (length other.piece.slot.key) shorter) refl
@@ -107,7 +107,7 @@ nearer_first h (Some other) shorter = rw (not_less (length h.piece.slot.key) (le
 nearer_second : (h other : Held) → IsShorter (length other.piece.slot.key) h → nearer h (Some other) ≡ other
 nearer_second h other short = rw (is_less (length h.piece.slot.key) (length other.piece.slot.key) short) refl
 
--- nothing passes
+-- no entry passes
 none_pass : (T : Held → Bool) (es : List Held) → nearest (filter (λ h. T h && false) es) ≡ None
 none_pass T [] = refl
 none_pass T (e ∷ es) = (elim (T e) as (λ t. nearest (cond (t && false) (e ∷ filter (λ h. T h && false) es) (filter (λ h. T h && false) es)) ≡ None) [
@@ -138,7 +138,7 @@ module _ (T below : Held → Bool) (s : Slot) where
       (nearest_short (length s.key) (λ h. T h && below h) es
       (all_of Short (λ h. (T h && below h) ≡ true → IsShorter (length s.key) h) (λ h f is. f (second_true (T h) (below h) is)) es short))
 
-  -- the first entry is of the slot
+  -- the first entry is the slot's
   own : (e : Held) (es : List Held) → of_slot s e ≡ true → NoneOf s es → AllByRecursion Short es → (t : Bool)
       → option_or (if t then Some e else None) (nearest (cond (t && below e) (e ∷ shorter_ones es) (shorter_ones es))) ≡ nearest (cond (t && true) (e ∷ both es) (both es))
   own e es is none short true =
@@ -146,7 +146,7 @@ module _ (T below : Held → Bool) (s : Slot) where
       sym (ap Some (nearer_first e (nearest (both es)) (subst (λ (n : ℕ). AreShorter n (nearest (both es))) key (rest_short es none short))))
   own e es is none short false = ap nearest (sym (none_own es none))
 
-  -- it is of another one, and passes
+  -- the first entry is another slot's, and passes
   passed : (e : Held) (es : List Held) → IsShorter (length s.key) e → (o : Option Held) → only T (entry_of s es) ≡ o → option_or o (nearest (shorter_ones es)) ≡ nearest (both es)
       → option_or o (Some (nearer e (nearest (shorter_ones es)))) ≡ Some (nearer e (nearest (both es)))
   passed e es short None is rest = ap (λ (o : Option Held). Some (nearer e o)) rest
@@ -160,8 +160,7 @@ module _ (T below : Held → Bool) (s : Slot) where
   other e es rest true false short = rest
   other e es rest false w short = rest
 
-  -- the nearest of the slot's entry and of others with fewer labels is the slot's entry, where it
-  -- is there
+  -- the slot's entry, if any, is nearer than entries with fewer labels
   joined : (es : List Held) → AreApart es → AllByRecursion Short es → option_or (only T (entry_of s es)) (nearest (shorter_ones es)) ≡ nearest (both es)
   joined [] apart short = refl
   joined (e ∷ es) apart short = (elim (of_slot s e) as (λ b. of_slot s e ≡ b → option_or (only T (cond b (Some e) (entry_of s es))) (nearest (shorter_ones (e ∷ es))) ≡ nearest (cond (T e && (b || below e)) (e ∷ both es) (both es))) [
@@ -173,7 +172,7 @@ or_false : (b : Bool) → (b || false) ≡ b
 or_false true = refl
 or_false false = refl
 
--- one name after another, the first name error that passes is the nearest of those that do
+-- name after name upwards, the first name error that passes is the nearest of all that pass
 near_is : (T : Held → Bool) (class : ℕ) (key : List (List ℕ)) (es : List Held) → AreApart es → AllByRecursion IsLower es → lowered key ≡ key
     → climbed (λ k. only T (entry_of (error_slot class k) es)) key ≡ nearest (filter (λ h. T h && denies key class h) es)
 near_is T class [] es apart lower low =
@@ -198,7 +197,7 @@ denial_is routes moment entries q apart lower low =
     (λ i. climbed (λ key. only_both (is_alive moment) (is_on routes (route_of routes q.name)) (entry_of (error_slot q.class key) entries) i) q.name)
     ∙ near_is (λ h. is_alive moment h && is_on_route routes q h) q.class q.name entries apart lower low
 
--- ---- the whole
+-- ---- the whole look-up
 
 pub by_slot_is_found : (routes : List Route) (moment : ℕ) (entries : List Held) (q : Question) → AreApart entries → AllByRecursion (λ h. IsPiece h.piece) entries → lowered q.name ≡ q.name
     → found_by_slot routes moment (slots_of entries) q.name q.class q.kind ≡ found routes moment entries q

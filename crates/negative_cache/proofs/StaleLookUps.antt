@@ -1,4 +1,4 @@
--- Look-ups of stale entries: as the code goes, slot by slot, and their laws.
+-- Look-ups of stale entries: the code's, slot by slot, and their laws.
 use Rattle.std.proofs.Common.{◌≡◌, ◌≢◌, ℕ, ◌+◌, ◌*◌, Bool, true, false, if◌then◌else◌, ◌&&◌, ◌==◌, nat_eq, nat_lt, List, Option, None, Some, refl, sym, ap, ◌∙◌, arith}
 use Rattle.std.specs.List.{find, AllByRecursion}
 use Rattle.std.specs.Cmp.{first_so, second_so}
@@ -7,8 +7,8 @@ use Rattle.std.proofs.lemmas.Bool.{eq-eqb}
 use Rattle.dns_name.specs.Labels.{lowered}
 use Rattle.dns_name.proofs.CallerLemmas.{lowered_again, lowered_is_same}
 use Rattle.dns_message.specs.Values.{Question}
-use Rattle.trust_rank.specs.Replacing.{same_kind}
-use Rattle.trust_rank.specs.Formed.{IsPiece}
+use Rattle.record_cache.specs.TrustRank.Replacing.{same_kind}
+use Rattle.record_cache.specs.TrustRank.Formed.{IsPiece}
 use Rattle.record_cache.specs.Values.{Held}
 use Rattle.record_cache.specs.Ageing.{is_alive}
 use Rattle.record_cache.specs.Entries.{promoted, AreApart, AreHeld}
@@ -40,7 +40,7 @@ equal_questions_find_the_same_stale window moment entries kind class name other 
     let typed : List (List ℕ) → ℕ → Option Held = λ low of_kind. find (λ h. (pointwise (pointwise nat_eq) low (lowered h.piece.slot.key) && (class == h.piece.slot.class) && same_kind (Some of_kind) h.piece.slot.kind) && (is_within window moment h && is_set h)) entries in
     λ i. found_or rows (typed (same i) kind) (found_or alias (if kind == 5 then None else typed (same i) 5) miss)
 
--- what is found slot by slot for the key of the name
+-- the finding, slot by slot, for the name's key
 pub by_slot_within : (window moment capacity : ℕ) (entries : List Held) (q : Question) → AreHeld (record { capacity = capacity; entries = entries })
     → stale_by_slot window moment (slots_of entries) (lowered q.name) q.class q.kind ≡ stale window moment entries q
 by_slot_within window moment capacity entries q held =
@@ -55,7 +55,7 @@ promotion_keeps_stale window moment capacity entries q slot held =
     ∙ (λ i. stale_by_slot window moment (λ s. promotion_keeps_entry slot s entries held.apart i) (lowered q.name) q.class q.kind)
     ∙ by_slot_within window moment capacity entries q held
 
--- ---- what fits
+-- ---- findings that fit
 
 typed_within : (window moment : ℕ) (entries : List Held) (q : Question) (kind : ℕ) (h : Held) → stale_set_for window moment entries q kind ≡ Some h → IsTypedWithin window moment entries q kind h
 typed_within window moment entries q kind h is =
@@ -93,7 +93,7 @@ set_is moment entries q kind =
     (all_are (λ h. (is_of_type q kind h && (is_within 0 moment h && is_set h)) ≡ (is_of_type q kind h && (is_alive moment h && is_set h)))
     (λ h. ap (λ b. is_of_type q kind h && (b && is_set h)) (within_none moment h)) entries)
 
--- denials are left out, wherever they are
+-- denials are left out at any place
 denials_out : (set other empty error : Option Held) → found_or rows set (found_or alias other miss)
     ≡ set_or_alias (found_or rows set (found_or alias other (found_or no_data empty (found_or denied error miss))))
 denials_out (Some h) other empty error = refl
@@ -107,7 +107,7 @@ no_window_finds_the_living routes moment entries q =
     (λ i. found_or rows (set_is moment entries q q.kind i) (found_or alias (if q.kind == 5 then None else set_is moment entries q 5 i) miss))
     ∙ denials_out (set_for moment entries q q.kind) (alias_for moment entries q) (no_data_for moment entries q) (denial_for routes moment entries q)
 
--- ---- names that are denied
+-- ---- denied names
 
 pub nothing_is_found_of_denied : NothingIsFoundOfDenied
 nothing_is_found_of_denied routes window moment entries q none is =

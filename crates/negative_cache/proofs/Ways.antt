@@ -1,4 +1,4 @@
--- A look-up on each of its ways: the entry met, slot by slot, is the one for the question.
+-- A look-up in each case: the entry met, slot by slot, is the question's.
 use Rattle.std.proofs.Common.{◌≡◌, ℕ, List, Option, Some, None, sym, ap, ◌∙◌}
 use Rattle.dns_name.specs.Labels.{lowered}
 use Rattle.dns_message.specs.Values.{Question}

@@ -4,7 +4,7 @@ use Rattle.dns_message.specs.Values.{Question}
 use Rattle.suffix_routes.specs.declared.peer.Peer.{Peer}
 use Rattle.suffix_routes.specs.Values.{Route}
 use Rattle.suffix_routes.specs.Routes.{route_of}
-use Rattle.trust_rank.specs.Values.{Body, rows, no_data, denied}
+use Rattle.record_cache.specs.TrustRank.Values.{Body, rows, no_data, denied}
 use Rattle.record_cache.specs.Values.{Held}
 use Rattle.negative_cache.specs.Values as finds
 use Rattle.negative_cache.specs.Finding.{found, found_or_local}

@@ -1,6 +1,6 @@
 -- Worked look-ups of stale entries, computed, each with one that is otherwise.
 use Rattle.std.proofs.Common.{◌≡◌, ℕ, List, [], ◌∷◌, Some, None, refl}
-use Rattle.trust_rank.specs.Values.{rows, no_data, denied}
+use Rattle.record_cache.specs.TrustRank.Values.{rows, no_data, denied}
 use Rattle.record_cache.specs.Values.{Held}
 use Rattle.negative_cache.specs.Values as finds
 use Rattle.negative_cache.specs.Stale.{stale}

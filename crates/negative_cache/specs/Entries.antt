@@ -1,8 +1,8 @@
 -- The content of an entry: a set, NODATA (RFC 2308 2.2), or a name error (RFC 2308 2.1).
 use Rattle.std.specs.Prelude.{ℕ, Bool, true, false, ◌==◌, ◌&&◌, List}
 use Rattle.dns_name.specs.Labels.{is_under}
-use Rattle.trust_rank.specs.Values.{Body, rows, no_data, denied}
-use Rattle.trust_rank.specs.Replacing.{is_name_error}
+use Rattle.record_cache.specs.TrustRank.Values.{Body, rows, no_data, denied}
+use Rattle.record_cache.specs.TrustRank.Replacing.{is_name_error}
 use Rattle.record_cache.specs.Values.{Held}
 
 -- the content is a record set

@@ -7,7 +7,7 @@ use Rattle.std.specs.Option.{option_eq}
 use Rattle.dns_message.specs.Values.{Question}
 use Rattle.suffix_routes.specs.Values.{Route}
 use Rattle.suffix_routes.specs.Routes.{route_of, is_denied}
-use Rattle.trust_rank.specs.Replacing.{same_slot}
+use Rattle.record_cache.specs.TrustRank.Replacing.{same_slot}
 use Rattle.record_cache.specs.Values.{Held}
 use Rattle.record_cache.specs.Ageing.{is_alive}
 use Rattle.negative_cache.specs.Values.{Found, local, rows, alias, no_data, denied, miss}

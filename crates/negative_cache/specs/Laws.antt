@@ -5,10 +5,10 @@ use Rattle.dns_name.specs.Labels.{IsSame}
 use Rattle.dns_message.specs.Values.{Question}
 use Rattle.suffix_routes.specs.Values.{Route}
 use Rattle.suffix_routes.specs.Routes.{route_of, is_denied}
-use Rattle.trust_rank.specs.declared.slot.Slot.{Slot}
-use Rattle.trust_rank.specs.Values.{Piece}
-use Rattle.trust_rank.specs.Replacing.{is_name_error, takes_place_of}
-use Rattle.trust_rank.specs.Formed.{IsPiece}
+use Rattle.record_cache.specs.TrustRank.declared.slot.Slot.{Slot}
+use Rattle.record_cache.specs.TrustRank.Values.{Piece}
+use Rattle.record_cache.specs.TrustRank.Replacing.{is_name_error, takes_place_of}
+use Rattle.record_cache.specs.TrustRank.Formed.{IsPiece}
 use Rattle.record_cache.specs.Values.{Held}
 use Rattle.record_cache.specs.Ageing.{is_alive}
 use Rattle.record_cache.specs.Entries.{promoted, AreHeld}

@@ -6,3 +6,4 @@ pub mod Stale
 pub mod Showing
 pub mod BySlot
 pub mod Laws
+pub use Rattle.record_cache.specs as RecordCache

@@ -1,6 +1,6 @@
 -- The outcome of a look-up in contracts.
 use Rattle.std.specs.Prelude.{◌≡◌}
-use Rattle.trust_rank.specs.declared.slot.Slot.{Slot}
+use Rattle.record_cache.specs.TrustRank.declared.slot.Slot.{Slot}
 use Rattle.record_cache.specs.Values.{Held}
 use Rattle.negative_cache.specs.declared.found.Found.{Found as OwnedFound}
 use Rattle.negative_cache.specs.declared.found.Found.TheVariants as owned

@@ -18,5 +18,6 @@ pub use laws::{
     found_fits, found_is_settled, nearest_is_found, nothing_is_found_of_denied, shown_is_replaced,
     stale_fits, stale_is_settled,
 };
+pub use record_cache::{Cache, Held, LookUpSlot, Offered};
 pub use showing::shown;
 pub use stale::find_stale;

@@ -7,10 +7,9 @@ ghost use Rattle.negative_cache.specs.Entries.{is_no_data, is_set};
 ghost use Rattle.negative_cache.specs.BySlot.{living_entry, only, slots_of};
 
 use crate::cache_at::CacheAt;
-use record_cache::{Held, LookUpSlot};
+use record_cache::{Body, Held, LookUpSlot};
 use std::alloc::Allocator;
 use std::hash::BuildHasher;
-use trust_rank::Body;
 
 /// The entry of a slot, where it is alive. The slot keeps its hash. `held` says what holds of all
 /// entries.

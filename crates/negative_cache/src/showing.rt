@@ -6,10 +6,9 @@ ghost use Rattle.record_cache.specs.Entries.{AreHeld, without};
 ghost use Rattle.negative_cache.specs.Showing.{shown};
 
 use dns_name::{Name, NameKey, split_label};
-use record_cache::{Cache, ending};
+use record_cache::{Cache, Slot, ending};
 use std::alloc::Allocator;
 use std::hash::BuildHasher;
-use trust_rank::Slot;
 
 /// Removes the name errors of the class, of the name and of the names above, which a set or NODATA
 /// at the name shows to exist (RFC 8020 2); and nothing else.

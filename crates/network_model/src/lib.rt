@@ -8,5 +8,5 @@ mod run;
 pub use recorded::Recorded;
 pub use run::run_list;
 pub use script_wire::{ScriptTurn, ScriptWire};
-pub use serving_loop::{Served, serve};
+pub use serving_loop::{Event, Forwarder, Outcome, Served, Step, StepInput, serve};
 pub use wires::{Arrival, Wire, WireFault};

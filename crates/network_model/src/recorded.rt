@@ -4,9 +4,9 @@ ghost use Rattle.std.specs.Prelude.{◌≡◌, ◌∷◌, ◌++◌, [], IfOk, On
 ghost use Rattle.step_values.specs.Values.{Outcome};
 ghost use Rattle.step_table.specs.Row.{Row};
 ghost use Rattle.step_table.specs.Steps.{initial};
-ghost use Rattle.theorem_use.specs.Service.{ServesTruly};
+ghost use Rattle.serving_loop.specs.TheoremUse.Service.{ServesTruly};
 
-use forwarder_core::Forwarder;
+use serving_loop::Forwarder;
 use std::alloc::{AllocError, Allocator, Global};
 use std::hash::BuildHasher;
 use std::marker::Model;
@@ -21,7 +21,7 @@ pub struct Recorded<H: BuildHasher, A: Allocator = Global> {
 }
 
 impl<H: BuildHasher, A: Allocator> Model for Recorded<H, A> {
-    ghost use Rattle.theorem_use.specs.Service.{ComesTo};
+    ghost use Rattle.serving_loop.specs.TheoremUse.Service.{ComesTo};
     ghost use Rattle.network_model.specs.Recordings.{Recording};
 
     ghost Value = { Recording };

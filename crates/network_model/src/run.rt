@@ -3,11 +3,11 @@
 ghost use Rattle.std.specs.Prelude.{◌≡◌, map, IfOk};
 ghost use Rattle.step_table.specs.State.{State};
 ghost use Rattle.step_table.specs.Steps.{initial};
-ghost use Rattle.theorem_sound.specs.Runs.{Run};
-ghost use Rattle.theorem_use.specs.Service.{ServesTruly};
+ghost use Rattle.serving_loop.specs.TheoremSound.Runs.{Run};
+ghost use Rattle.serving_loop.specs.TheoremUse.Service.{ServesTruly};
 
-use forwarder_core::Forwarder;
 use lru::DefaultHasher;
+use serving_loop::Forwarder;
 use std::alloc::{AllocError, Allocator};
 use step_values::{Step, StepInput};
 use suffix_routes::Config;

@@ -1,4 +1,4 @@
--- The asks under keys.
+-- Asks under keys.
 use Rattle.std.proofs.Common.{◌≡◌, ◌≢◌, ◌⊎◌, ℕ, zero, suc, ◌<◌, List, [], ◌∷◌, ◌++◌, length, Bool, true, false, not, Option, Some, None, IsSome, refl, sym, ap, ◌∙◌, inl, inr, arith}
 use Rattle.std.specs.Prelude.{slice_index, filter}
 use Rattle.std.specs.List.{find, remove, cons_option}
@@ -10,14 +10,14 @@ use Rattle.outstanding.specs.Values.{Ask}
 use Rattle.outstanding.specs.Tables.{asks_under}
 use Rattle.outstanding.proofs.Searches.{value_of}
 
--- slabs with equal values under these keys have equal asks there
+-- slabs with equal values under these keys have equal asks under them
 pub same_under : (s s' : Slab Ask) (keys : List ℕ) → ((i : ℕ) → i < length keys → get s' (slice_index keys i) ≡ get s (slice_index keys i)) → asks_under s' keys ≡ asks_under s keys
 same_under s s' [] same = refl
 same_under s s' (k ∷ keys) same =
     let here : get s' k ≡ get s k = same 0 (omega arith) in
     ap (λ o. cons_option o (asks_under s' keys)) here ∙ ap (cons_option (get s k)) (same_under s s' keys (λ i within. same (suc i) (omega arith)))
 
--- one more, last
+-- a further ask, last
 pub put_under : (s s' : Slab Ask) (keys : List ℕ) (key : ℕ) (a : Ask) → asks_under s' keys ≡ asks_under s keys → get s' key ≡ Some a → asks_under s' (keys ++ key ∷ []) ≡ asks_under s keys ++ a ∷ []
 put_under s s' keys key a same e = filter_map-append (get s') keys (key ∷ []) ∙ ap (λ xs. xs ++ asks_under s' (key ∷ [])) same ∙ ap (λ o. asks_under s keys ++ cons_option o []) e
 
@@ -37,7 +37,7 @@ unfound p s (k ∷ keys) none = by (get s k) refl (unfound p s keys none)
     by None e rest = rest
     by (Some a) e rest = cond-false (p a) (Some a) (find p (asks_under s keys)) (false_from_ne_true (p a) (none k a e)) ∙ rest
 
--- just the ask under one key passes a test
+-- only the ask under a single key passes a test
 module _ (p : Ask → Bool) (s : Slab Ask) (key : ℕ) (a : Ask) (here : get s key ≡ Some a) (passes : p a ≡ true) (only : (j : ℕ) (b : Ask) → get s j ≡ Some b → p b ≡ true → j ≡ key) where
   fails : (j : ℕ) (b : Ask) → get s j ≡ Some b → j ≢ key → p b ≡ false
   fails j b e other = false_from_ne_true (p b) (λ yes. other (only j b e yes))

@@ -1,4 +1,4 @@
--- The first of listed asks is due first.
+-- The first of the listed asks is due first.
 use Rattle.std.proofs.Common.{◌≡◌, ℕ, ◌+◌, ◌≤◌, List, [], ◌∷◌, refl, sym, ap, ◌∙◌, arith, Option, Some, None}
 use Rattle.std.specs.Prelude.{nat_le, slice_get}
 use Rattle.std.proofs.lemmas.Bool.{le-leb, cond-true}
@@ -8,7 +8,7 @@ use Rattle.outstanding.specs.Values.{Ask}
 use Rattle.outstanding.specs.Lists.{AreInTurn}
 use Rattle.outstanding.specs.Due.{due_of, sooner, next_due}
 
--- of asks that come no earlier, the next one is due no earlier
+-- a first ask asked no later than the rest is due first
 no_earlier : (ask_ms : ℕ) (first : ℕ × Path) (rest : Option (ℕ × Path)) → ((later : ℕ × Path) → rest ≡ Some later → first.0 ≤ later.0) → sooner first rest ≡ Some first
 no_earlier ask_ms first None all = refl
 no_earlier ask_ms first (Some later) all = cond-true (nat_le first.0 later.0) _ _ (le-leb first.0 later.0 (all later refl))

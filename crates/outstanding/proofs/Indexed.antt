@@ -1,4 +1,4 @@
--- Searches of indexed asks, and the indexes after one ask more or less.
+-- Searches of indexed asks, and the indexes with one ask more or less.
 use Rattle.std.proofs.Common.{◌≡◌, ℕ, ◌+◌, ◌<◌, List, [], ◌∷◌, ◌++◌, length, get_or, Bool, true, not, Option, Some, None, is_eq, Ordering, refl, sym, ap, ◌∙◌, subst, arith}
 use Rattle.std.specs.Prelude.{slice_index, filter}
 use Rattle.std.specs.List.{find, insert, remove}
@@ -19,7 +19,7 @@ use Rattle.outstanding.proofs.KeyEdits.{same_value, covers_put, rises_put, same_
 use Rattle.outstanding.proofs.AsksUnder.{same_under, put_under, length_under, found, unfound, without}
 use Rattle.outstanding.proofs.SameOrders.{path_total, key_total, equal_from, same_path_is, same_question_is}
 
--- a test that holds just of what is sought
+-- a test that only the sought asks pass
 module _ {K : Type 0} (R : K → K → Ordering) (total : IsTotalOrder R) (read : Ask → K) (x : K) (p : Ask → Bool) (tests : (a : Ask) → p a ≡ is_eq (R (read a) x))
     (s : Slab Ask) (keys arrivals : List ℕ) (covers : Covers s keys) (rises : Rises R read s keys) (by_arrival : Covers s arrivals) where
   module _ (i : ℕ) (at : IsAt (λ a. R (read a) x) s keys i) (a : Ask) (here : get s (slice_index keys i) ≡ Some a) where
@@ -69,7 +69,7 @@ none_indexed s by_path by_question by_arrival slots paths questions arrivals =
       arrivals = covers by_arrival arrivals;
     }
 
--- ---- one more
+-- ---- one more ask
 
 module _ (s s' : Slab Ask) (by_path by_question by_arrival : List ℕ) (indexed : AreIndexed s by_path by_question by_arrival) (key : ℕ) (a : Ask) (was : get s key ≡ None) (updates : Updates s s' key (Some a)) where
   pub put_indexed : (i j : ℕ) → IsGap (to_path a.path) s by_path i → IsGap (to_question (question_key a.question)) s by_question j
@@ -85,7 +85,7 @@ module _ (s s' : Slab Ask) (by_path by_question by_arrival : List ℕ) (indexed 
   pub put_asks : asks_under s' (by_arrival ++ key ∷ []) ≡ asks_under s by_arrival ++ a ∷ []
   put_asks = put_under s s' by_arrival key a (same_under s s' by_arrival (same_value by_arrival (length by_arrival) key (omega arith) s s' (Some a) indexed.arrivals was updates)) updates.changed
 
--- ---- one less
+-- ---- one ask less
 
 -- the places of an ask's key
 pub record Placed (s : Slab Ask) (by_path by_question by_arrival : List ℕ) (path : Path) (key i j t : ℕ) (a : Ask) : Type 0 where
@@ -135,7 +135,7 @@ pub indexed_same : (s : Slab Ask) (p q t p' q' t' : List ℕ) → p' ≡ p → q
 indexed_same s p q t p' q' t' paths questions arrivals indexed =
     subst (λ (ks : List ℕ). AreIndexed s ks q' t') (sym paths) (subst (λ (ks : List ℕ). AreIndexed s p ks t') (sym questions) (subst (λ (ks : List ℕ). AreIndexed s p q ks) (sym arrivals) indexed))
 
--- what is sought is listed
+-- the sought ask is listed
 module _ (s : Slab Ask) (by_path by_question by_arrival : List ℕ) (indexed : AreIndexed s by_path by_question by_arrival) where
   pub path_listed : (path : Path) (i : ℕ) → IsAt (to_path path) s by_path i → on_path path (asks_under s by_arrival) ≡ None → ⊥
   path_listed path i at none =

@@ -11,7 +11,7 @@ use Rattle.slab.specs.Slab.{Slab, get, Updates}
 use Rattle.outstanding.specs.Values.{Ask}
 use Rattle.outstanding.specs.Tables.{Covers, Rises, IsGap}
 
--- the place of a key before one was put at a place, or taken out there
+-- the place of a key before another key was put or removed at place i
 record Stood (old new : List ℕ) (i : ℕ) : Type 0 where
   pub place : ℕ
   pub within : place < length old
@@ -36,7 +36,7 @@ left_in_order at i j p q less low high low' high' = elim (cases_lt i at) [
   | inr a ↦ omega (arith, high a, high' (omega arith))
 ]
 
--- ---- one more
+-- ---- one more key
 
 module _ (keys : List ℕ) (at key : ℕ) (in_range : at ≤ length keys) where
   abbrev pub more : List ℕ
@@ -110,7 +110,7 @@ module _ (keys : List ℕ) (at key : ℕ) (in_range : at ≤ length keys) where
     pub covers_put : IsSome slot → Covers s' more
     covers_put some = record { present = present some; complete = complete; apart = apart }
 
--- the asks rise too, where the key is put where its ask would go
+-- asks stay in order if the key is put at the ask's place in the order
 module _ {K : Type 0} (R : K → K → Ordering) (total : IsTotalOrder R) (read : Ask → K) (s s' : Slab Ask) (keys : List ℕ) (at key : ℕ) (a : Ask) (covers : Covers s keys) (rises : Rises R read s keys)
     (was : get s key ≡ None) (updates : Updates s s' key (Some a)) (gap : IsGap (λ b. R (read b) (read a)) s keys at) where
   new_ask : (b : Ask) → get s' (slice_index (insert keys at key) at) ≡ Some b → a ≡ b
@@ -140,7 +140,7 @@ module _ {K : Type 0} (R : K → K → Ordering) (total : IsTotalOrder R) (read 
         ]
   ]
 
--- ---- one less
+-- ---- one key less
 
 module _ (keys : List ℕ) (at key : ℕ) (in_range : at < length keys) (is : slice_index keys at ≡ key) where
   abbrev pub less : List ℕ
@@ -211,7 +211,7 @@ module _ (keys : List ℕ) (at key : ℕ) (in_range : at < length keys) (is : sl
 
 -- ---- none
 
--- where there is no ask, no keys cover them
+-- without asks, no keys cover the slab
 pub no_keys : (s : Slab Ask) → ((key : ℕ) → get s key ≡ None) → Covers s []
 no_keys s none = record {
   present = λ i within. absurd (omega arith);

@@ -11,22 +11,22 @@ use Rattle.outstanding.specs.Values.{Ask}
 use Rattle.outstanding.specs.Tables.{Covers, keys_of, HasNumber, AreNumbered}
 use Rattle.outstanding.proofs.KeyEdits.{same_value, same_left}
 
--- as many keys, and each at its place
+-- as many keys, each at its place
 keys_count : (keys : List NumberedKey) → length (keys_of keys) ≡ length keys
 keys_count keys = length-map keys (λ k. k.key)
 
 key_at : (keys : List NumberedKey) (i : ℕ) (d : NumberedKey) → i < length keys → slice_index (keys_of keys) i ≡ (slice_index_or keys i d).key
 key_at keys i d within = get_or-map (λ k. k.key) keys i d 0 within
 
--- the key that was read at a place
+-- the key read at a place
 pub read_at : (keys : List NumberedKey) (i key : ℕ) (k : NumberedKey) → i < length (keys_of keys) → k ≡ slice_index_or keys i k → key ≡ k.key → slice_index (keys_of keys) i ≡ key
 read_at keys i key k within read is = key_at keys i k (omega (arith, keys_count keys)) ∙ ap (λ k. k.key) (sym read) ∙ sym is
 
--- it has an ask
+-- the read key has an ask
 pub present_at : (s : Slab Ask) (keys : List NumberedKey) (i key : ℕ) (k : NumberedKey) → Covers s (keys_of keys) → i < length (keys_of keys) → k ≡ slice_index_or keys i k → key ≡ k.key → IsSome (get s key)
 present_at s keys i key k covers within read is = subst (λ (j : ℕ). IsSome (get s j)) (read_at keys i key k within read is) (covers.present i within)
 
--- keys that are numbered over a slab are numbered over a slab with equal asks under them, too
+-- numbered keys stay numbered over a slab with equal asks under the keys
 same_numbers : (number : Ask → ℕ) (s s' : Slab Ask) (keys : List NumberedKey) → ((i : ℕ) → i < length (keys_of keys) → get s' (slice_index (keys_of keys) i) ≡ get s (slice_index (keys_of keys) i))
     → AreNumbered number s keys → AreNumbered number s' keys
 same_numbers number s s' keys same numbered i d within a e =
@@ -34,7 +34,7 @@ same_numbers number s s' keys same numbered i d within a e =
     subst (λ (k : ℕ). get s' k ≡ get s k) (key_at keys i d within) (same i (omega (arith, keys_count keys))) in
     numbered i d within a (sym stays ∙ e)
 
--- ---- one more
+-- ---- one more key
 
 module _ (keys keys' : List NumberedKey) (i n key : ℕ) (k : NumberedKey) (are : keys' ≡ insert keys i k) (is : k ≡ record { number = n; key = key }) where
   key_is : k.key ≡ key
@@ -55,7 +55,7 @@ module _ (keys keys' : List NumberedKey) (i n key : ℕ) (k : NumberedKey) (are 
       let new : HasNumber number s' k = λ b e. ap (λ k. k.number) is ∙ tells ∙ ap number (same_Some a b (sym updates.changed ∙ ap (get s') (sym key_is) ∙ e)) in
       subst (AreNumbered number s') (sym are) (All-append P (take i keys) (k ∷ drop i keys) (All-take P i keys old) (All-cons P k (drop i keys) new (All-drop P i keys old)))
 
--- ---- one less
+-- ---- one key less
 
 module _ (keys keys' : List NumberedKey) (i : ℕ) (are : keys' ≡ remove keys i) where
   pub keys_left : keys_of keys' ≡ remove (keys_of keys) i

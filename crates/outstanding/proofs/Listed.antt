@@ -1,4 +1,4 @@
--- Listed asks after one more, or one less.
+-- Listed asks with one ask more or less.
 use Rattle.std.proofs.Common.{◌≡◌, ℕ, ◌<◌, ◌≤◌, List, [], ◌∷◌, ◌++◌, length, Bool, true, false, cond, refl, sym, ap, subst, arith, length-append, Some, None}
 use Rattle.std.specs.Prelude.{not, filter}
 use Rattle.std.specs.List.{find, AllByRecursion}
@@ -19,7 +19,7 @@ pub same_path-refl : (a : Path) → same_path a a ≡ true
 same_path-refl (Udp a) = eq-eqb a a refl
 same_path-refl (Tcp a) = eq-eqb a a refl
 
--- ---- one more
+-- ---- one more ask
 
 all_put : {X : Type 0} (P : X → Type 0) (xs : List X) (y : X) → AllByRecursion P xs → P y → AllByRecursion P (xs ++ y ∷ [])
 all_put P [] y all last = (last, tt)
@@ -51,7 +51,7 @@ put capacity asks ask by_arrival in_time may room = record {
   in_time = all_put IsInTime asks ask in_time may.in_time;
 }
 
--- ---- one less
+-- ---- one ask less
 
 all_kept : {X : Type 0} (P : X → Type 0) (q : X → Bool) (xs : List X) → AllByRecursion P xs → AllByRecursion P (filter q xs)
 all_kept P q [] all = tt
@@ -84,7 +84,7 @@ left path capacity asks listed = record {
   in_time = all_kept IsInTime (λ a. not (same_path a.path path)) asks listed.in_time;
 }
 
--- one in the place of another
+-- an ask in place of another
 pub replaced : (path : Path) (capacity : ℕ) (asks after : List Ask) (ask : Ask) → after ≡ without_path path asks ++ ask ∷ [] → length after ≡ length asks
     → AreListed (record { capacity = capacity; asks = asks }) → MayBegin ask (without_path path asks)
     → AreListed (record { capacity = capacity; asks = after })
@@ -94,7 +94,7 @@ replaced path capacity asks after ask is long listed may =
     subst (λ (xs : List Ask). AreListed (record { capacity = capacity; asks = xs })) (sym is)
     (put capacity (without_path path asks) ask rest.by_arrival rest.in_time may (omega (arith, long, size, listed.few, length-append (without_path path asks) (ask ∷ []))))
 
--- where none is, nothing is left out
+-- without an ask on the path, nothing is left out
 pub none_left_out : (path : Path) (asks : List Ask) → find (λ (a : Ask). same_path a.path path) asks ≡ None → asks ≡ without_path path asks
 none_left_out path [] none = refl
 none_left_out path (a ∷ asks) none = by (same_path a.path path) none (none_left_out path asks)

@@ -1,5 +1,5 @@
--- One question has one ask, so the next ask for it may begin where that one ended. And a port that
--- is drawn is free.
+-- A question has a single ask, so its next ask may begin once that ask ended. And a drawn port is
+-- free.
 use Rattle.std.proofs.Common.{◌≡◌, ℕ, ◌≤◌, List, [], ◌∷◌, Bool, true, false, cond, refl, sym, ap, ◌∙◌, subst, Option, Some, None, is_some, Bor}
 use Rattle.std.specs.Prelude.{not, filter, ◌||◌, MatchOption}
 use Rattle.std.specs.List.{find, list_any, AllByRecursion}
@@ -15,14 +15,14 @@ use Rattle.outstanding.specs.Lists.{same_path, on_path, of_question, without_pat
 use Rattle.outstanding.specs.Draws.{is_used, is_freed, without_port}
 use Rattle.outstanding.specs.Laws.{NextMayBegin, EndedIsUnlisted, UnlistedStaysSo}
 
--- two questions that are equal to a third are equal
+-- questions equal to a third are equal
 same_question-join : (a b q : Question) → same_question a q ≡ true → same_question b q ≡ true → same_question a b ≡ true
 same_question-join a b q one other =
     let first = (same_question_decides a q).0 one in
     let second = (same_question_decides b q).0 other in
     (same_question_decides a b).1 (same_question_transitive a q b first (same_question_symmetric b q second))
 
--- b has another question than a, so than the one that a has
+-- if a equals q and b differs from a, b differs from q
 differs : (a b q : Question) → same_question a q ≡ true → same_question a b ≡ false → same_question b q ≡ false
 differs a b q one other = by (same_question b q) refl
   where
@@ -78,7 +78,7 @@ none_behind : (x : Ask) (q : Question) (asks : List Ask) → same_question x.que
 none_behind x q [] one all = refl
 none_behind x q (y ∷ asks) one all = cond-false (same_question y.question q) _ _ (differs x.question y.question q one all.0.question) ∙ none_behind x q asks one all.1
 
--- without the ask on a path, the question of that ask is not asked
+-- without the ask on a path, the ask's question is not asked
 pub question_free : (path : Path) (q : Question) (asks : List Ask) (a : Ask) → AreInTurn asks → on_path path asks ≡ Some a → same_question a.question q ≡ true → of_question q (without_path path asks) ≡ None
 question_free path q [] a by_arrival on one = absurd (none-some a on)
 question_free path q (x ∷ asks) a by_arrival on one = by (same_path x.path path) on (λ here. question_free path q asks a by_arrival.1 here one)
@@ -116,7 +116,7 @@ unlisted_stays asks path other none = none_kept (λ (a : Ask). same_path a.path 
 
 -- ---- a drawn port
 
--- a port without a listed ask has none once the freed port is given up
+-- a port without a listed ask has none without the freed port
 pub unused : (port : ℕ) (asks : List Ask) (freed : Option ℕ) → is_used port asks ≡ false → on_path (Udp port) (without_port freed asks) ≡ None
 unused port asks None e = none_at_all (λ (a : Ask). same_path a.path (Udp port)) asks e
 unused port asks (Some freed) e =

@@ -1,4 +1,4 @@
--- The orders by which paths and questions are searched: equal exactly where they are the same.
+-- The search orders of paths and questions: equal in the order exactly if equal by the test.
 use Rattle.std.proofs.Common.{◌≡◌, ℕ, ◌<◌, Bool, true, false, ◌&&◌, ◌==◌, List, is_eq, nat_cmp, Ordering, Less, Equal, Greater, refl, sym, ap, ◌∙◌, ap₂, inl, inr, arith}
 use Rattle.std.specs.Prelude.{min}
 use Rattle.std.specs.Bool.{Decides}
@@ -9,11 +9,11 @@ use Rattle.std.proofs.lemmas.Bool.{and_parts, cases_order, eqb-true, eq-eqb, fal
 use Rattle.std.proofs.lemmas.Bool.Decides.{nat_tests, same_from_decides}
 use Rattle.std.proofs.lemmas.Cmp.{tied_itself}
 use Rattle.std.proofs.lemmas.Map.Text.{is_eq-slice_cmp}
-use Rattle.dns_name.specs.Key.{key_octets, key_len}
-use Rattle.dns_name.specs.Labels.{lowered, same}
-use Rattle.dns_name.specs.contracts.key.NameKeyOrd.TheImpl as name_ord
-use Rattle.dns_name.specs.contracts.key.NameKeyOrd.TheImpl.Laws as name_laws
-use Rattle.dns_name.proofs.CallerLemmas.{one_key, same_decides}
+use Rattle.dns_message.specs.DnsName.Key.{key_octets, key_len}
+use Rattle.dns_message.specs.DnsName.Labels.{lowered, same}
+use Rattle.dns_message.specs.DnsName.contracts.key.NameKeyOrd.TheImpl as name_ord
+use Rattle.dns_message.specs.DnsName.contracts.key.NameKeyOrd.TheImpl.Laws as name_laws
+use Rattle.dns_message.proofs.DnsName.CallerLemmas.{one_key, same_decides}
 use Rattle.dns_message.specs.Values.{Question}
 use Rattle.dns_message.specs.Questions.{same_question}
 use Rattle.outstanding.specs.declared.ask.Path.{Path}
@@ -46,7 +46,7 @@ same_path_is (Tcp a) (Tcp b) = numbers a b
 same_path_is (Udp a) (Tcp b) = refl
 same_path_is (Tcp a) (Udp b) = refl
 
--- numbers that agree with an order where they differ may be compared first
+-- numbers that agree with an order, unless equal, may be compared first
 numbers_first : (m n : ℕ) (o : Ordering) → (m < n → Less ≡ o) → (n < m → Greater ≡ o) → ordering_then (nat_cmp m n) o ≡ o
 numbers_first m n o less greater = elim (cases_order m n) [
   | inl same ↦ ap (λ c. ordering_then c o) (sym (nat_cmp_is m n Equal same))
@@ -94,13 +94,13 @@ three : (a b c : Bool) → (a && b && c) ≡ (a && (b && c))
 three true b c = refl
 three false b c = refl
 
--- what follows from a test may be asked before it
+-- a consequence of a test may be tested first
 asked_before : (a b c : Bool) → (b ≡ true → a ≡ true) → (a && (b && c)) ≡ (b && c)
 asked_before true b c follows = refl
 asked_before false true c follows = absurd (false≢true (follows refl))
 asked_before false false c follows = refl
 
--- equal names have one number
+-- equal names have equal numbers
 one_number : (a b : List (List ℕ)) → is_eq (name_cmp a b) ≡ true → is_eq (nat_cmp (name_number a) (name_number b)) ≡ true
 one_number a b equal =
     let same : name_number b ≡ name_number a = ap name_number (sym ((names_decide a b).0 equal)) in

@@ -1,4 +1,4 @@
--- The finding of a search of the keys of asks.
+-- The result of a search of asks' keys.
 use Rattle.std.proofs.Common.{◌≡◌, ◌⊎◌, ℕ, ◌<◌, ◌≤◌, List, length, map, get_or, Option, Some, None, IsSome, Result, Ok, Err, IfOk, IfErr, nat_cmp, Ordering, Less, Equal, Greater, refl, sym, ap, ap₂, ◌∙◌, subst, subst₂, inl, inr, arith}
 use Rattle.std.specs.Prelude.{slice_index}
 use Rattle.std.specs.List.{All}
@@ -14,7 +14,7 @@ use Rattle.outstanding.specs.declared.numbered.NumberedKey.{NumberedKey}
 use Rattle.outstanding.specs.Values.{Ask}
 use Rattle.outstanding.specs.Tables.{Covers, Rises, compared, IsAt, IsGap, keys_of, AreNumbered, compared_by_number}
 
--- the value of an option that has one
+-- the value of an option with a value
 pub value_of : {X : Type 0} (o : Option X) → IsSome o → (x : X) × (o ≡ Some x)
 value_of None some = absurd (false≢true some)
 value_of (Some x) some = (x, refl)
@@ -27,7 +27,7 @@ index_le Less = omega arith
 index_le Equal = omega arith
 index_le Greater = omega arith
 
--- the lower of two comes no later in a comparison with a third
+-- the lower of two compares no higher with a third
 index_rises : {K : Type 0} {R : K → K → Ordering} → IsTotalOrder R → (x y z : K) → R x y ≡ Less → ordering_index (R x z) ≤ ordering_index (R y z)
 index_rises {K} {R} total x y z less = by (R y z) refl
   where
@@ -52,7 +52,7 @@ module _ {K : Type 0} (R : K → K → Ordering) (total : IsTotalOrder R) (read 
           let same : i ≡ j = omega arith in
           rw same (omega arith)
 
-  -- a binary search ends at the ask that is sought, or where it would go
+  -- a binary search ends at the sought ask, or at its place in the order
   pub searched : (r : Result ℕ ℕ) → IsSearchInRange r (length keys) → IsBinarySearchResult (λ key. compared to (get s key)) keys r → IfOk r (IsAt to s keys) × IfErr r (IsGap to s keys)
   searched (Ok i) in_range equal = (
     record { in_range = in_range; equal = λ a e. ap (compared to) (sym e) ∙ equal 0 },
@@ -73,7 +73,7 @@ module _ {K : Type 0} (R : K → K → Ordering) (total : IsTotalOrder R) (read 
       let back : R x (read b) ≡ Equal = tied_back total (read b) x there in
       cc
 
-  -- no other ask is what is sought
+  -- only a single ask compares equal
   pub one_at : (i : ℕ) → IsAt to s keys i → (key : ℕ) (b : Ask) → get s key ≡ Some b → to b ≡ Equal → key ≡ slice_index keys i
   one_at i found key b e equal =
       let v = covers.complete key (is_some_of _ b e) in
@@ -85,7 +85,7 @@ module _ {K : Type 0} (R : K → K → Ordering) (total : IsTotalOrder R) (read 
         | inr (inr more) ↦ absurd (two_equal a.0 b (found.equal a.0 a.1) equal (rises i v.0 a.0 b more v.1 a.1 there))
       ]
 
--- none is what is sought
+-- no ask compares equal
 pub none_at : (f : Ask → Ordering) (s : Slab Ask) (keys : List ℕ) → Covers s keys → (i : ℕ) → IsGap f s keys i → (key : ℕ) (b : Ask) → get s key ≡ Some b → f b ≡ Equal → ⊥
 none_at f s keys covers i gap key b e equal =
     let v = covers.complete key (is_some_of _ b e) in
@@ -97,7 +97,7 @@ none_at f s keys covers i gap key b e equal =
 
 -- ---- by number
 
--- a search goes the same way among what is read of the elements, where they compare the same
+-- a search of mapped elements goes as a search of the elements, if the comparisons agree
 module _ {X Y : Type 0} (f : X → Y) (to : X → Ordering) (to' : Y → Ordering) (xs : List X) (d : X) (same : All (λ x. to x ≡ to' (f x)) xs) where
   each : (i : ℕ) (c : X) (e : Y) → i < length xs → to' (get_or (map f xs) i e) ≡ to (get_or xs i c)
   each i c e within = ap to' (get_or-map f xs i c e within) ∙ sym (same i c within)
@@ -110,8 +110,8 @@ module _ {X Y : Type 0} (f : X → Y) (to : X → Ordering) (to' : Y → Orderin
         λ j e low high. each j d e (omega (arith, length-map xs f)) ∙ parts.1 j d low (omega (arith, length-map xs f)),
       )
 
--- where numbers that differ decide the order, a search that compares them first ends at the ask
--- that is sought, or where it would go
+-- if different numbers decide the order, a search that compares numbers first ends at the sought
+-- ask, or at its place in the order
 module _ {K : Type 0} (R : K → K → Ordering) (total : IsTotalOrder R) (read : Ask → K) (number : K → ℕ) (tell : (y z : K) → ordering_then (nat_cmp (number y) (number z)) (R y z) ≡ R y z)
     (s : Slab Ask) (keys : List NumberedKey) (covers : Covers s (keys_of keys)) (rises : Rises R read s (keys_of keys)) (numbered : AreNumbered (λ a. number (read a)) s keys) (x : K) (n : ℕ) (is : n ≡ number x) where
   compared_same : All (λ k. compared_by_number n (λ a. R (read a) x) s k ≡ compared (λ a. R (read a) x) (get s k.key)) keys

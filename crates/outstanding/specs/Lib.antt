@@ -5,3 +5,5 @@ pub mod Draws
 pub mod Laws
 pub mod Orders
 pub mod Tables
+pub use Rattle.suffix_routes.specs as SuffixRoutes
+pub use Rattle.dns_message.specs as DnsMessage

@@ -4,8 +4,7 @@ ghost use Rattle.std.specs.Prelude.{◌≡◌};
 ghost use Rattle.outstanding.specs.Orders.{key_cmp, name_number, octets_number, path_cmp, question_key};
 
 use crate::ask::{Ask, Path};
-use dns_message::{Question, QuestionRef};
-use dns_name::NameKey;
+use dns_message::{NameKey, Question, QuestionRef};
 use std::alloc::{Allocator, Global};
 use std::cmp::Ordering;
 use std::marker::Model;

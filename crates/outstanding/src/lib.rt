@@ -12,8 +12,10 @@ mod places;
 mod table;
 
 pub use ask::{Ask, Path};
+pub use dns_message::{FewList, Octets, PlainList};
 pub use draws::draw;
 pub use inquiries::{Inquiries, Refusal};
 pub use keyed::{KeyedAsk, QuestionKey};
 pub use laws::{ended_is_unlisted, next_may_begin, unlisted_stays_so};
 pub use numbered::NumberedKey;
+pub use suffix_routes::Peer;

@@ -1,4 +1,4 @@
--- The message of a failure has the response code of its reason.
+-- The message of a failure has the response code of the reason.
 use Rattle.std.proofs.Common.{◌≡◌, ℕ, ◌<◌, ◌≤◌, List, [], ◌∷◌, length, Option, Some, None, refl, sym, subst, arith}
 use Rattle.std.specs.List.{AllByRecursion}
 use Rattle.std.specs.Option.{IfSome}
@@ -46,7 +46,7 @@ failure_spelled a code id opcode can low = written_message_is_spelled (error_res
 opcode_fits : (request : List ℕ) → (header_in request).opcode < 16
 opcode_fits request = omega arith
 
--- a failure with this question, if any, and the code of its reason
+-- a failure with this question, if any, and the reason's response code
 failure_shown : (request octets : List ℕ) (why : Why) (o : Option Question) → (header_in request).id < 65536
     → IfSome o IsQuestion → octets ≡ failure_text (asked_in (header_in request) o) why
     → Repeats why request (questions_of o) → IsCodeOf why (rcode_of_why why) → rcode_of_why why < 16

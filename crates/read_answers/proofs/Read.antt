@@ -1,4 +1,4 @@
--- The message of an answer shows its chain.
+-- The message of an answer shows the answer's chain.
 use Rattle.std.proofs.Common.{◌≡◌, ℕ, ◌<◌, List, [], ◌∷◌, ◌++◌, length, Some, refl, sym, ap, ◌∙◌, subst, arith}
 use Rattle.std.proofs.Common.{false, append-nil, append_assoc}
 use Rattle.std.proofs.lemmas.List.{map-append}

@@ -1,4 +1,4 @@
--- The records of a chain are the records of its pieces.
+-- The records of a chain are the pieces' records.
 use Rattle.std.proofs.Common.{◌≡◌, ℕ, List, [], ◌∷◌, ◌++◌, Option, None, Some, refl, sym, ap, ◌∙◌, subst, arith}
 use Rattle.std.proofs.Common.{Bool, true, false}
 use Rattle.std.proofs.lemmas.Bool.{ltb-true, ltb-false}

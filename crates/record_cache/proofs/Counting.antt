@@ -37,7 +37,7 @@ module _ (f : Slot → Option ℕ) where
   counted_append n [] ys = omega arith
   counted_append n (h ∷ xs) ys = omega (arith, counted_append n xs ys)
 
-  -- what is counted are the entry of the slot and the rest
+  -- the counted entries are the slot's entry and the rest
   pub counted_without : (n : ℕ) (s : Slot) (es : List Held) → AreApart es → counted f n es ≡ one_if n (number_in f (entry_of s es)) + counted f n (without s es)
   counted_without n s [] apart = refl
   counted_without n s (h ∷ es) apart = (elim (of_slot s h) as (λ b. of_slot s h ≡ b → one_if n (f h.piece.slot) + counted f n es ≡ one_if n (number_in f (cond b (Some h) (entry_of s es))) + counted f n (cond (not b) (h ∷ without s es) (without s es))) [
@@ -52,7 +52,7 @@ module _ (f : Slot → Option ℕ) where
   pub counted_promoted : (n : ℕ) (s : Slot) (es : List Held) → AreApart es → counted f n (promoted s es) ≡ counted f n es
   counted_promoted n s es apart = rw (promoted_is s es apart) (omega (arith, counted_append n (option_to_list (entry_of s es)) (without s es), counted_entry n (entry_of s es), counted_without n s es apart))
 
-  -- the count is that of the first m, and of the one after them
+  -- the count of the first m entries and the next
   pub counted_take : (n m : ℕ) (es : List Held) → length es ≤ m + 1 → counted f n es ≡ one_if n (number_in f (slice_get es m)) + counted f n (take m es)
   counted_take n zero [] short = refl
   counted_take n zero (h ∷ []) short = refl
@@ -60,7 +60,7 @@ module _ (f : Slot → Option ℕ) where
   counted_take n (suc m) [] short = refl
   counted_take n (suc m) (h ∷ es) short = let rest = counted_take n m es (omega arith) in omega (arith, rest)
 
-  -- one is there where the count is not 0
+  -- an entry has the number if the count is above 0
   pub some_number : (n : ℕ) (es : List Held) → nat_lt 0 (counted f n es) ≡ has_number f n es
   some_number n [] = refl
   some_number n (h ∷ es) = (elim (is_number n (f h.piece.slot)) as (λ b. nat_lt 0 ((if b then 1 else 0) + counted f n es) ≡ b || has_number f n es) [
@@ -71,7 +71,7 @@ module _ (f : Slot → Option ℕ) where
       none_more : (n : ℕ) (es : List Held) → nat_lt 0 (counted f n es) ≡ has_number f n es → nat_lt 0 (0 + counted f n es) ≡ has_number f n es
       none_more n es same = let e : 0 + counted f n es ≡ counted f n es = omega arith in rw e same
 
-  -- ---- what none has, no entry of a slot with that number has
+  -- ---- if no entry has a number, no slot of that number has an entry
 
   has_own : (n : ℕ) (s t : Slot) → f s ≡ Some n → s ≡ t → is_number n (f t) ≡ true
   has_own n s t is same = subst (λ (x : Slot). is_number n (f x) ≡ true) same (subst (λ (o : Option ℕ). is_number n o ≡ true) (sym is) (number_own n))

@@ -25,7 +25,7 @@ unkept false false false false same = (refl, refl)
 pub unkept_is_new : UnkeptIsNew
 unkept_is_new moment room piece entries same = unkept (is_outranked moment piece entries) (piece.lifetime == 0) room (has_slot piece.slot entries) same
 
--- ---- who stays
+-- ---- the entries that stay
 
 pub among_filter : (test : Held → Bool) (es : List Held) (h : Held) → Among h es → test h ≡ true → Among h (filter test es)
 among_filter test [] h among passes = among
@@ -59,7 +59,7 @@ promoted_stay slot entries h among = (elim (of_slot slot h) as (λ b. of_slot sl
   | false ↦ λ is. among_right h (filter (of_slot slot) entries) (without slot entries) (among_filter (λ e. not (of_slot slot e)) entries h among (ap not is))
 ]) refl
 
--- the first of a list hold all but the last one at most
+-- an entry of at most n + 1 is among the first n, or the last
 among_take : (n : ℕ) (es : List Held) (h : Held) → length es ≤ n + 1 → Among h es → Among h (take n es) ⊎ ((length es ≡ n + 1) × IsLast h es)
 among_take n [] h few among = absurd among
 among_take zero (e ∷ []) h few (inl same) = inr (refl, same)
@@ -101,7 +101,7 @@ offered_stay capacity moment Unkept piece entries h held among = inl among
 
 -- ---- look-ups after a promotion
 
--- another slot's entry is not taken out
+-- another slot's entry stays
 entry_without : (slot other : Slot) (es : List Held) → (slot ≡ other → ⊥) → entry_of other (without slot es) ≡ entry_of other es
 entry_without slot other [] apart = refl
 entry_without slot other (e ∷ es) apart = (elim (of_slot slot e) as (λ b. of_slot slot e ≡ b → entry_of other (cond (not b) (e ∷ without slot es) (without slot es)) ≡ cond (of_slot other e) (Some e) (entry_of other es)) [

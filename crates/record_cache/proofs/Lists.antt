@@ -30,9 +30,9 @@ length_filter test (x ∷ xs) = (elim (test x) as (λ b. length (cond b (x ∷ f
   | false ↦ omega (arith, length_filter test xs)
 ])
 
--- ---- entries of one slot
+-- ---- the entries of a slot
 
--- what is of a slot has it
+-- an entry of a slot has the slot
 pub slot_is : (s : Slot) (h : Held) → of_slot s h ≡ true → s ≡ h.piece.slot
 slot_is s h is = (is_slot_decides s h.piece.slot).0 is
 
@@ -42,7 +42,7 @@ own_slot h = (is_slot_decides h.piece.slot h.piece.slot).1 refl
 abbrev NoneOf : Slot → List Held → Type 0
 NoneOf s es = AllByRecursion (λ e. of_slot s e ≡ false) es
 
--- where no entry is of a slot, taking it out changes nothing
+-- removing a slot without an entry changes nothing
 pub without_none : (s : Slot) (es : List Held) → NoneOf s es → without s es ≡ es
 without_none s [] h = refl
 without_none s (e ∷ es) h = rw h.0 (ap (λ xs. e ∷ xs) (without_none s es h.1))
@@ -55,11 +55,11 @@ any_none : (s : Slot) (Q : Held → Bool) (es : List Held) → NoneOf s es → l
 any_none s Q [] h = refl
 any_none s Q (e ∷ es) h = rw h.0 (any_none s Q es h.1)
 
--- after the entry of a slot none is of it
+-- after a slot's entry no entry has the slot
 pub none_behind : (s : Slot) (h : Held) (es : List Held) → AreApart (h ∷ es) → of_slot s h ≡ true → NoneOf s es
 none_behind s h es apart is = subst (λ t. NoneOf t es) (sym (slot_is s h is)) apart.0
 
--- the list without a slot has no entry of it
+-- the list without a slot has no entry of the slot
 pub none_without : (s : Slot) (es : List Held) → NoneOf s (without s es)
 none_without s [] = tt
 none_without s (e ∷ es) = (elim (of_slot s e) as (λ b. of_slot s e ≡ b → NoneOf s (cond (not b) (e ∷ without s es) (without s es))) [
@@ -79,7 +79,7 @@ filter_is_entry s (e ∷ es) apart = (elim (of_slot s e) as (λ b. of_slot s e �
 pub promoted_is : (s : Slot) (es : List Held) → AreApart es → promoted s es ≡ option_to_list (entry_of s es) ++ without s es
 promoted_is s es apart = ap (λ xs. xs ++ without s es) (filter_is_entry s es apart)
 
--- a test of the entry of a slot
+-- a test of the slot's entry
 pub any_is_entry : (s : Slot) (Q : Held → Bool) (es : List Held) → AreApart es → list_any (λ h. of_slot s h && Q h) es ≡ option_map_or Q (entry_of s es) false
 any_is_entry s Q [] apart = refl
 any_is_entry s Q (e ∷ es) apart = (elim (of_slot s e) as (λ b. of_slot s e ≡ b → (b && Q e) || list_any (λ h. of_slot s h && Q h) es ≡ option_map_or Q (cond b (Some e) (entry_of s es)) false) [
@@ -91,7 +91,7 @@ any_is_entry s Q (e ∷ es) apart = (elim (of_slot s e) as (λ b. of_slot s e �
     or_false true = refl
     or_false false = refl
 
--- an entry of the slot is found where one is there
+-- a slot's entry is found if any
 pub entry_none : (s : Slot) (es : List Held) → entry_of s es ≡ None → NoneOf s es
 entry_none s [] h = tt
 entry_none s (e ∷ es) h = (elim (of_slot s e) as (λ b. of_slot s e ≡ b → cond b (Some e) (entry_of s es) ≡ None → NoneOf s (e ∷ es)) [
@@ -113,7 +113,7 @@ has_none s (e ∷ es) h = rw h.0 (has_none s es h.1)
 pub without_absent : (s : Slot) (es : List Held) → entry_of s es ≡ None → without s es ≡ es
 without_absent s es h = without_none s es (entry_none s es h)
 
--- with an entry of the slot, one less is left
+-- without a slot's entry the list is shorter
 pub length_without : (s : Slot) (es : List Held) (h : Held) → entry_of s es ≡ Some h → length (without s es) < length es
 length_without s [] h found = cc
 length_without s (e ∷ es) h found = (elim (of_slot s e) as (λ b. cond b (Some e) (entry_of s es) ≡ Some h → length (cond (not b) (e ∷ without s es) (without s es)) < length (e ∷ es)) [
@@ -138,7 +138,7 @@ apart_take (suc n) (e ∷ es) h = (all_take (λ x. of_slot e.piece.slot x ≡ fa
 pub apart_front : (h : Held) (es : List Held) → AreApart es → AreApart (h ∷ without h.piece.slot es)
 apart_front h es apart = (none_without h.piece.slot es, apart_filter (λ e. not (of_slot h.piece.slot e)) es apart)
 
--- ---- what holds of each entry
+-- ---- properties of each entry
 
 pub all_append : {X : Type 0} (P : X → Type 0) (xs ys : List X) → AllByRecursion P xs → AllByRecursion P ys → AllByRecursion P (xs ++ ys)
 all_append P [] ys h k = k
@@ -151,7 +151,7 @@ all_entry P s (e ∷ es) h = (elim (of_slot s e) as (λ b. AllByRecursion P (opt
   | false ↦ all_entry P s es h.1
 ])
 
--- ---- what holds of the entries of a cache
+-- ---- properties of a cache's entries
 
 pub held_without : (n : ℕ) (s : Slot) (es : List Held) → AreHeld (record { capacity = n; entries = es }) → AreHeld (record { capacity = n; entries = without s es })
 held_without n s es h = record {

@@ -1,4 +1,4 @@
--- Slots: the test of the definitions and that of the code are true exactly where two slots are one.
+-- Slots: the definition's test and the code's test decide equality.
 use Rattle.std.proofs.Common.{◌≡◌, ℕ, Bool, true, false, ◌&&◌, ◌==◌, nat_eq, List, Option, None, Some, refl, sym, ap, ◌∙◌}
 use Rattle.std.specs.Bool.{Decides}
 use Rattle.std.specs.Option.{option_eq}
@@ -20,7 +20,7 @@ both true true h k = refl
 both true false h k = k
 both false t h k = h
 
--- ---- the test of the definitions
+-- ---- the definition's test
 
 labels_decide : (a b : List (List ℕ)) → Decides (pointwise (pointwise nat_eq) a b) (a ≡ b)
 labels_decide = pointwise_decides bytes_decides
@@ -48,7 +48,7 @@ is_slot_decides a b =
           ((kinds_decide a.kind b.kind).1 (ap (λ s. s.kind) e)),
     )
 
--- ---- the test of the code
+-- ---- the code's test
 
 types_decide : (a b : Option ℕ) → Decides (option_eq nat_eq a b) (a ≡ b)
 types_decide None None = (λ h. refl, λ h. refl)
@@ -93,10 +93,10 @@ slots_decide_keys hash a b = (
   λ e. (is_slot_decides a b).1 (ap (λ (k : HashedSlot). k.slot) e),
 )
 
--- slots with their own hashes are equal exactly where they are one
+-- slots with their own hashes are equal keys exactly if the slots are equal
 pub key_is : (hash : Slot → ℕ) (a b : Slot) → key_eq-value.it (hashed hash a) (hashed hash b) ≡ is_slot a b
 key_is hash a b = same_from_decides (key_eq-value.it (hashed hash a) (hashed hash b)) (is_slot a b) (table_key_decides (hashed hash a) (hashed hash b)) (slots_decide_keys hash a b)
 
--- what equals a slot with its own hash is one too
+-- a key equal to a slot with its own hash has its own hash, too
 pub own_hash : (hash : Slot → ℕ) (k : HashedSlot) (s : Slot) → key_eq-value.it k (hashed hash s) ≡ true → k ≡ hashed hash k.slot
 own_hash hash k s same = let is : k ≡ hashed hash s = (table_key_decides k (hashed hash s)).0 same in is ∙ ap (hashed hash) (sym (ap (λ (t : HashedSlot). t.slot) is))

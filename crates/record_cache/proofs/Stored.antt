@@ -1,4 +1,4 @@
--- The effect of each call of `lru` on entries that are under their slots.
+-- The effect of each call of `lru` on entries under their slots.
 use Rattle.std.proofs.Common.{◌≡◌, ℕ, zero, suc, ◌+◌, ◌-◌, ◌<◌, ◌≤◌, ◌^◌, Bool, true, false, cond, ◌&&◌, not, nat_lt, List, [], ◌∷◌, ◌++◌, length, take, get_or, Option, None, Some, option_map, IfSome, IsSome, is_some, MatchOption, Bor, refl, sym, ap, subst, ◌∙◌, arith, length-take}
 use Rattle.std.specs.List.{slice_get, list_any}
 use Rattle.std.specs.Option.{option_copied, option_map_or, option_to_list}
@@ -71,7 +71,7 @@ take_keyed hash zero es = refl
 take_keyed hash (suc n) [] = refl
 take_keyed hash (suc n) (h ∷ es) = ap (λ xs. pair hash h ∷ xs) (take_keyed hash n es)
 
--- ---- the entry in front, and those left after it
+-- ---- the front entry, and the entries left after it
 
 take_front : (n : ℕ) (h : Held) (es : List Held) → 0 < n → take n (h ∷ es) ≡ h ∷ take (n - 1) es
 take_front zero h es some = absurd (omega arith)
@@ -97,16 +97,16 @@ put_keyed hash n h es apart few = rw (pair_keyed hash h.piece.slot es, remove_ke
           λ i. (hashed hash (sym same i), h) ∷ keyed hash (sym (room_left n h old es few is) i)
     ]) refl)
 
--- the entry that goes for another one, if one does
+-- the entry displaced by another, if any
 abbrev pub old_one : (hash : Slot → ℕ) → LruCache HashedSlot Held → Held → Option Held
 old_one hash m h = option_map (λ e. e.1) (displaced eq m (hashed hash h.piece.slot) h)
 
--- the code's way to what it found
+-- from the code's result to the found entry
 pub as_found : {X : Type 0} (r : Option (Bor X)) (o : Option X) → option_copied r ≡ o → MatchOption r (o ≡ None) (λ x. o ≡ Some x.now)
 as_found None o same = sym same
 as_found (Some x) o same = sym same
 
--- its way to its key, and to its numbers
+-- from the code's values to a key, and to a slot's numbers
 pub key_of : (hash : Slot → ℕ) (k : HashedSlot) (s t : Slot) → k ≡ hashed hash s → s ≡ t → k ≡ hashed hash t
 key_of hash k s t is same = is ∙ ap (hashed hash) same
 
@@ -117,7 +117,7 @@ old_marks hash m h k out held marks key is value one_if = one_if ∙ ap marks_in
 pub put_at : (hash : Slot → ℕ) (m new : LruCache HashedSlot Held) (h : Held) (k : HashedSlot) → k ≡ hashed hash h.piece.slot → new ≡ lru_cache (put_entries eq m k h) m.cap → new ≡ lru_cache (put_entries eq m (hashed hash h.piece.slot) h) m.cap
 put_at hash m new h k key is = is ∙ ap (λ t. lru_cache (put_entries eq m t h) m.cap) key
 
--- what is counted is counted in what was displaced or in what is left
+-- the count is of the displaced entry and of the entries left
 displaced_counts : (hash : Slot → ℕ) (f : Slot → Option ℕ) (d n : ℕ) (h : Held) (es : List Held) → AreApart es → NoMore n es → 0 < n
     → counted f d es ≡ one_if d (number_in f (option_map (λ e. e.1) (displaced eq (lru_cache (keyed hash es) n) (hashed hash h.piece.slot) h))) + counted f d (rest n h es)
 displaced_counts hash f d n h es apart few some = rw (lookup_keyed hash h.piece.slot es)
@@ -126,7 +126,7 @@ displaced_counts hash f d n h es apart few some = rw (lookup_keyed hash h.piece.
       | Some old ↦ λ is. rw (room_left n h old es few is) (subst (λ o. counted f d es ≡ one_if d (number_in f o) + counted f d (without h.piece.slot es)) is (counts.counted_without f d h.piece.slot es apart))
     ]) refl)
 
--- ---- what is stored
+-- ---- the stored entries
 
 stored : (hash : Slot → ℕ) (n : ℕ) (es : List Held) (tables : Tables) → n < 2 ^ 64 → AreHeld (record { capacity = n; entries = es })
     → AreCounted name_error_size tables.sizes.counts es → AreCounted name_error_ending tables.endings.counts es → AreCounted alias_ending tables.aliases.counts es
@@ -144,18 +144,18 @@ module _ {hash : Slot → ℕ} (m : LruCache HashedSlot Held) (tables : Tables) 
   abbrev es : List Held
   es = values_of m.entries
 
-  -- a look-up finds the entry of the slot
+  -- a look-up finds the slot's entry
   pub found : (s : Slot) → lookup (eq (hashed hash s)) m.entries ≡ entry_of s es
   found s = ap (lookup (eq (hashed hash s))) is.keyed ∙ lookup_keyed hash s es
 
-  -- where a look-up finds none, none is there
+  -- if a look-up finds no entry, there is none
   pub absent : (s : Slot) → (IsSome (lookup (eq (hashed hash s)) m.entries) → false ≡ true) → has_slot s es ≡ false
   absent s refused = (elim (entry_of s es) as (λ o. entry_of s es ≡ o → (IsSome o → false ≡ true) → has_slot s es ≡ false) [
     | None ↦ λ is none. lists.has_none s es (lists.entry_none s es is)
     | Some h ↦ λ is none. let wrong : false ≡ true = none refl in cc
   ]) refl (λ some. refused (subst IsSome (sym (found s)) some))
 
-  -- a set or NODATA is outranked by the entry of its slot or by none
+  -- only the slot's entry can outrank a set or NODATA
   pub outranked : (h : Held) (o : Option Held) → o ≡ lookup (eq (hashed hash h.piece.slot)) m.entries → is_name_error h.piece ≡ false
       → option_map_or (λ x. is_alive h.accepted x && nat_lt h.piece.rank x.piece.rank) o false ≡ is_outranked h.accepted h.piece es
   outranked h o same typed =
@@ -163,7 +163,7 @@ module _ {hash : Slot → ℕ} (m : LruCache HashedSlot Held) (tables : Tables) 
       ∙ sym (lists.any_is_entry h.piece.slot (λ y. is_alive h.accepted y && nat_lt h.piece.rank y.piece.rank) es is.held.apart)
       ∙ (λ i. not (sym typed i) && list_any (outranks h.accepted h.piece) es)
 
-  -- ---- an entry is taken out
+  -- ---- an entry is removed
 
   taken : (s : Slot) → remove_entry (eq (hashed hash s)) m.entries ≡ keyed hash (without s es)
   taken s = ap (remove_entry (eq (hashed hash s))) is.keyed ∙ remove_keyed hash s es is.held.apart
@@ -171,7 +171,7 @@ module _ {hash : Slot → ℕ} (m : LruCache HashedSlot Held) (tables : Tables) 
   pub taken_list : (s : Slot) → values_of (remove_entry (eq (hashed hash s)) m.entries) ≡ without s es
   taken_list s = ap values_of (taken s) ∙ values_keyed hash (without s es)
 
-  -- its number can be taken from its count, and what is left is counted
+  -- the entry's number can be counted out, and the entries left are counted
   module _ (f : Slot → Option ℕ) (numbers : List ℕ) (counts_are : AreCounted f numbers es) (s : Slot) where
     pub taken_told : (n : ℕ) → one_if n (number_in f (lookup (eq (hashed hash s)) m.entries)) ≤ get_or numbers n 0
     taken_told n = omega (arith, counts_are n, counts.counted_without f n s es is.held.apart, ap (λ o. one_if n (number_in f o)) (found s))
@@ -204,7 +204,7 @@ module _ {hash : Slot → ℕ} (m : LruCache HashedSlot Held) (tables : Tables) 
       (used_counted name_error_ending tables.endings.counts s is.endings)
       (used_counted alias_ending tables.aliases.counts s is.aliases))
 
-  -- a key by which an entry is found carries the hash of its slot
+  -- a key with a found entry carries the slot's hash
   carries : (k : HashedSlot) (ns : List Held) → IsSome (lookup (eq k) (keyed hash ns)) → k ≡ hashed hash k.slot
   carries k [] some = let wrong : false ≡ true = some in cc
   carries k (h ∷ ns) some = (elim (eq k (hashed hash h.piece.slot)) as (λ b. eq k (hashed hash h.piece.slot) ≡ b → IsSome (cond b (Some h) (lookup (eq k) (keyed hash ns))) → k ≡ hashed hash k.slot) [
@@ -219,14 +219,14 @@ module _ {hash : Slot → ℕ} (m : LruCache HashedSlot Held) (tables : Tables) 
     | false ↦ λ no. nothing_found k xs no
   ]) none
 
-  -- after a promotion by a key by which none is found, one by the slot with its own hash counts alone
+  -- after a promotion by a key without an entry, a promotion by the slot's own key alone counts
   pub used_again : (k : HashedSlot) (s : Slot) (mid new : LruCache HashedSlot Held) → is_some (lookup (eq k) m.entries) ≡ false → mid ≡ lru_cache (used (eq k) m.entries) m.cap
       → new ≡ lru_cache (used (eq (hashed hash s)) mid.entries) mid.cap → new ≡ lru_cache (used (eq (hashed hash s)) m.entries) m.cap
   used_again k s mid new none first second =
       let same : mid ≡ m = first ∙ ap (λ o. lru_cache (option_map_or (λ e. e ∷ remove_entry (eq k) m.entries) o m.entries) m.cap) (nothing_found k m.entries none) in
       second ∙ ap (λ (c : LruCache HashedSlot Held). lru_cache (used (eq (hashed hash s)) c.entries) c.cap) same
 
-  -- the entry that is found by a key is that of the key's slot
+  -- an entry found by a key is the key's slot's
   pub used_by_key : (k : HashedSlot) → IsSome (lookup (eq k) m.entries) → used (eq k) m.entries ≡ used (eq (hashed hash k.slot)) m.entries
   used_by_key k some = ap (λ t. used (eq t) m.entries) (carries k es (subst (λ xs. IsSome (lookup (eq k) xs)) is.keyed some))
 
@@ -250,7 +250,7 @@ module _ {hash : Slot → ℕ} (m : LruCache HashedSlot Held) (tables : Tables) 
       left_is : (left : List ℕ) → OneMore numbers (number_in f (old_one hash m h)) left → AreCounted f left (rest m.cap h es)
       left_is left less = λ n. omega (arith, counts_are n, displaced_is n, less n)
 
-      -- one more fits the count
+      -- another entry fits the count
       pub put_fits : (left : List ℕ) → OneMore numbers (number_in f (old_one hash m h)) left → (n : ℕ) → get_or left n 0 + 1 < 2 ^ 64
       put_fits left less n = omega (arith, left_is left less n, counts.counted_few f n (rest m.cap h es), length-take (m.cap - 1) (without h.piece.slot es), is.held.some, is.fits)
 
@@ -265,12 +265,12 @@ module _ {hash : Slot → ℕ} (m : LruCache HashedSlot Held) (tables : Tables) 
         (put_counted name_error_ending tables.endings.counts is.endings left.endings.counts more.endings.counts less.endings new.endings)
         (put_counted alias_ending tables.aliases.counts is.aliases left.aliases.counts more.aliases.counts less.aliases new.aliases))
 
--- what is counted can be taken from its count
+-- a counted number can be counted out
 pub counted_out : (numbers : List ℕ) (o : Option ℕ) → IfSome o (λ n. n < 256) → ((n : ℕ) → one_if n o ≤ get_or numbers n 0) → HasOne numbers o
 counted_out numbers None few h = tt
 counted_out numbers (Some n) few h = (few, omega (arith, h n, counts.told_own n))
 
--- what has room is counted in
+-- a number with room can be counted in
 pub counted_in : (numbers : List ℕ) (o : Option ℕ) → IfSome o (λ n. n < 256) → ((n : ℕ) → get_or numbers n 0 + 1 < 2 ^ 64) → HasRoom numbers o
 counted_in numbers None few h = tt
 counted_in numbers (Some n) few h = (few, h n)

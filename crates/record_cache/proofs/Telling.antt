@@ -1,4 +1,4 @@
--- Endings of names and of the names above them, and the meaning of counts by sizes and endings.
+-- Endings of names and of the names above, and the meaning of counts by sizes and endings.
 use Rattle.std.proofs.Common.{◌≡◌, ℕ, zero, suc, ◌+◌, ◌-◌, ◌<◌, ◌≤◌, ◌%◌, Bool, true, false, ◌||◌, nat_lt, ◌⊎◌, inl, inr, List, [], ◌∷◌, ◌++◌, length, map, drop, Option, None, Some, refl, sym, ap, subst, ◌∙◌, arith, length-append}
 use Rattle.std.specs.Prelude.{is_none}
 use Rattle.std.specs.Int.{w64, from_be_bytes}
@@ -41,7 +41,7 @@ ending_short octets short = rw (less (length octets) 8 short) refl
 pub ending_long : (octets : List ℕ) → 8 ≤ length octets → ending_of octets ≡ from_be_bytes w64 (last_eight octets) % 251 + 1
 ending_long octets long = rw (not_less (length octets) 8 long) refl
 
--- an end of octets has their ending or none
+-- the end of octets has no ending or the octets' ending
 ending_behind : (front back : List ℕ) → (ending_of back ≡ 0) ⊎ (ending_of back ≡ ending_of (front ++ back))
 ending_behind front back = elim (cases_lt (length back) 8) [
   | inl short ↦ inl (ending_short back short)
@@ -68,7 +68,7 @@ code_long octets last laid long is =
     ap (λ (os : List ℕ). from_be_bytes w64 os % 251 + 1) same
     ∙ sym (ending_long (octets_of (lowered (labels_of octets))) (omega (arith, long, ap length (lower_octets octets laid), length-map octets to_ascii_lowercase)))
 
--- of a key's own octets, as they are
+-- the ending of a key, from the key's octets
 pub key_short : (octets : List ℕ) (key : List (List ℕ)) → IsLaidOut octets → labels_of octets ≡ key → length octets < 8 → 0 ≡ ending key
 key_short octets key laid is short = sym (ending_short octets short) ∙ ap ending_of (sym laid.whole) ∙ ap ending is
 
@@ -83,7 +83,7 @@ either_false : (a b : Bool) → a ≡ false → b ≡ false → (a || b) ≡ fal
 either_false true b h k = h
 either_false false b h k = k
 
--- where none may deny a name, none may deny the name above it
+-- if no entry may deny a name, none may deny the name above
 pub denied_higher : (label : List ℕ) (name : List (List ℕ)) (entries : List Held) → may_deny (label ∷ name) entries ≡ false → may_deny name entries ≡ false
 denied_higher label name entries none = both (ending_behind (label_octets label) (octets_of name))
   where
@@ -103,7 +103,7 @@ pub denied_above : (front name : List (List ℕ)) (entries : List Held) → may_
 denied_above [] name entries none = none
 denied_above (label ∷ front) name entries none = denied_above front name entries (denied_higher label (front ++ name) entries none)
 
--- where none may deny a name, no name error has its ending
+-- if no entry may deny a name, no name error has the name's ending
 pub none_at_ending : (name : List (List ℕ)) (entries : List Held) → may_deny name entries ≡ false → has_number name_error_ending (ending name) entries ≡ false
 none_at_ending name entries none = or_right (has_number name_error_ending 0 entries) (has_number name_error_ending (ending name) entries) none
 
@@ -128,7 +128,7 @@ none_of_size name entries h among piece none error same =
     none_among name_error_size (length (octets_of name)) entries h among
     (error_number h.piece.slot.kind (length (octets_of h.piece.slot.key)) error ∙ ap Some (sym (size_same name h.piece.slot.key same))) none
 
--- the marks of a name error, by the octets of its owner
+-- a name error's marks, by the owner's octets
 pub error_marks : (octets : List ℕ) (owner : List (List ℕ)) (end class : ℕ) (kind : Option ℕ) (slot : Slot) → IsLaidOut octets → labels_of octets ≡ owner → kind ≡ None
     → record { class = class; kind = kind; key = lowered owner } ≡ slot → end ≡ ending (lowered (labels_of octets))
     → record { size = Some (length octets); ending = Some end; alias = None } ≡ marks_of slot
@@ -141,7 +141,7 @@ error_marks octets owner end class kind slot laid labels none is told =
     ∙ ap (λ (k : Option ℕ). marks_of (record { class = class; kind = k; key = lowered owner })) (sym none)
     ∙ ap marks_of is
 
--- a name under a key ends in it
+-- a name under a key ends in the key
 pub under_denies : (name key : List (List ℕ)) (entries : List Held) → lowered key ≡ key → IsUnder name key → may_deny (lowered name) entries ≡ false → may_deny key entries ≡ false
 under_denies name key entries lower under none =
     let is : lowered name ≡ lowered under.0 ++ key =

@@ -8,9 +8,9 @@ ghost use Rattle.trust_rank.specs.Replacing.{is_name_error};
 
 use crate::counts::Marks;
 use crate::endings::ending;
-use dns_message::types::CNAME;
 use std::alloc::{Allocator, Global};
 use std::marker::Model;
+use trust_rank::types::CNAME;
 use trust_rank::{Piece, Slot};
 
 /// A piece, and the moment of its acceptance.

@@ -18,3 +18,4 @@ pub use laws::{
     promotion_changes_no_look_up, unkept_is_new,
 };
 pub use look_up_slot::LookUpSlot;
+pub use trust_rank::{Body, Piece, Slot};

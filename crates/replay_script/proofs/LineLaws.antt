@@ -1,4 +1,4 @@
--- What the parts of an event line tell.
+-- The meaning of the parts of an event line.
 use Rattle.std.proofs.Common.{rules, ◌≡◌, ℕ, ◌<◌, ◌+◌, ◌-◌, ◌*◌, ◌^◌, List, Bool, true, false, length, fold, refl, ap, arith}
 use Rattle.std.specs.Prelude.{Ok, Err, nat_lt, nat_le, ◌&&◌, IsUtf8}
 use Rattle.std.specs.List.{list_all}

@@ -9,14 +9,14 @@ neither : (a b : Bool) → (a || b) ≡ false → (a ≡ false) × (b ≡ false)
 neither true b e = absurd (cc)
 neither false b e = (refl, e)
 
--- A line with its line feed is the first.
+-- A line with a line feed is the first line.
 pub line_first : (line after : List ℕ) → list_any is_feed line ≡ false → lines_of (ended line ++ after) ≡ line ∷ lines_of after
 line_first [] after e = refl
 line_first (octet ∷ line) after e =
     let parts = neither (is_feed octet) (list_any is_feed line) e in
     rw (parts.0, line_first line after parts.1) refl
 
--- A text without a line feed is one line.
+-- A text without a line feed is a single line.
 pub line_alone : (text : List ℕ) → 0 < length text → list_any is_feed text ≡ false → lines_of text ≡ text ∷ []
 line_alone [] some e = absurd (omega arith)
 line_alone (octet ∷ []) some e =
@@ -36,7 +36,7 @@ choice_some : (b : Bool) (octet : ℕ) (lines : List (List ℕ)) → (line : Lis
 choice_some true octet lines = ([], (lines, refl))
 choice_some false octet lines = begun_some octet lines
 
--- A text that is not empty has a line.
+-- A text with octets has a line.
 pub has_line : (text : List ℕ) → 0 < length text → (line : List ℕ) × ((more : List (List ℕ)) × (lines_of text ≡ line ∷ more))
 has_line [] some = absurd (omega arith)
 has_line (octet ∷ text) some = choice_some (is_feed octet) octet (lines_of text)

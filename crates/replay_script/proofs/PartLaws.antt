@@ -14,7 +14,7 @@ use Rattle.replay_script.specs.Parts.{AreParts, FollowsLines, separator, ended, 
 
 -- ---- the first line
 
--- A line feed that is found is the first.
+-- A found line feed is the first.
 pub cut_at : (text : List ℕ) (at : ℕ) → position is_feed text ≡ Some at
     → (list_any is_feed (take at text) ≡ false) × (text ≡ ended (take at text) ++ take (length text - (at + 1)) (drop (at + 1) text))
 cut_at text at e =
@@ -45,19 +45,19 @@ none_found : (b : Bool) (at : ℕ) → cond b (Some at) None ≡ None → b ≡ 
 none_found true at e = absurd (cc)
 none_found false at e = refl
 
--- None is found where there is none.
+-- Nothing is found in a text without a line feed.
 pub no_feed : (text : List ℕ) → position is_feed text ≡ None → list_any is_feed text ≡ false
 no_feed text e = absent text (none_found (nat_lt (position_or_len is_feed text) (length text)) (position_or_len is_feed text) e)
 
 -- ---- the parts
 
--- what is before the rest of a text
+-- the part before the rest of a text
 front : (text before rest : List ℕ) → text ≡ before ++ rest → take (length text - length rest) text ≡ before
 front text before rest e =
     let long : length text - length rest ≡ length before = (let sum = ap length e ∙ length-append before rest in omega (arith, sum)) in
     ap (λ n. take n text) long ∙ (ap (λ t. take (length before) t) e ∙ take-append_seam before rest)
 
--- One line more of the configuration.
+-- One more line of the configuration.
 pub one_more : (script rest line behind : List ℕ) (lines : List (List ℕ)) → FollowsLines script rest lines → list_any is_feed line ≡ false → bytes_eq line separator ≡ false
     → rest ≡ ended line ++ behind → FollowsLines script behind (lines ++ line ∷ [])
 one_more script rest line behind lines h whole other cut =

@@ -1,4 +1,4 @@
--- The lines of a step's actions, one after another.
+-- The lines of a step's actions, one by one.
 use Rattle.std.proofs.Common.{◌≡◌, ◌++◌, ◌∷◌, [], ℕ, suc, ◌+◌, ◌<◌, ◌≤◌, List, length, drop, ap, ◌∙◌, arith}
 use Rattle.std.specs.Prelude.{Some}
 use Rattle.std.specs.List.{slice_get}
@@ -23,7 +23,7 @@ pub printed_next : {A : Type 0} (line : ℕ) (actions : List (OwnedAction A)) (p
 printed_next {A} line actions place action found =
     ap (λ (rest : List (OwnedAction A)). printed_all line (actions_of rest)) (rest_is actions place action found)
 
--- Past the last action nothing is left.
+-- After the last action nothing is left.
 pub printed_out : {A : Type 0} (line : ℕ) (actions : List (OwnedAction A)) (place : ℕ) → length actions ≤ place
     → printed_all line (actions_of (drop place actions)) ≡ []
 printed_out {A} line actions place past =

@@ -1,4 +1,4 @@
--- How runs of lines follow from those of single lines.
+-- Runs of lines follow from runs of single lines.
 use Rattle.std.proofs.Common.{◌≡◌, ◌++◌, ◌∷◌, [], ℕ, suc, ◌+◌, ◌≤◌, List, length, Option, true, refl, sym, ap, subst, ◌∙◌, inl, inr, append-nil}
 use Rattle.std.specs.Prelude.{Result, Ok, Err, nat_le}
 use Rattle.std.proofs.lemmas.Bool.{le-leb}
@@ -6,9 +6,9 @@ use Rattle.std.specs.Io.KnownBytes.{Appends}
 use Rattle.std.proofs.KnownBytes.{Appends-nil, Appends-trans}
 use Rattle.suffix_routes.specs.Values.{Config as ConfigValue}
 use Rattle.step_values.specs.Values.{Event, StepInput, Outcome, Step}
-use Rattle.step_table.specs.State.{State, Running}
-use Rattle.step_table.specs.Row.{Row}
-use Rattle.theorem_sound.specs.Runs.{Run}
+use Rattle.forwarder_core.specs.StepTable.State.{State, Running}
+use Rattle.forwarder_core.specs.StepTable.Row.{Row}
+use Rattle.forwarder_core.specs.TheoremSound.Runs.{Run}
 use Rattle.replay_script.specs.declared.events.TheConstants.{MOST_LINES}
 use Rattle.replay_script.specs.declared.events.Refusal.TheVariants.{Form}
 use Rattle.replay_script.specs.declared.fault.ReplayFault.{ReplayFault}
@@ -18,7 +18,7 @@ use Rattle.replay_script.specs.Printing.{Writes, printed_all, printed_steps}
 use Rattle.replay_script.specs.Runs.{RunsLines, AreOfLines, IsRefusedAfter, Ends, Prints, input_in}
 use Rattle.replay_script.specs.Words.{words_of}
 
--- ---- what a line passes
+-- ---- the input read from a line
 
 pub input_read : (n : ℕ) (line : List ℕ) (now : ℕ) (words : List ℕ) (event : Event) → n ≤ MOST_LINES → words ≡ words_of n
     → line_in line ≡ Ok (now, event) → input_in n line ≡ Ok (record { now = now; words = words; event = event })
@@ -31,7 +31,7 @@ input_refused n line few read =
     let test : nat_le n MOST_LINES ≡ true = le-leb n MOST_LINES few in
     rw (test, read) refl
 
--- ---- one line
+-- ---- a line
 
 -- No step was made, for this fault.
 pub nothing_run : (n : ℕ) (line : List ℕ) (more : List (List ℕ)) (before : Running) (held : Option (List ℕ)) (fault : ReplayFault)
@@ -47,7 +47,7 @@ line_fault_ends n line (Line refused) few is = (is.0, input_refused n line few i
 line_fault_ends n line Memory few is = tt
 line_fault_ends n line Device few is = tt
 
--- A line that hands nothing over.
+-- A line refused without a step.
 pub line_refused : (n : ℕ) (line : List ℕ) (before : Running) (held : Option (List ℕ)) (fault : ReplayFault) → n ≤ MOST_LINES
     → IsLineFault n line fault → RunsLines n (line ∷ []) before held (Err fault) before held
 line_refused n line before held fault few is = nothing_run n line [] before held fault (line_fault_ends n line fault few is)
@@ -69,7 +69,7 @@ step_prints n t (Err (Line refused)) held held' writes = absurd writes.0
 step_prints n t (Err Memory) held held' writes = (writes.1.0, inl (refl, writes.1.1), writes.1.2)
 step_prints n t (Err Device) held held' writes = (writes.1.0, inl (refl, writes.1.1), writes.1.2)
 
--- A line whose step was made.
+-- A line with a step made.
 pub line_run : (n : ℕ) (line : List ℕ) (before after : Running) (held held' : Option (List ℕ)) (r : Result (Unit {0}) ReplayFault)
     (h : StepInput) (o : Outcome) → input_in n line ≡ Ok h → Row before.config before.state h o after.state
     → after.config ≡ before.config → Writes held (printed_all n o.actions) r held'
@@ -124,7 +124,7 @@ after_step n line lines before mid after held held1 held' r (t ∷ []) one confi
     }
 after_step n line lines before mid after held held1 held' r (t ∷ u ∷ steps) one config run are prints more = absurd are.1
 
--- A line that was run, and then those after it.
+-- A line run, and then the lines after.
 pub line_then : (n : ℕ) (line : List ℕ) (lines : List (List ℕ)) (before mid after : Running) (held held1 held' : Option (List ℕ))
     (r : Result (Unit {0}) ReplayFault) → RunsLines n (line ∷ []) before held (Ok tt) mid held1
     → RunsLines (n + 1) lines mid held1 r after held' → RunsLines n (line ∷ lines) before held r after held'
@@ -148,7 +148,7 @@ ends_before_more n line lines steps (Line refused) ends = refused_before_more n 
 ends_before_more n line lines steps Memory ends = tt
 ends_before_more n line lines steps Device ends = tt
 
--- A line at which the run ended, before others.
+-- A line at the end of the run, before further lines.
 pub line_last : (n : ℕ) (line : List ℕ) (lines : List (List ℕ)) (before after : Running) (held held' : Option (List ℕ)) (fault : ReplayFault)
     → RunsLines n (line ∷ []) before held (Err fault) after held' → RunsLines n (line ∷ lines) before held (Err fault) after held'
 line_last n line lines before after held held' fault h = record {
@@ -165,7 +165,7 @@ line_last n line lines before after held held' fault h = record {
 pub no_line : (n : ℕ) (before : Running) (held : Option (List ℕ)) → RunsLines n [] before held (Ok tt) before held
 no_line n before held = record { steps = []; config = refl; run = refl; lines_are = tt; ends = refl; prints = Appends-nil held }
 
--- A line past the last that may be.
+-- A line too many.
 pub one_too_many : (n : ℕ) (lines : List (List ℕ)) (before : Running) (held : Option (List ℕ)) → n ≡ MOST_LINES + 1
     → (line : List ℕ) × ((more : List (List ℕ)) × (lines ≡ line ∷ more)) → RunsLines n lines before held (Err (Line (MOST_LINES + 1))) before held
 one_too_many n lines before held last some =

@@ -1,4 +1,4 @@
--- What a writer gets of a text, part after part.
+-- The part of a text received by a writer.
 use Rattle.std.proofs.Common.{◌++◌, ℕ, List, [], Option, refl, ap, sym, ◌∙◌, append_assoc, append-nil}
 use Rattle.std.specs.declared.io.ErrorKind.{ErrorKind}
 use Rattle.std.specs.declared.io.ErrorKind.TheVariants.{OutOfMemory as OutOfMemoryKind}
@@ -10,7 +10,7 @@ use Rattle.replay_script.specs.Configs.{IsOfStream}
 use Rattle.replay_script.specs.Printing.{Writes}
 use Rattle.replay_script.specs.declared.fault.ReplayFault.{ReplayFault}
 
--- A part that was written whole, and then the rest.
+-- A part written whole, and then the rest.
 pub writes_more : (held mid held' : Option (List ℕ)) (front rest : List ℕ) (r : Result (Unit {0}) ReplayFault)
     → Appends held mid front → Writes mid rest r held' → Writes held (front ++ rest) r held'
 writes_more held mid held' front rest (Ok done) before after = Appends-trans held mid held' front rest before after
@@ -30,7 +30,7 @@ pub writes_nothing : (held : Option (List ℕ)) (text : List ℕ) (fault : Repla
     → Writes held text (Err fault) held
 writes_nothing held text fault stream = (stream, ([], (text, refl), Appends-nil held))
 
--- A beginning of a text, and so of a longer one.
+-- A beginning of a text begins a longer text.
 pub writes_begun : (held held' : Option (List ℕ)) (front rest : List ℕ) (fault : ReplayFault) → Writes held front (Err fault) held'
     → Writes held (front ++ rest) (Err fault) held'
 writes_begun held held' front rest fault begun =
@@ -44,7 +44,7 @@ writes_begun held held' front rest fault begun =
       ),
     )
 
--- What keeps what it holds, gets nothing.
+-- A writer with unchanged content gets nothing.
 pub keeps_appends : (held held' : Option (List ℕ)) → Keeps held held' → Appends held held' []
 keeps_appends None held' keeps = tt
 keeps_appends (Some octets) None keeps = absurd keeps

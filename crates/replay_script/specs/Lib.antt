@@ -6,3 +6,4 @@ pub mod Lines
 pub mod Parts
 pub mod Printing
 pub mod Runs
+pub use Rattle.forwarder_core.specs.StepTable as StepTable

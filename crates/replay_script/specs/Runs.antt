@@ -5,10 +5,10 @@ use Rattle.std.specs.Io.KnownBytes.{Appends}
 use Rattle.suffix_routes.specs.Values.{Config as ConfigValue}
 use Rattle.suffix_routes.specs.Reading.{IsReadIn}
 use Rattle.step_values.specs.Values.{Event, StepInput, Step}
-use Rattle.step_table.specs.State.{Running}
-use Rattle.step_table.specs.Steps.{initial}
-use Rattle.theorem_sound.specs.Runs.{Run}
-use Rattle.theorem_use.specs.Service.{ServesTruly}
+use Rattle.forwarder_core.specs.StepTable.State.{Running}
+use Rattle.forwarder_core.specs.StepTable.Steps.{initial}
+use Rattle.forwarder_core.specs.TheoremSound.Runs.{Run}
+use Rattle.forwarder_core.specs.TheoremUse.Service.{ServesTruly}
 use Rattle.replay_script.specs.declared.events.TheConstants.{MOST_LINES}
 use Rattle.replay_script.specs.declared.events.Refusal.{Refusal}
 use Rattle.replay_script.specs.declared.events.Refusal.TheVariants.{Form}

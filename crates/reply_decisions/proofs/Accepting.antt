@@ -1,4 +1,4 @@
--- The replies that an accepted reply gives those that wait for it, and its pieces.
+-- The replies to the questions waiting for an accepted reply, and the reply's pieces.
 use Rattle.std.proofs.Common.{◌≡◌, ◌⊎◌, inl, inr, ℕ, ◌+◌, ◌^◌, ◌<◌, ◌≤◌, List, [], ◌∷◌, ◌++◌, length, Bool, true, false, cond, refl, sym, ap, ◌∙◌, subst, Option, Some, None, arith}
 use Rattle.std.specs.Prelude.{Ok, map, nat_le, slice_index}
 use Rattle.std.specs.List.{AllByRecursion}
@@ -28,7 +28,7 @@ use Rattle.outstanding.specs.Lists.{on_path as ask_on}
 use Rattle.outstanding.specs.Values.{Ask}
 use Rattle.step_values.specs.Values.{Action}
 use Rattle.suffix_routes.specs.Serving.{serving_route_of}
-use Rattle.step_texts.specs.Spelling.{Source}
+use Rattle.step_actions.specs.StepTexts.Spelling.{Source}
 use Rattle.step_table.specs.State.{State, start}
 use Rattle.waiting_questions.specs.Values.{Waiting, waits_for}
 use Rattle.alias_chains.specs.LookingUp.{ends}
@@ -46,7 +46,7 @@ use Rattle.reply_decisions.specs.Walked.{IsWalkFor}
 use Rattle.reply_decisions.proofs.Deciding.{closed_is, given_frees}
 use Rattle.alias_chains.proofs.CallerLemmas.{same_pieces}
 
--- ---- a section has no more records than its count of 16 bits says
+-- ---- a section has no more records than its 16-bit count
 
 pub authority_counted : (bytes : List ℕ) (m : Message) → AreOctets bytes → message_of bytes ≡ Ok m → length m.authority < 65536
 authority_counted bytes m octets read =
@@ -117,7 +117,7 @@ ends_at_last : (n : ℕ) (held : List Held) (q : Question) (aliases : List Piece
 ends_at_last n held q [] last = refl
 ends_at_last n held q (p ∷ ps) last = λ i. record { held = held ++ map (held_at n) (before_last_is p ps last i); wanted = q; met = ends (held_at n (last_of_is p ps last i)); used = [] }
 
--- aliases, and a last piece after them
+-- aliases, then a last piece
 abbrev ClosesAt : Reply → List Piece → End → Type 0
 ClosesAt r pieces end = Closes r most_aliases r.question.name end pieces
 
@@ -128,7 +128,7 @@ closes_at r pieces authority ends_denied h last = h
 closes_at r pieces authority (elsewhere name) h last = absurd (cc)
 closes_at r pieces authority lame h last = absurd (cc)
 
--- ---- however a walk ends
+-- ---- any end of a walk
 
 closing_few : (r : Reply) (pieces : List Piece) (end : End) → ClosesAt r pieces end → length pieces ≤ 8
 closing_few r pieces end closed =
@@ -156,7 +156,7 @@ walk_routed r serves pieces authority ends_denied h = closing_routed r serves pi
 walk_routed r serves pieces authority (elsewhere name) h = lead_routed r serves r.question.name name pieces h.2
 walk_routed r serves pieces authority lame h = subst (AllByRecursion (IsRouted r.config)) (sym h.0) tt
 
--- ---- the walk of a reply that is accepted
+-- ---- the walk of an accepted reply
 
 module _ (c : Config) (n : ℕ) (a : Ask) (w : Walk) (walk : IsWalkFor c a w) (on : serving_route_of c a.question.name ≡ Some a.route) where
   abbrev r : Reply
@@ -168,7 +168,7 @@ module _ (c : Config) (n : ℕ) (a : Ask) (w : Walk) (walk : IsWalkFor c a w) (o
   ends_so : EndsSo r w.pieces w.authority w.end
   ends_so = subst (λ (v : Walk). EndsSo r v.pieces v.authority v.end) (sym walk.is) (walk_leads c walk.message a.question a.route walk.read.shapes own.0)
 
-  -- fewer than 2^32, so that they can be counted
+  -- fewer than 2^32 pieces, so that they can be counted
   pub carried_few : length (w.pieces ++ w.authority) < 2 ^ 32
   carried_few =
       let servers : length w.authority ≤ length walk.message.authority = subst (λ (v : Walk). length v.authority ≤ length walk.message.authority) (sym walk.is) (authority_few c walk.message a.question a.route) in
@@ -182,15 +182,15 @@ module _ (c : Config) (n : ℕ) (a : Ask) (w : Walk) (walk : IsWalkFor c a w) (o
       All-append (IsRouted c) w.pieces w.authority (walk_routed r own.1 w.pieces w.authority w.end ends_so)
       (servers_routed r own.1 w.authority (subst (λ (v : Walk). AllByRecursion (IsServerSet r) v.authority) (sym walk.is) (servers_fit c walk.message a.question a.route walk.read.shapes)))
 
-  -- what is offered: the walk, then the name servers
+  -- the offered pieces: the walk, then the name servers
   pub carried_is : (held : List Held) (pieces authority : List Piece) → held ≡ map (held_at n) (pieces ++ authority) → pieces ≡ w.pieces → authority ≡ w.authority → map (λ h. h.piece) held ≡ w.pieces ++ w.authority
   carried_is held pieces authority are first second = ap (map (λ h. h.piece)) are ∙ same_pieces n (pieces ++ authority) ∙ (λ i. first i ++ second i)
 
-  -- what its answers are made of
+  -- the source of the answers
   abbrev pub source : Source
   source = record { chain = map (held_at n) w.pieces; moment = n }
 
-  -- ---- where it has a last piece
+  -- ---- a walk with a last piece
 
   module _ (last : has_last w.end ≡ true) where
     closed : ClosesAt r w.pieces w.end
@@ -208,7 +208,7 @@ module _ (c : Config) (n : ℕ) (a : Ask) (w : Walk) (walk : IsWalkFor c a w) (o
     chain_is : more ++ end ∷ [] ≡ map (held_at n) w.pieces
     chain_is = sym (ap (map (held_at n)) closed.whole ∙ map-append (held_at n) closed.aliases (closed.last ∷ []))
 
-    -- with the aliases that a question holds
+    -- with the aliases held by a question
     told_is : (x : Waiting) → fate_of c n x (unless_many (record { held = x.held ++ more; wanted = x.wanted; met = ends end; used = [] })) ≡ gets (reply_from source x)
     told_is x = by (nat_le (length (x.held ++ more)) most_aliases) refl
       where
@@ -251,7 +251,7 @@ module _ (c : Config) (n : ℕ) (a : Ask) (w : Walk) (walk : IsWalkFor c a w) (o
             ∙ ap (λ (fates : List Fate). settling_step n (Some a) fates None (with_preferred_server a s)) (sym (fates_are s.cache.entries s.waiting))
             ∙ sym (closed_at_end c n words a w (fate_by c n s.cache.entries a w) (with_preferred_server a s) w.end last)
 
--- ---- a walk that ends with a set or a denial
+-- ---- a walk ending with a set or a denial
 
 pub ends_there : {A : Type 0} (e : OwnedEnd A) → (e ≡ Found) ⊎ ((e ≡ NoData) ⊎ (e ≡ Denied)) → has_last (end_of e) ≡ true
 ends_there {A} e (inl is) = ap (λ (o : OwnedEnd A). has_last (end_of o)) is
@@ -263,7 +263,7 @@ ends_fine {A} e (inl is) = ap (λ (o : OwnedEnd A). is_lame (end_of o)) is
 ends_fine {A} e (inr (inl is)) = ap (λ (o : OwnedEnd A). is_lame (end_of o)) is
 ends_fine {A} e (inr (inr is)) = ap (λ (o : OwnedEnd A). is_lame (end_of o)) is
 
--- ---- a walk that is lame, and one that isn't
+-- ---- a lame walk, and a walk that is not lame
 
 pub lame_row : (c : Config) (n : ℕ) (words : List ℕ) (rooms : List Bool) (a : Ask) (s : State) (w : Walk) → is_lame w.end ≡ true → row_of_walk (start c n words s) rooms a w ≡ row_of_failure (start c n words s) a Lame
 lame_row c n words rooms a s w is = cond-true (is_lame w.end) _ _ is

@@ -1,4 +1,4 @@
--- The fates of those that wait for one question, among all that wait.
+-- The fates of the questions waiting for a question, among all that wait.
 use Rattle.std.proofs.Common.{◌≡◌, List, [], ◌∷◌, Bool, true, false, cond, Some, refl, sym, ap, ◌∙◌}
 use Rattle.std.specs.Prelude.{filter, map}
 use Rattle.std.specs.List.{cons_option}
@@ -24,7 +24,7 @@ module _ (q : Question) (fate : Waiting → Fate) (others : (x : Waiting) → wa
   replies_of [] = refl
   replies_of (x ∷ xs) = one_reply (waits_for q x) x xs (filter (waits_for q) xs) refl (replies_of xs)
 
-  -- ---- those that wait on
+  -- ---- questions that wait on
 
   one_left : (x : Waiting) → cond (waits_for q x) (left_by (onward_of (fate x)) x) (Some x) ≡ waiting_in (fate x)
   one_left x = by (waits_for q x) refl
@@ -52,7 +52,7 @@ waiting_are q fate xs each b =
     (ap (map onward_of) b.are ∙ map-map onward_of fate (filter (waits_for q) xs))
     ∙ all_left q fate b.others b.own xs
 
--- ---- two fates that are one for those that wait for a question
+-- ---- fates equal for the questions waiting for a question
 
 one_of_those : (p : Waiting → Bool) (f g : Waiting → Fate) (x : Waiting) (those : List Waiting) (t : Bool) → p x ≡ t → (p x ≡ true → f x ≡ g x) → map f those ≡ map g those → map f (cond t (x ∷ those) those) ≡ map g (cond t (x ∷ those) those)
 one_of_those p f g x those true e same rest = λ i. same e i ∷ rest i

@@ -1,4 +1,4 @@
--- The asks other than the answered one, and the draw once it is closed.
+-- The asks besides the answered ask, and the draw once the answered ask is closed.
 use Rattle.std.proofs.Common.{◌≡◌, ◌≢◌, ℕ, zero, suc, ◌<◌, List, [], ◌∷◌, length, Bool, true, false, cond, Option, Some, None, refl, sym, ap, ◌∙◌, slice_get, get_or, arith}
 use Rattle.std.specs.Prelude.{not, is_some}
 use Rattle.std.proofs.lemmas.Bool.{cond-true, cond-false, true≢false}
@@ -16,9 +16,9 @@ use Rattle.step_table.specs.Attempts.{peer_at, preferred_on, servers_in}
 use Rattle.step_table.specs.Steps.{with_preferred_server}
 use Rattle.step_table.specs.Progress.{ArePreferred}
 
--- ---- the ask of a question
+-- ---- a question's ask
 
--- another ask stays the first with its question
+-- another ask stays the first of the question
 other_one : (q : Question) (path : Path) (a b : Ask) (asks rest : List Ask) (t k : Bool) → same_question b.question q ≡ t → same_path b.path path ≡ k → same_path a.path path ≡ false → cond t (Some b) (of_question q asks) ≡ Some a
     → (of_question q asks ≡ Some a → of_question q rest ≡ Some a) → of_question q (cond (not k) (b ∷ rest) rest) ≡ Some a
 other_one q path a b asks rest true true is on other found goes = absurd (let same : b ≡ a = cc in true≢false (sym on ∙ ap (λ (x : Ask). same_path x.path path) same ∙ other))
@@ -39,7 +39,7 @@ none_stays : (q : Question) (path : Path) (asks : List Ask) → of_question q as
 none_stays q path [] found = refl
 none_stays q path (b ∷ asks) found = none_one q path b asks (without_path path asks) (same_question b.question q) (same_path b.path path) refl found (none_stays q path asks)
 
--- its question is that which is looked for
+-- the found ask has the sought question
 found_same : (q : Question) (asks : List Ask) (a : Ask) → of_question q asks ≡ Some a → same_question a.question q ≡ true
 found_same q asks a found = (Rattle.step_table.proofs.CallerLemmas.of_question-is (λ b. Unit {0}) q asks a found (always asks)).1
   where
@@ -52,8 +52,8 @@ abbrev pub is_other : Path → Option Ask → Bool
 is_other path None = false
 is_other path (Some a) = not (same_path a.path path)
 
--- an ask of the question is listed next to the one on this path exactly where the listed one is
--- another
+-- a question has an ask besides the ask on this path exactly if the question's ask is on another
+-- path
 pub asked_beside : (q : Question) (path : Path) (asks : List Ask) (o : Option Ask) → AreInTurn asks → of_question q asks ≡ o → is_some (of_question q (without_path path asks)) ≡ is_other path o
 asked_beside q path asks None start found = ap is_some (none_stays q path asks found)
 asked_beside q path asks (Some a) start found = by (same_path a.path path) refl
@@ -65,7 +65,7 @@ asked_beside q path asks (Some a) start found = by (same_path a.path path) refl
         ap is_some (question_free_without_path path q asks a start listed (found_same q asks a found))
     by false other = ap is_some (other_stays q path asks a other found)
 
--- ---- the server that is preferred then
+-- ---- the server preferred afterwards
 
 -- each route has a place
 within_places : (routes : List Route) (places : List ℕ) (route : ℕ) (r : Route) → ArePreferred routes places → slice_get routes route ≡ Some r → route < length places
@@ -74,17 +74,17 @@ within_places (x ∷ routes) [] route r are there = absurd are
 within_places (x ∷ routes) (p ∷ places) zero r are there = omega arith
 within_places (x ∷ routes) (p ∷ places) (suc route) r are there = let rest = within_places routes places route r are.1 there in omega (arith, rest)
 
--- a route whose group has a server at this place is one of them
+-- a route with a server at this place is a route of the configuration
 group_there : (c : Config) (route server : ℕ) (peer : Peer) (o : Option Route) → slice_get c.routes route ≡ o → slice_get (servers_in o) server ≡ Some peer → (r : Route) × (slice_get c.routes route ≡ Some r)
 group_there c route server peer None at there = absurd (cc)
 group_there c route server peer (Some r) at there = (r, at)
 
--- the server that answered is the one on its own route
+-- on the ask's route, the answering server is preferred
 pub preferred_own : (c : Config) (a : Ask) (s : State) → ArePreferred c.routes s.preferred → peer_at c a.route a.server ≡ Some a.peer → a.server ≡ preferred_on (with_preferred_server a s) a.route
 preferred_own c a s are there =
     let group = group_there c a.route a.server a.peer (slice_get c.routes a.route) refl there in
     sym (get_or-set_same s.preferred a.route a.server 0 (within_places c.routes s.preferred a.route group.0 are group.1))
 
--- on another route it is as before
+-- on any other route the preferred server is unchanged
 pub preferred_other : (a : Ask) (s : State) (route : ℕ) → route ≢ a.route → get_or s.preferred route 0 ≡ preferred_on (with_preferred_server a s) route
 preferred_other a s route other = sym (get_or-set_other s.preferred a.route route a.server 0 other)

@@ -22,7 +22,7 @@ use Rattle.step_table.specs.Ticks.{expiry_step}
 use Rattle.step_table.specs.Replies.{timeout_of, row_of_verdict, row_of_delivery, verdict_on}
 use Rattle.step_table.specs.Failures.{with_stale_ttl, found_stale, runs_out}
 use Rattle.record_cache.specs.Values.{Held}
-use Rattle.step_texts.specs.Spelling.{Source}
+use Rattle.step_actions.specs.StepTexts.Spelling.{Source}
 use Rattle.reply_match.specs.Verdicts.{judge}
 use Rattle.step_actions.specs.declared.decision.Preferred.{Preferred}
 use Rattle.step_actions.specs.declared.decision.Change.TheVariants.{Close, SendOn, AskAgain, Expire}
@@ -37,7 +37,7 @@ pub pushed : (A : Type 0) (owned : List (OwnedAction A)) (last : OwnedAction A) 
 pushed A [] last actions action are is = (λ i. is i ∷ []) ∙ ap (λ ys. ys ++ action ∷ []) are
 pushed A (a ∷ owned) last actions action are is = ap (λ ys. action_of a ∷ ys) (pushed A owned last (actions_of owned) action refl is) ∙ ap (λ ys. ys ++ action ∷ []) are
 
--- ---- what is decided, as it is done
+-- ---- the decision, as done
 
 -- an ask is listed on the path
 pub listed_some : (path : Path) (asks : List Ask) (a : Ask) → ask_on path asks ≡ Some a → IsSome (ask_on path asks)
@@ -57,7 +57,7 @@ pub with_replies-is : (fate : Waiting → Fate) (actions : List Action) (xs : Li
 with_replies-is fate actions [] = sym (append-nil actions)
 with_replies-is fate actions (x ∷ xs) = with_replies-is fate (with_reply actions (reply_in (fate x))) xs ∙ one_more (reply_in (fate x)) actions (replies (map fate xs))
 
--- a fate by which those that wait for the question wait no more
+-- a fate that frees the questions waiting for q
 abbrev pub Frees : Question → (Waiting → Fate) → Type 0
 Frees q fate = (x : Waiting) → waiting_in (fate x) ≡ cond (waits_for q x) None (Some x)
 
@@ -111,7 +111,7 @@ lasts_frees c n entries q = λ x. one_fate (waits_for q x) (with_stale_ttl n x (
 pub given_frees : (d : Source) (q : Question) → Frees q (gives_from d q)
 given_frees d q = λ x. one_fate (waits_for q x) (reply_from d x) x
 
--- ---- those that waited for an ask are sent on
+-- ---- the questions waiting for an ask are sent on
 
 pub sending_row : (A : Type 0) (n : ℕ) (s : State) (a : Ask) (fate : Waiting → Fate) (each : List Fate) (next : Option Ask) (used : List Slot) (boxed : Box (Redirect A) A) (actions : List Action) → ask_on a.path s.asks ≡ Some a → AreFates a.question fate s.waiting each
     → boxed.value.path ≡ a.path → boxed.value.preferred.route ≡ a.route → boxed.value.preferred.server ≡ a.server → boxed.value.onward.items ≡ map onward_of each → boxed.value.ask ≡ next
@@ -138,7 +138,7 @@ sending_row A n s a fate each next used boxed actions on become path route serve
         ∙ ap (λ (r : Option Ask). left_or_sent r (map onward_of each) s.waiting) on
         ∙ waiting_are a.question fate s.waiting each become
 
--- ---- one ask after another
+-- ---- an ask after another
 
 all_silent : (xs : List Waiting) → replies (map (λ x. waits x) xs) ≡ []
 all_silent [] = refl
@@ -165,7 +165,7 @@ again_row A n path s a next boxed actions on is told =
     (λ i. record { actions = told i; unkept = 0; state = changed {A = A} n s (AskAgain path boxed) })
     ∙ again_is n path s a next on (changed {A = A} n s (AskAgain path boxed)) (λ i. record s { asks = without_path path s.asks ++ is i ∷ []; moment = n; tcp_asks = s.tcp_asks + Rattle.step_table.specs.Steps.tcp_count (Some (is i)) })
 
--- ---- a question that waits, and one that waits no more
+-- ---- a waiting question, and a freed question
 
 pub expired_is : (A : Type 0) (n : ℕ) (s : State) (x : Waiting) (others : List Waiting) (alone : Option Ask) → s.waiting ≡ x ∷ others
     → record { actions = closing alone ++ gives_up Deadline x ∷ []; unkept = 0; state = changed {A = A} n s (Expire (closed_path alone)) } ≡ expiry_step n x others alone s

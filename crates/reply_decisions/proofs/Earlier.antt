@@ -1,4 +1,4 @@
--- The aliases with which a question is sent on were accepted by now.
+-- The aliases of a question sent on were accepted by now.
 use Rattle.std.proofs.Common.{◌≡◌, ℕ, List, [], ◌∷◌, ◌++◌, Option, None, Some, sym, subst, refl}
 use Rattle.std.specs.Prelude.{map}
 use Rattle.std.specs.List.{AllByRecursion}
@@ -16,14 +16,14 @@ use Rattle.reply_decisions.specs.Fates.{looked_on, onward_of}
 use Rattle.reply_decisions.proofs.Going.{all_append, waits_with_it}
 
 module _ (P : Held → Type 0) where
-  -- the chain of a look-up that goes on after the aliases of a reply
+  -- the chain of a look-up going on after a reply's aliases
   pub looked_holds : (t : StepStart) (aliases : List Held) (name : List (List ℕ)) (x : Waiting) → AllByRecursion P t.state.cache.entries
       → AllByRecursion P aliases → AllByRecursion P x.held → AllByRecursion P (chain_of (looked_on t aliases name x))
   looked_holds t aliases name x entries lead own =
       look_up_holds P t.config.routes t.moment t.state.cache.entries entries (x.held ++ aliases) (asked_at x.wanted name)
       (all_append P x.held aliases own lead)
 
-  -- a fate by which those that wait on hold what is so
+  -- a fate that leaves all held entries with the property P
   abbrev pub Holds : (Waiting → Fate) → Type 0
   Holds fate = (x y : Waiting) → AllByRecursion P x.held → fate x ≡ waits y → AllByRecursion P y.held
 
@@ -34,7 +34,7 @@ module _ (P : Held → Type 0) where
       subst (AllByRecursion P) (sym (waits_with_it t.config t.moment l x y is).held)
       (held_holds P l (looked_holds t aliases name x entries lead own))
 
-  -- without a port none waits on
+  -- without a port no question waits on
   pub no_port_holds : (fate : Waiting → Fate) → Holds (λ x. without_port (fate x))
   no_port_holds fate = λ x y own is. by (fate x) y is
     where
@@ -42,7 +42,7 @@ module _ (P : Held → Type 0) where
       by (gets reply) z e = absurd (cc)
       by (waits w) z e = absurd (cc)
 
-  -- each that is sent on holds what is so
+  -- all entries held by a question sent on have the property P
   abbrev pub IsHeld : Option Onward → Type 0
   IsHeld None = Unit {0}
   IsHeld (Some s) = AllByRecursion P s.held

@@ -1,4 +1,4 @@
--- The fate that a look-up gives a question.
+-- A question's fate by its look-up.
 use Rattle.std.proofs.Common.{◌≡◌, ℕ, List, [], ◌∷◌, ◌++◌, Option, Some, None, refl, sym, ap, ◌∙◌}
 use Rattle.std.specs.List.{AllByRecursion}
 use Rattle.dns_message.specs.Values.{Question}
@@ -16,7 +16,7 @@ all_append P [] ys first then = then
 all_append P (x ∷ xs) ys first then = (first.0, all_append P xs ys first.1 then)
 
 module _ (c : Config) (n : ℕ) (l : LookUp) where
-  -- ---- a question that waits, and its request
+  -- ---- a waiting question, and its request
 
   by_route : (x : Waiting) (hs : List Held) (q : Question) (r : Option ℕ)
       → fate_missed c n x l r ≡ fate_missed c n (record x { held = hs; wanted = q }) l r
@@ -29,7 +29,7 @@ module _ (c : Config) (n : ℕ) (l : LookUp) where
   by_end x hs q too_long = refl
   by_end x hs q missed = by_route x hs q (serving_route_of c l.wanted.name)
 
-  -- neither what it held nor what it wanted before matters
+  -- the fate depends on neither the entries held before nor the name wanted before
   pub fate_alike : (x y : Waiting) → x.client ≡ y.client → x.asked ≡ y.asked → x.taken ≡ y.taken
       → fate_of c n x l ≡ fate_of c n y l
   fate_alike x y client asked taken =
@@ -44,7 +44,7 @@ module _ (c : Config) (n : ℕ) (l : LookUp) where
 
   -- ---- a question that waits on
 
-  -- it holds what the look-up holds, and wants what that wants
+  -- the question holds the look-up's entries and wants the look-up's name
   pub record WaitsWith (x y : Waiting) : Type 0 where
     pub held : y.held ≡ l.held
     pub own : y ≡ redirected (record { held = y.held; wanted = y.wanted }) x

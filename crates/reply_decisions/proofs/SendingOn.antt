@@ -1,4 +1,4 @@
--- A reply that leads on: what the code decides is what the table has.
+-- A reply that leads on: the decision is the table's.
 use Rattle.std.proofs.Common.{◌≡◌, ℕ, ◌^◌, ◌≤◌, List, [], ◌∷◌, ◌++◌, Bool, true, false, Option, Some, None, refl, sym, ap, ◌∙◌, subst, arith}
 use Rattle.std.specs.Prelude.{filter, is_some, map}
 use Rattle.std.specs.List.{flat_map, AllByRecursion}
@@ -31,7 +31,7 @@ use Rattle.step_actions.specs.Decision.{CanFollow, IfFollows, IsSentEarlier}
 use Rattle.step_actions.proofs.CallerLemmas.{first_follows, kept_without}
 use Rattle.reply_decisions.specs.Redirecting.{closing_state, asked_for, ask_for, fates_then}
 
--- ---- what is asked for
+-- ---- the question to ask
 
 none_of : (listed : List Ask) (ys : List Waiting) → first_wanted ys ≡ None → to_be_asked listed ys ≡ None
 none_of listed [] none = refl
@@ -46,9 +46,9 @@ first_of listed (y ∷ ys) wanted is =
 pub none_asked : (a : Ask) (s : State) (each : List Fate) → first_wanted (still_waiting each) ≡ None → asked_for a s each ≡ None
 none_asked a s each none = none_of (without_path a.path s.asks) (still_waiting each) none
 
--- ---- the fate of each that waits
+-- ---- the fate of each waiting question
 
--- what becomes of each, once it is known whether there is an ask
+-- the fate of each, given whether there is an ask
 abbrev pub fate_then : Question → (Waiting → Fate) → Option Question → Option Ask → Waiting → Fate
 fate_then q fate None next = fate
 fate_then q fate (Some wanted) (Some next) = fate
@@ -63,7 +63,7 @@ no_port_of q fate xs =
     ∙ same_fates (waits_for q) (λ x. without_port (fate x)) (unless_no_port fate q)
     (λ x t. sym (cond-true (waits_for q x) _ _ t)) xs
 
--- ---- the fates of those, and of all
+-- ---- the fates of the waiting questions, and of all
 
 then_others : (q : Question) (fate : Waiting → Fate) (asked : Option Question) (next : Option Ask)
     → ((x : Waiting) → waits_for q x ≡ false → fate x ≡ waits x) → (x : Waiting) → waits_for q x ≡ false
@@ -122,7 +122,7 @@ module _ (c : Config) (n : ℕ) (words : List ℕ) (a : Ask) (w : Walk) (s : Sta
   looked_is : (x : Waiting) → looked_by c n s.cache.entries w x w.end ≡ looked_on t (map (held_at n) w.pieces) name x
   looked_is x = ap (looked_by c n s.cache.entries w x) leads
 
-  -- of those that wait for the ask, what the table has
+  -- the fates of the questions waiting for the ask are the table's
   pub fates_are : map behind those ≡ map fate those
   fates_are = same_fates (waits_for a.question) behind fate
       (λ x is. sym (cond-true (waits_for a.question x) _ _ is ∙ ap (fate_of c n x) (looked_is x))) s.waiting
@@ -131,7 +131,7 @@ module _ (c : Config) (n : ℕ) (words : List ℕ) (a : Ask) (w : Walk) (s : Sta
   own_waits x y is waits_so =
       (waits_with_it c n (looked_by c n s.cache.entries w x w.end) x y (sym (cond-true (waits_for a.question x) _ _ is) ∙ waits_so)).own
 
-  -- all others wait on
+  -- all other questions wait on
   pub others_wait : (x : Waiting) → waits_for a.question x ≡ false → fate x ≡ waits x
   others_wait x f = cond-false (waits_for a.question x) _ _ f
 
@@ -166,8 +166,8 @@ module _ (c : Config) (n : ℕ) (words : List ℕ) (a : Ask) (w : Walk) (s : Sta
       (with_preferred_server a s))) a fate (asked_are i))
       ∙ sym (ap (row_of_end (start c n words (with_preferred_server a s)) a w fate) leads))
 
-  -- the decision is the table's: each question is looked up after these aliases, and then it is
-  -- known whether there is an ask
+  -- the decision is the table's: each question is looked up after these aliases, then an ask is
+  -- opened or not
   module _ (aliases : List Held) (xs : List Waiting) (each : List Fate) (next : Option Ask)
       (aliases_are : aliases ≡ map (held_at n) w.pieces) (xs_are : xs ≡ those)
       (each_are : each ≡ map (λ x. fate_of c n x (looked_on t aliases name x)) xs) where
@@ -197,7 +197,7 @@ module _ (c : Config) (n : ℕ) (words : List ℕ) (a : Ask) (w : Walk) (s : Sta
         (used_is ∙ met_used ∙ (λ i. flat_map
         (λ x. (looked_on t (aliases_are i) name x).used) (xs_are i))) pieces_are
 
--- ---- what those hold that are sent on
+-- ---- the entries held by questions sent on
 
 module _ (n : ℕ) (behind : Waiting → Fate) (holds : Holds (IsEarlier n) behind) (xs : List Waiting)
     (own : AllByRecursion (λ x. AllByRecursion (IsEarlier n) x.held) xs) where
@@ -220,14 +220,14 @@ module _ (n : ℕ) (behind : Waiting → Fate) (holds : Holds (IsEarlier n) behi
       (λ f. IsSentEarlier n (onward_of f)) (λ f is. earlier_then (onward_of f) is) told
       (subst (AllByRecursion (λ f. IsHeld (IsEarlier n) (onward_of f))) (sym are) (then_holds asked next))
 
--- ---- what each is sent on with
+-- ---- the new question of each
 
 pub sent_all : (n : ℕ) (each : List Fate) → AllByRecursion (λ f. IsSentEarlier n (onward_of f)) each
     → AllByRecursion (IsSentEarlier n) (map onward_of each)
 sent_all n [] all = tt
 sent_all n (f ∷ each) all = (all.0, sent_all n each all.1)
 
--- ---- whether it is asked already
+-- ---- whether the new question is already asked
 
 open_is : (q : Question) (o : Option Ask) → is_some o ≡ true → unless_open q o ≡ None
 open_is q None is = absurd (cc)
@@ -246,9 +246,9 @@ module _ (a : Ask) (s : State) (each : List Fate) (wanted : Question) (is : firs
   asked_now none = first_of (without_path a.path s.asks) (still_waiting each) wanted is
       ∙ unopened_is wanted (of_question wanted (without_path a.path s.asks)) none
 
--- ---- the ask for it may be listed
+-- ---- the ask for the new question may be listed
 
--- what is to be asked for has no ask
+-- a question to ask has no ask
 new_of : (q : Question) (listed : List Ask) (y : Question) (r : Option Ask) → of_question y listed ≡ r
     → unless_open y r ≡ Some q → of_question q listed ≡ None
 new_of q listed y None none e = let same : y ≡ q = cc in ap (λ (z : Question). of_question z listed) (sym same) ∙ none

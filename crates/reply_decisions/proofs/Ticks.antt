@@ -1,4 +1,4 @@
--- The item that a tick serves.
+-- The item served by a tick.
 use Rattle.std.proofs.Common.{◌≡◌, ℕ, ◌≤◌, ◌<◌, List, [], true, false, sym, ap, ◌∙◌, subst, Option, Some, None}
 use Rattle.std.specs.Prelude.{nat_le, slice_get, drop}
 use Rattle.std.specs.List.{list_any}
@@ -27,7 +27,7 @@ pub tick_idle : (c : Config) (n : ℕ) (words : List ℕ) (s : State) → s.wait
 tick_idle c n words s none no_ask = λ i. row_of_item (start c n words s) (first_item c (sym none i) (sym no_ask i))
 
 module _ {A : Type 0} (c : Config) (n : ℕ) (words : List ℕ) (s : State) (d : Due A) where
-  -- before its moment nothing is done
+  -- before the item's moment nothing is done
   idle_at : (o : Oldest A) → n < due_from c o → idle_step n s ≡ row_of_item (start c n words s) (item_of (drop 1 s.waiting) o)
   idle_at (Question x) early = sym (cond-false (nat_le (due_from {A = A} c (Question x)) n) _ _ (lt-leb (due_from {A = A} c (Question x)) n early))
   idle_at (OfAsk a) early = sym (cond-false (nat_le (due_from {A = A} c (OfAsk a)) n) _ _ (lt-leb (due_from {A = A} c (OfAsk a)) n early))
@@ -35,7 +35,7 @@ module _ {A : Type 0} (c : Config) (n : ℕ) (words : List ℕ) (s : State) (d :
   pub idle_until : IsDueFirst c s.waiting s.asks d → n < d.moment → idle_step n s ≡ row_of_tick (start c n words s)
   idle_until first early = idle_at d.oldest (subst (λ (m : ℕ). n < m) first.from early) ∙ sym (ap (row_of_item (start c n words s)) first.item)
 
-  -- from its moment on the oldest question is served
+  -- from the oldest question's moment on the question is served
   pub question_due : (x : Bor Waiting) → IsDueFirst c s.waiting s.asks d → d.oldest ≡ Question x → d.moment ≤ n
       → expiry_step n x.now (drop 1 s.waiting) (left_alone x.now.wanted (drop 1 s.waiting) s.asks) s ≡ row_of_tick (start c n words s)
   question_due x first is late =
@@ -43,7 +43,7 @@ module _ {A : Type 0} (c : Config) (n : ℕ) (words : List ℕ) (s : State) (d :
       (subst (λ (m : ℕ). m ≤ n) (first.from ∙ ap (due_from c) is) late)))
       ∙ sym (ap (row_of_item (start c n words s)) (first.item ∙ ap (item_of (drop 1 s.waiting)) is))
 
-  -- and the oldest ask
+  -- and the oldest ask from the ask's moment on
   pub ask_due : (a : Bor Ask) → IsDueFirst c s.waiting s.asks d → d.oldest ≡ OfAsk a → d.moment ≤ n
       → row_of_failure (start c n words s) a.now TimedOut ≡ row_of_tick (start c n words s)
   ask_due a first is late =
@@ -55,16 +55,16 @@ module _ {A : Type 0} (c : Config) (s : State) (d : Due A) where
   pub question_there : (x : Bor Waiting) → IsDueFirst c s.waiting s.asks d → d.oldest ≡ Question x → slice_get s.waiting 0 ≡ Some x.now
   question_there x first is = subst (IsOldest s.waiting s.asks) is first.oldest
 
-  -- the oldest ask is the one on its path
+  -- the oldest ask is the ask on its path
   pub oldest_on : (a : Bor Ask) → IsDueFirst c s.waiting s.asks d → d.oldest ≡ OfAsk a → ask_on a.now.path s.asks ≡ Some a.now
   oldest_on a first is =
       ap (ask_on a.now.path) (rest_is s.asks a.now (subst (IsOldest s.waiting s.asks) is first.oldest))
       ∙ cond-true (same_path a.now.path a.now.path) _ _ (same_path_reflexive a.now.path)
 
--- where nothing is due, its moment has not come
+-- if nothing is due, the first due moment has not come
 pub not_early : {A : Type 0} {P : Type 0} (c : Config) (n : ℕ) (s : State) (d : Due A) → IsDueFirst c s.waiting s.asks d → d.moment ≤ n → is_due_at c n s ≡ false → P
 not_early c n s d first late none = absurd (false≢true (sym none ∙ first.due n ∙ le-leb d.moment n late))
 
--- the ask of a question for which no other waits
+-- the ask of a question that no other question waits for
 pub alone_is : (q : QuestionValue) (others : List Waiting) (listed : List Ask) (o : Option Ask) → list_any (waits_for q) others ≡ false → of_question q listed ≡ o → closed_path o ≡ closed_path (left_alone q others listed)
 alone_is q others listed o none is = sym (ap closed_path (cond-false (list_any (waits_for q) others) None (of_question q listed) none ∙ is))

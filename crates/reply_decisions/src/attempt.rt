@@ -14,11 +14,11 @@ use outstanding::{Ask, KeyedAsk, Path, draw};
 use retry_failover::{Failure, Next, after};
 use std::alloc::{AllocError, Allocator};
 use std::hash::BuildHasher;
+use step_actions::texts::ask as ask_action;
 use step_actions::{
     Attempt, Change, Decision, Drawn, StepStartRef, by_udp, close_path, draw_connection, failures,
     freed_port, last_replies, new_ask, nothing, plan,
 };
-use step_texts::ask as ask_action;
 use step_values::{Actions, Why};
 
 /// Closes the ask; those that wait for it fail for this reason.

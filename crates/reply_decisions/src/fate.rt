@@ -17,8 +17,8 @@ use dns_name::Name;
 use record_cache::Held;
 use std::alloc::{AllocError, Allocator, Global};
 use std::hash::BuildHasher;
+use step_actions::texts::failure;
 use step_actions::{Fate, StepStartRef, fate_of, redirected};
-use step_texts::failure;
 use step_values::{Action, Why};
 use waiting_questions::{Onward, Waiting};
 

@@ -34,11 +34,11 @@ use plain_values::PlainList;
 use record_cache::Held;
 use std::alloc::{AllocError, Allocator};
 use std::hash::BuildHasher;
+use step_actions::texts::ask as ask_action;
 use step_actions::{
     Attempt, Change, Decision, Preferred, Redirect, StepStartRef, by_udp, close_path, freed_port,
     new_ask,
 };
-use step_texts::ask as ask_action;
 use step_values::Actions;
 use suffix_routes::{RouteId, Routing};
 use trust_rank::Piece;

@@ -11,8 +11,8 @@ use outstanding::{Path, QuestionKey};
 use retry_failover::Failure;
 use std::alloc::{AllocError, Allocator};
 use std::hash::BuildHasher;
+use step_actions::texts::failure;
 use step_actions::{Change, Decision, Oldest, StepStartRef, close_paths, first_due, nothing};
-use step_texts::failure;
 use step_values::Why;
 use waiting_questions::Waiting;
 

@@ -3,7 +3,7 @@ use Rattle.std.proofs.Common.{◌≡◌, ℕ, List}
 use Rattle.std.specs.Prelude.{Err}
 use Rattle.dns_message.specs.declared.names.fault.Fault.{Fault}
 use Rattle.dns_message.specs.Messages.{first_question}
-use Rattle.suffix_routes.specs.declared.peer.Peer.{Peer}
+use Rattle.outstanding.specs.SuffixRoutes.declared.peer.Peer.{Peer}
 use Rattle.outstanding.specs.Values.{Ask}
 use Rattle.reply_match.specs.declared.verdict.Verdict.TheVariants.{Stranger}
 use Rattle.reply_match.specs.Verdicts.{judge}

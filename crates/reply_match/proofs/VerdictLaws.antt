@@ -8,7 +8,7 @@ use Rattle.dns_message.specs.declared.reading.header.Header.{Header}
 use Rattle.dns_message.specs.Header.{header_in}
 use Rattle.dns_message.specs.Messages.{first_question, message_of, QuestionIs, IsWhole}
 use Rattle.dns_message.proofs.CallerLemmas.{same_question_decides, spelled_message_is_read, message_read_is_spelled}
-use Rattle.suffix_routes.specs.declared.peer.Peer.{Peer}
+use Rattle.outstanding.specs.SuffixRoutes.declared.peer.Peer.{Peer}
 use Rattle.reply_match.specs.declared.verdict.Verdict.{Verdict}
 use Rattle.reply_match.specs.declared.verdict.Verdict.TheVariants.{Stranger, Truncated, Failed, Malformed, Whole}
 use Rattle.dns_message.specs.Questions.{same_question, question_read, one_question}

@@ -1,7 +1,7 @@
 -- Statements about the verdicts.
 use Rattle.std.specs.Prelude.{◌≡◌, ◌↔◌, ℕ, false, List, IsOk}
 use Rattle.dns_message.specs.Messages.{first_question, message_of}
-use Rattle.suffix_routes.specs.declared.peer.Peer.{Peer}
+use Rattle.outstanding.specs.SuffixRoutes.declared.peer.Peer.{Peer}
 use Rattle.outstanding.specs.Values.{Ask}
 use Rattle.reply_match.specs.declared.verdict.Verdict.TheVariants.{Stranger, Whole}
 use Rattle.reply_match.specs.Verdicts.{matches, judge}

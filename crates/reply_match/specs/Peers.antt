@@ -1,7 +1,7 @@
 -- Peers, compared.
 use Rattle.std.specs.Prelude.{Bool, ◌==◌, ◌&&◌}
 use Rattle.plain_values.specs.Octets.{same_octets}
-use Rattle.suffix_routes.specs.declared.peer.Peer.{Peer}
+use Rattle.outstanding.specs.SuffixRoutes.declared.peer.Peer.{Peer}
 
 -- equal addresses and equal ports
 abbrev pub same_peer : Peer → Peer → Bool

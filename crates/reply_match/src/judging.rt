@@ -10,9 +10,8 @@ ghost use Rattle.reply_match.specs.Verdicts.{is_reply, judge, judged_whole};
 
 use crate::verdict::Judged;
 use dns_message::{Header, MessageRef, Question};
-use outstanding::Ask;
+use outstanding::{Ask, Peer};
 use std::alloc::Allocator;
-use suffix_routes::Peer;
 
 /// Judges octets from a peer as the reply to an ask: the first verdict that holds, in the order of
 /// `Verdict`. So an RCODE other than 0 and 3 comes before an unreadable message. A whole message

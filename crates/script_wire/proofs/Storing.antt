@@ -1,4 +1,4 @@
--- A wire in memory stores one more item of its report.
+-- A wire in memory stores a further item of the report.
 use Rattle.std.proofs.Common.{◌≡◌, ◌∙◌, refl, sym, subst, ap, ℕ, ◌+◌, ◌-◌, ◌^◌, ◌<◌, ◌≤◌, inl, inr, arith, List, ◌++◌, Option, Some, None, Bool, true, false}
 use Rattle.std.specs.Prelude.{IfSome, [], ◌∷◌, map, slice_get, nat_lt, cond}
 use Rattle.std.proofs.lemmas.Bool.{ltb-false}
@@ -13,7 +13,7 @@ report_before (Some before) more now is = (before, refl, some_is _ _ is)
     some_is : (s t : Report) → Some s ≡ Some t → t ≡ s
     some_is s t e = cc
 
--- A call that stores its report reports just this, whether it counts a fault or not.
+-- A call with a stored report reports exactly this, with or without a counted fault.
 pub reports_stored : (o new : Option Report) (more : Report) (f f' : ℕ) → f ≤ f' → new ≡ report_then o more → ReportsMore (journal o f) more (journal new f')
 reports_stored o new more f f' counts is = record {
   reports = λ now now_is. report_before o more now (sym is ∙ now_is);
@@ -21,7 +21,7 @@ reports_stored o new more f f' counts is = record {
   stays = λ same below. is;
 }
 
--- A call that counts a fault may fall silent, and so may one where the count is at its last value.
+-- A call may fall silent if a fault is counted, or the count is at the last value.
 pub reports_by_none : (o new : Option Report) (more : Report) (f f' : ℕ) → f ≤ f' → (f' ≡ f → f < 2 ^ 64 - 1 → ⊥) → new ≡ None → ReportsMore (journal o f) more (journal new f')
 reports_by_none o new more f f' counts risen silent = record {
   reports = λ now is. absurd (cc);
@@ -37,7 +37,7 @@ never_same : (b : Bool) (f : ℕ) → cond b (f + 1) f ≡ f → nat_lt f (2 ^ 6
 never_same true f same is below = omega (arith, same)
 never_same false f same is below = let least = ltb-false f (2 ^ 64 - 1) is in omega (arith, least, below)
 
--- A call that stores its report, or counts that memory ran out, reports just this.
+-- A call reports exactly this, if the report is stored or a lack of memory counted.
 pub reports_if_stores : (old new : Script) (more : Report) → Stores old more new → ReportsMore (journal old.report old.faults) more (journal new.report new.faults)
 reports_if_stores old new more (inl is) =
     let same = ap (λ (s : Script). s.faults) is in
@@ -47,12 +47,12 @@ reports_if_stores old new more (inr is) =
     reports_by_none old.report new.report more old.faults new.faults (subst (λ (f : ℕ). old.faults ≤ f) (sym rises) (never_falls (nat_lt old.faults (2 ^ 64 - 1)) old.faults))
     (λ same below. never_same (nat_lt old.faults (2 ^ 64 - 1)) old.faults (sym rises ∙ same) refl below) (ap (λ (s : Script). s.report) is)
 
--- the stored puts are those of the report
+-- the stored puts are the report's
 pub shows : (reports : Bool) (a : List (Option Arrival)) (p : List Put) (m : List ℕ) (w : List (List ℕ)) (xs : List Put) (o : Option Report) → stored reports a p m w ≡ o → xs ≡ p → IfSome o (λ (report : Report). xs ≡ report.puts)
 shows true a p m w xs o is same = subst (λ (v : Option Report). IfSome v (λ (report : Report). xs ≡ report.puts)) is same
 shows false a p m w xs o is same = subst (λ (v : Option Report). IfSome v (λ (report : Report). xs ≡ report.puts)) is tt
 
--- the turn of a wire before its first one begins
+-- the turn of a wire before the first turn begins
 pub standing_some : {A : Type 0} (turns : List (ScriptTurn A)) (turn : ScriptTurn A) → slice_get turns 0 ≡ Some turn → standing (map turn_of turns) ≡ turn_of turn
 standing_some [] turn is = absurd (cc)
 standing_some (first ∷ later) turn is = ap turn_of (some_is first turn is)
@@ -64,7 +64,7 @@ pub standing_none : {A : Type 0} (turns : List (ScriptTurn A)) → slice_get tur
 standing_none [] none = refl
 standing_none (first ∷ later) none = absurd (cc)
 
--- a call that is refused changes nothing but the counts and the report
+-- a refused call changes only the counts and the report
 pub counted_so : (value begun_one script : Script) (report : Option Report) → value ≡ calls_once begun_one → begun_one ≡ begun script
     → record { report = report; faults = value.faults + 1; to_come = value.to_come; moment = value.moment; words = value.words; refuse = value.refuse; calls = value.calls } ≡ record (faults_once (calls_once (begun script))) { report = report }
 counted_so value begun_one script report counts begins = rw (counts, begins) refl

@@ -26,7 +26,7 @@ shorter message rest stream leads =
     let sum = length-append (framed message) rest in
     omega (arith, long, sum)
 
--- so far: these messages were served, and what the reader has goes on after them
+-- so far: these messages were served, and the reader goes on after them
 pub record FramesSoFar (sender : Sender) (stream rest : List ℕ) (before after : Standing) : Type 0 where
   pub chains : List (List Taken)
   pub done : List (List ℕ)
@@ -55,7 +55,7 @@ frames_more law sender stream rest message further x y z e more is so_far takes 
 pub frames_fewer : (rest message further : List ℕ) → Takes rest (Ok (Some message)) further → length further < length rest
 frames_fewer rest message further takes = shorter message further rest takes
 
--- the reader has no whole frame any more
+-- the reader has no whole frame left
 pub frames_end : AllFramesAreTaken → (sender : Sender) (stream rest further : List ℕ) (x y : Standing) → FramesSoFar sender stream rest x y → Takes rest (Ok None) further → ServesFrames sender stream (Ok tt) further x y
 frames_end law sender stream rest further x y so_far takes =
     let all = law (fed rest (Ok tt) ∷ []) rest (rest, (record { ok = refl; err = tt }, refl)) takes.1 in

@@ -9,10 +9,10 @@ use Rattle.outstanding.specs.Values.{Ask}
 use Rattle.outstanding.specs.Lists.{on_path as ask_on}
 use Rattle.suffix_routes.specs.Values.{Config}
 use Rattle.step_values.specs.Values.{Event, from_client, delivery, path_failed, tick, restart, Action, Outcome, Step}
-use Rattle.step_table.specs.State.{State, Running}
-use Rattle.step_table.specs.Row.{Row, is_due_at, effective}
-use Rattle.step_table.specs.Progress.{left_to_do, ServesSomething}
-use Rattle.theorem_sound.specs.Runs.{Run}
+use Rattle.forwarder_core.specs.StepTable.State.{State, Running}
+use Rattle.forwarder_core.specs.StepTable.Row.{Row, is_due_at, effective}
+use Rattle.forwarder_core.specs.StepTable.Progress.{left_to_do, ServesSomething}
+use Rattle.forwarder_core.specs.TheoremSound.Runs.{Run}
 use Rattle.serving_loop.specs.declared.counts.Served.{Served}
 use Rattle.wires.specs.Wire.{Report, Journal, Put, ◌then◌, ReportsMore, moment_was, words_were}
 use Rattle.serving_loop.specs.Events.{Taken, PutsItsActions, step_in, steps_in, failed_of, more_in, joined, IsChain, AreTicks}
@@ -60,7 +60,7 @@ does_more x y z xs ys first more = record {
   same_wire = more.same_wire ∙ first.same_wire;
 }
 
--- ---- one event
+-- ---- a single event
 
 none_put : (puts : List Put) → map (λ (p : Put). p.action) puts ≡ [] → failed_of None puts ≡ None
 none_put [] is = refl
@@ -79,7 +79,7 @@ by_ask : (o : Option Ask) → IsSome o ⊎ (o ≡ None)
 by_ask None = inr refl
 by_ask (Some a) = inl refl
 
--- an event of the loop's own that was served leaves less to do, or does nothing
+-- a served event of the loop's own leaves less to do, or does nothing
 own_falls : (c config' : Config) (s s' : State) (now : ℕ) (words : List ℕ) (e : Event) (o : Outcome) (failed : Option Path) (puts : List Put) → Row c s (record { now = now; words = words; event = e }) o s' → config' ≡ c
     → (ServesSomething c (effective now s) s e → left_to_do config' s' < left_to_do c s) → failed ≡ failed_of None puts → map (λ (p : Put). p.action) puts ≡ o.actions
     → IsOwn e → StepsDown (record { config = c; state = s }) (record { config = config'; state = s' }) e failed o.more
@@ -160,7 +160,7 @@ hands_err x z p now words e same bounded a b lost refused turns arrivals forward
       falls = λ own. inr (refl, ap left same, λ _. refl);
     }
 
--- ---- an event and what fails after it
+-- ---- an event, and a failure after the event
 
 abbrev pub if_failed : Option Path → ℕ
 if_failed None = 0
@@ -170,7 +170,7 @@ at_most_one : (o : Option Path) → if_failed o ≤ 1
 at_most_one None = omega arith
 at_most_one (Some path) = omega arith
 
--- so far: the first event and those after it; the failure of the path comes next, if one failed
+-- so far: the first event and the events after it; a path's failure comes next, if any
 pub record HandsSoFar (event : Event) (more : Bool) (failed : Option Path) (before after : Standing) : Type 0 where
   pub first : Taken
   pub others : List Taken

@@ -1,4 +1,4 @@
--- The report of a wire grows, and a count that grows stays at its last value.
+-- A wire's report grows, and a growing count stays at its last value.
 use Rattle.std.proofs.Common.{◌≡◌, ◌∙◌, refl, sym, ap, ℕ, zero, suc, ◌+◌, ◌≤◌, length, List, [], ◌∷◌, ◌++◌, append_assoc, append-nil, Option, Some, None, false, arith}
 use Rattle.std.specs.Prelude.{option_map, map, slice_get}
 use Rattle.std.proofs.lemmas.List.{map-append}
@@ -76,7 +76,7 @@ pub refused_append : (xs ys : List Taken) → refused_in (xs ++ ys) ≡ refused_
 refused_append [] ys = omega arith
 refused_append (x ∷ xs) ys = let rest = refused_append xs ys in omega (arith, rest)
 
--- ---- what is put
+-- ---- the puts
 
 -- A list with nothing at a place ends before it.
 pub ends_before : {X : Type 0} (xs : List X) (i : ℕ) → slice_get xs i ≡ None → length xs ≤ i

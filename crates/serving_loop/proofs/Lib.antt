@@ -4,3 +4,5 @@ pub mod Handling
 pub mod Framing
 pub mod Turns
 pub mod Worked
+pub use Rattle.forwarder_core.proofs.TheoremSound as TheoremSound
+pub use Rattle.forwarder_core.proofs.TheoremUse as TheoremUse

@@ -8,15 +8,15 @@ use Rattle.outstanding.specs.declared.ask.Path.{Path}
 use Rattle.outstanding.specs.Values.{Ask}
 use Rattle.outstanding.specs.Lists.{on_path as ask_on}
 use Rattle.step_values.specs.Values.{path_failed, tick, Outcome}
-use Rattle.step_table.specs.State.{State, start}
-use Rattle.waiting_questions.specs.Values.{Waiting}
-use Rattle.step_table.specs.Steps.{Done, idle_step, at_moment}
-use Rattle.step_table.specs.Row.{Row, is_due_at, effective}
-use Rattle.step_table.specs.Ticks.{question, attempt, deadline_of, first_item, row_of_item}
-use Rattle.step_table.specs.Replies.{timeout_of}
-use Rattle.step_table.specs.Failures.{row_of_failed_path}
+use Rattle.forwarder_core.specs.StepTable.State.{State, start}
+use Rattle.forwarder_core.specs.WaitingQuestions.Values.{Waiting}
+use Rattle.forwarder_core.specs.StepTable.Steps.{Done, idle_step, at_moment}
+use Rattle.forwarder_core.specs.StepTable.Row.{Row, is_due_at, effective}
+use Rattle.forwarder_core.specs.StepTable.Ticks.{question, attempt, deadline_of, first_item, row_of_item}
+use Rattle.forwarder_core.specs.StepTable.Replies.{timeout_of}
+use Rattle.forwarder_core.specs.StepTable.Failures.{row_of_failed_path}
 
--- nothing is done, and nothing but the moment is new
+-- nothing is done, and only the moment is new
 pub record IsIdle (n : ℕ) (s : State) (o : Outcome) (s' : State) : Type 0 where
   pub actions : o.actions ≡ []
   pub state : s' ≡ at_moment n s

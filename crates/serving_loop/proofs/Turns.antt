@@ -13,9 +13,9 @@ use Rattle.tcp_frames.specs.Laws.{PiecesContinue}
 use Rattle.suffix_routes.specs.Values.{Config}
 use Rattle.outstanding.specs.declared.ask.Path.TheVariants.{Udp, Tcp}
 use Rattle.step_values.specs.Values.{Event, Step}
-use Rattle.step_table.specs.State.{Running}
-use Rattle.theorem_sound.specs.Runs.{Run}
-use Rattle.theorem_use.proofs.CallerLemmas.{run_serves_on}
+use Rattle.forwarder_core.specs.StepTable.State.{Running}
+use Rattle.forwarder_core.specs.TheoremSound.Runs.{Run}
+use Rattle.forwarder_core.proofs.TheoremUse.CallerLemmas.{run_serves_on}
 use Rattle.serving_loop.specs.declared.counts.Served.{Served}
 use Rattle.serving_loop.specs.declared.streams.Streams.{Streams}
 use Rattle.wires.specs.Wire.{Arrival, nothing, client_datagram, client_stream, client_closed, server_datagram, server_stream, path_gone, Report, ◌then◌, ReportsMore, arrived}
@@ -26,7 +26,7 @@ use Rattle.serving_loop.specs.Streams.{left_on, events_by, client_left_with, ser
 use Rattle.serving_loop.proofs.Journal.{then_then, then_silence, reports_nothing, reports_on, adds_none, adds_more, lost_append, refused_append}
 use Rattle.serving_loop.proofs.Handling.{run_append, all_append, does_more}
 
--- ---- one turn
+-- ---- a single turn
 
 module _ {A : Type 0} (s s' : Streams A) where
   pub turn_whole : (x y z : Standing) → TakesArrival s (Ok tt) s' x y → Ticks y z → TakesTurn s (Ok tt) s' x z
@@ -58,7 +58,7 @@ module _ {A : Type 0} (s s' : Streams A) where
     err = record { piece = h.piece; done = h.serves.done; missed = h.serves.missed; events_are = h.serves.events_are; served = h.serves.served; ticks = refl };
   }
 
--- ---- what the streams hold
+-- ---- the streams' contents
 
 client_octets_more : (conn : ℕ) (octets : List ℕ) (past : List (Option Arrival)) (a : Option Arrival) → client_octets conn octets (past ++ a ∷ []) ≡ client_octets_with conn (client_octets conn octets past) a
 client_octets_more conn octets [] a = refl
@@ -130,7 +130,7 @@ module _ (law : PiecesContinue) where
 
 -- ---- all turns
 
--- so far: whole turns, and what they did
+-- so far: whole turns, and their effects
 pub record DoesTurns (before : Standing) (all_turns : List Turn) (after : Standing) : Type 0 where
   pub config : after.running.config ≡ before.running.config
   pub run : Run before.running.config before.running.state (steps_in (taken_in all_turns)) after.running.state
@@ -193,7 +193,7 @@ are_more : (c : Config) (past : List (Option Arrival)) (all_turns : List Turn) (
 are_more c past [] t are is = (subst (λ (p : List (Option Arrival)). IsTurn c p t) (append-nil past) is, tt)
 are_more c past (u ∷ all_turns) t are is = (are.0, are_more c (past ++ u.arrival ∷ []) all_turns t are.1 (subst (λ (p : List (Option Arrival)). IsTurn c p t) (sym (append_assoc past (u.arrival ∷ []) (map (λ (v : Turn). v.arrival) all_turns))) is))
 
--- `count` turns so far, and the readers with what is left of the streams
+-- `count` turns so far, and the readers with the rest of the streams
 pub record TurnsSoFar {A : Type 0} (count : ℕ) (s : Streams A) (before after : Standing) : Type 0 where
   pub all_turns : List Turn
   pub long : length all_turns ≡ count

@@ -3,7 +3,7 @@ use Rattle.std.specs.Prelude.{◌≡◌, ◌⊎◌, ℕ, suc, ◌+◌, ◌*◌, 
 use Rattle.std.specs.Prelude.{Option, Some, None}
 use Rattle.outstanding.specs.declared.ask.Path.{Path}
 use Rattle.step_values.specs.Values.{Event, from_client, delivery, path_failed, tick, restart, Action}
-use Rattle.step_table.specs.State.{Running}
+use Rattle.forwarder_core.specs.StepTable.State.{Running}
 use Rattle.wires.specs.Wire.{Put, Report, silence, ReportsMore}
 use Rattle.serving_loop.specs.Events.{Taken, failed_of, more_in, reports_more, joined, IsChain, AreTicks}
 use Rattle.serving_loop.specs.Serving.{Standing, Does, Adds, refused_of, left}

@@ -4,10 +4,10 @@ use Rattle.std.specs.Prelude.{length, map, Option, Some, None, Result, Ok, Err}
 use Rattle.std.specs.List.{AllByRecursion}
 use Rattle.std.specs.declared.alloc.AllocError.{AllocError}
 use Rattle.step_values.specs.Values.{ask_in, SentAsk, Outcome}
-use Rattle.step_table.specs.State.{Running}
-use Rattle.step_table.specs.Progress.{left_to_do}
-use Rattle.theorem_sound.specs.Runs.{Run}
-use Rattle.theorem_use.specs.Service.{ServesOnTruly}
+use Rattle.forwarder_core.specs.StepTable.State.{Running}
+use Rattle.forwarder_core.specs.StepTable.Progress.{left_to_do}
+use Rattle.forwarder_core.specs.TheoremSound.Runs.{Run}
+use Rattle.forwarder_core.specs.TheoremUse.Service.{ServesOnTruly}
 use Rattle.serving_loop.specs.declared.counts.Served.{Served}
 use Rattle.serving_loop.specs.declared.looping.Loop.{Loop}
 use Rattle.wires.specs.Wire.{Arrival, Put, Report, Journal, journal, silence, ◌then◌, ReportsMore, arrived}

@@ -9,4 +9,5 @@ mod serving;
 mod streams;
 
 pub use counts::Served;
+pub use forwarder_core::{Event, Forwarder, Outcome, Step, StepInput};
 pub use serving::serve;

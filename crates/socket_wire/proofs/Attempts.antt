@@ -1,4 +1,4 @@
--- Sockets that may be ready, tried one after the other, as a loop tries them.
+-- Sockets noted as ready, tried in order by a loop.
 use Rattle.std.proofs.Common.{◌≡◌, refl, ap, ℕ, suc, ◌+◌, ◌-◌, ◌<◌, subst, Option, Some, None}
 use Rattle.std.proofs.Common.{arith}
 use Rattle.std.specs.Prelude.{Result, Ok}
@@ -13,7 +13,7 @@ use Rattle.socket_wire.specs.Attempting.{Attempts, ComesOf, Drops, GivesNext, Tr
 use Rattle.ready_sockets.specs.Trying.{Dropped, Finds}
 
 module _ {A : Type 0} where
-  -- Only what may be ready changes where the next of it is given, or one is noted no longer.
+  -- Giving the next socket noted as ready, or dropping a note, changes the notes alone.
   pub gives_next : (given : Option Origin) (before : SeenSockets A)
       (readiness : SeenReadiness A)
       → Finds 4 given before.readiness.turn readiness.turn before.readiness.ready readiness.ready
@@ -38,7 +38,7 @@ module _ {A : Type 0} where
             (λ (r : SeenReadiness A). record before { readiness = r }) rest;
       }
 
-  -- The attempts that are left after `tried` of them yield what all of them yield.
+  -- The attempts left after `tried` yield the result of all attempts.
   pub record ReadyAll (most tried now : ℕ) (begun ready : SeenSockets A) : Type 0
     where
       pub all : (result : Result (Option (Arrival A)) AllocError)
@@ -54,7 +54,7 @@ module _ {A : Type 0} where
             tries;
       }
 
-  -- The next one, tried.
+  -- The next socket, tried.
   pub ready_next : (most tried now : ℕ) (result : Result (Option (Arrival A)) AllocError)
       (begun ready after : SeenSockets A) → tried < most
       → ReadyAll most tried now begun ready
@@ -92,7 +92,7 @@ module _ {A : Type 0} where
         tries = record { tried = came; attempted = attempted; attempts = attempts; comes = comes };
       })
 
-  -- Where nothing was there the next is tried.
+  -- If nothing was there, the next socket is tried.
   pub ready_more : (most tried now : ℕ) (origin : Origin)
       (begun ready between attempted left : SeenSockets A)
       → tried < most → ReadyAll most tried now begun ready → GivesNext (Some origin) ready between

@@ -1,4 +1,4 @@
--- The first from a number on, of numbers that rise.
+-- The first of rising numbers, from a given number on.
 use Rattle.std.proofs.Common.{◌≡◌, refl, ℕ, ◌<◌, ◌≤◌, inl, inr, List, [], ◌∷◌, Option, Some, None}
 use Rattle.std.proofs.Common.{arith, sym, subst}
 use Rattle.std.proofs.lemmas.Bool.Decides.{nat_tests}
@@ -15,7 +15,7 @@ use Rattle.stream_connections.specs.Listed.{first_number}
 use Rattle.ready_sockets.specs.Trying.{IsAmong}
 use Rattle.socket_wire.proofs.Passing.{is_from_or_below}
 
--- the first of these from this number on
+-- the first of the keys from this number on
 abbrev pub first_key : (from : ℕ) → List ℕ → Option ℕ
 first_key from keys = slice_get (filter (range_contains nat_cmp (Included from) Unbounded) keys) 0
 
@@ -25,13 +25,13 @@ first_number_is from [] = refl
 first_number_is from (entry ∷ later) = grind
     (arith, nat_tests, common_steps, first_number_is from later)
 
--- It is the first of these from a number on.
+-- `found` is the first of the numbers from a given number on.
 pub record IsFirstFrom (from found : ℕ) (numbers : List ℕ) : Type 0 where
   pub among : IsAmong found numbers
   pub above : from ≤ found
   pub least : (other : ℕ) → IsAmong other numbers → from ≤ other → found ≤ other
 
--- It is the one that is found among these; none where all are below.
+-- The number found among these; none if all are below.
 abbrev pub IsFound : (from : ℕ) → Option ℕ → List ℕ → Type 0
 IsFound from (Some found) numbers = IsFirstFrom from found numbers
 IsFound from None numbers = (other : ℕ) → IsAmong other numbers → other < from

@@ -1,4 +1,4 @@
--- Each listed number is tried soon, where they are tried in turn.
+-- Each listed number is tried soon, if the numbers are tried in turn.
 use Rattle.std.proofs.Common.{◌≡◌, refl, ℕ, zero, suc, ◌+◌, ◌*◌, ◌-◌, ◌^◌, ◌<◌, ◌≤◌, ◌%◌, inl, inr}
 use Rattle.std.proofs.Common.{◌⊎◌, List, [], ◌∷◌}
 use Rattle.std.proofs.Common.{length, Option, Some, None, arith, sym, subst}
@@ -21,9 +21,9 @@ use Rattle.socket_wire.proofs.Passing.{goes_sweep, goes_to_first, is_from_or_bel
 use Rattle.socket_wire.proofs.Passing.{wraps_most}
 use Rattle.socket_wire.proofs.Passing.{wraps_some}
 
--- ---- one try
+-- ---- a try
 
--- One that was found before the number is below it.
+-- A number found before the sought number is below the sought number.
 pub found_before : (size number from found : ℕ) (ever now : List ℕ)
     → StaysListed size number ever now
     → IsFirstFrom from found now → (found ≡ number → ⊥) → from ≤ number → found < number
@@ -34,7 +34,7 @@ found_before size number from found ever now listed first other h =
       | inr order ↦ elim order [ inl less ↦ less | inr more ↦ absurd (omega arith) ]
     ]
 
--- Where another was found, less of the walk is left.
+-- If another number was found, less of the walk is left.
 pub goes_on : (size number from found : ℕ) (ever now : List ℕ) → StaysListed size number ever now
     → IsFirstFrom from found now → (found ≡ number → ⊥)
     → GoesOn number from ((found + 1) % size) ever
@@ -62,7 +62,7 @@ goes_on size number from found ever now listed first other =
           (goes_behind number from found ever from_on before among)
     ]
 
--- Where none was found, the walk begins again, and no more of it is left.
+-- If none was found, the walk begins again, and no more of the walk is left.
 pub begins_anew : (size number from : ℕ) (ever now : List ℕ) → StaysListed size number ever now
     → IsFound from None now
     → (number < from) × (ahead number 0 ever ≤ ahead number from ever)
@@ -70,13 +70,13 @@ begins_anew size number from ever now listed none =
     let sweep : number < from = none number listed.stays in
     (sweep, ahead_less number from 0 ever (λ other is. counted_anew number from other sweep))
 
--- Two that are in order differ.
+-- Two ordered numbers differ.
 pub differ : (found number : ℕ) → (found < number) ⊎ (number < found) → found ≡ number → ⊥
 differ found number order is = elim order [ inl less ↦ omega arith | inr more ↦ omega arith ]
 
--- ---- tries that follow each other
+-- ---- consecutive tries
 
--- A try found the number, or the tries that follow do.
+-- A try found the number, or a later try does.
 pub tried_next : {X : Type 0} (tries size number from : ℕ) (found : Option ℕ) (ever now : List ℕ)
     (listed : ℕ → List (ℕ × X)) → StaysListed size number ever now → IsFound from found now
     → ahead number from ever + wraps 1 number from ≤ suc tries
@@ -114,8 +114,8 @@ tried (suc tries) size number from ever listed all left =
     (λ next less. tried tries size number next ever (λ try. listed (try + 1)) (λ try. all (try + 1))
     less)
 
--- Wherever the walk begins, a number that stays listed is found within one try more than numbers
--- are ever listed meanwhile.
+-- Wherever the walk begins, a number staying listed is found within one try more than the count of
+-- numbers ever listed meanwhile.
 pub tried_within : {X : Type 0} (tries size number from : ℕ) (ever : List ℕ)
     (listed : ℕ → List (ℕ × X))
     → ((try : ℕ) → StaysListed size number ever (keys_of (listed try)))
@@ -195,8 +195,8 @@ in_sweeps {X} (suc sweeps) most size number from ever listed all left =
     (omega arith) (omega arith)
     (λ next later all_later less. in_sweeps sweeps most size number next ever later all_later less)
 
--- It is found within the sweeps that give a try to each number that is ever listed meanwhile, and
--- one sweep more.
+-- The number is found within enough sweeps for a try of each number ever listed meanwhile, and one
+-- sweep more.
 pub tried_in_sweeps : {X : Type 0} (sweeps most size number from : ℕ) (ever : List ℕ)
     (listed : ℕ → List (ℕ × X))
     → ((try : ℕ) → StaysListed size number ever (keys_of (listed try)))
@@ -206,13 +206,13 @@ tried_in_sweeps sweeps most size number from ever listed all enough =
     let one : wraps most number from ≤ most = wraps_most most number from in
     in_sweeps sweeps most size number from ever listed all (omega arith)
 
--- ---- what may be ready
+-- ---- sockets noted as ready
 
--- the token from which on the next one is sought
+-- the search for the next token begins here
 abbrev pub behind_last : ℕ → ℕ
 behind_last last = min (last + 1) (2 ^ 64 - 1)
 
--- less of the walk is left where this one is given
+-- less of the walk is left after this token is given
 abbrev pub LessBehind : (token last given : ℕ) → List ℕ → Type 0
 LessBehind token last given ever = ahead token (behind_last given) ever < ahead token
     (behind_last last) ever
@@ -224,7 +224,7 @@ less_behind token last given ever below less =
     let is : behind_last given ≡ given + 1 = omega arith in
     subst (λ from. ahead token from ever < ahead token (behind_last last) ever) (sym is) less
 
--- One that is listed first and isn't the number is below it.
+-- The first listed number, if different from the sought number, is below.
 pub first_before : (size token first : ℕ) (ever later : List ℕ)
     → StaysListed size token ever (first ∷ later)
     → (first < token) ⊎ (token < first) → first < token
@@ -233,7 +233,7 @@ first_before size token first ever later all order = elim all.stays [
   | inr behind ↦ above_first first later all.rise token behind
 ]
 
--- The token is given, or it is in the turns that follow.
+-- The token is given, now or in a later turn.
 pub given_next : (turns token last : ℕ) (found : Option ℕ) (ever now : List ℕ) (tokens : ℕ → List ℕ)
     → StaysListed (2 ^ 64 - 1) token ever now → IsFound (behind_last last) found now
     → ahead token (behind_last last) ever ≤ suc turns
@@ -289,7 +289,7 @@ given (suc turns) token last ever tokens all left =
     (λ next less. given turns token next ever (λ turn. tokens (turn + 1)) (λ turn. all (turn + 1))
     less)
 
--- Whichever was tried last, a token that stays noted is given within as many turns as tokens are
+-- Whatever token was given last, a token staying noted is given within as many turns as tokens are
 -- ever noted meanwhile.
 pub given_within : (turns token last : ℕ) (ever : List ℕ) (tokens : ℕ → List ℕ)
     → ((turn : ℕ) → StaysListed (2 ^ 64 - 1) token ever (tokens turn))

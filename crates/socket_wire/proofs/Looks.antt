@@ -1,4 +1,4 @@
--- The result of a turn, and how it begins.
+-- The result of a turn, and the turn's beginning.
 use Rattle.std.proofs.Common.{◌≡◌, refl, ap, subst, sym, ◌∙◌, ℕ, List, [], drop, Option, Some, None}
 use Rattle.std.specs.Prelude.{Result, Ok, unwrap_or}
 use Rattle.std.specs.declared.alloc.AllocError.{AllocError}
@@ -14,7 +14,7 @@ pub given_is : {A : Type 0} (found : Option (Arrival A)) → Ok (unwrap_or found
 given_is (Some arrival) = refl
 given_is None = refl
 
--- Where no end is to be reported, none is taken out.
+-- If no end is to be reported, none is taken out.
 pub no_end : {A : Type 0} (before after : Connections A) → before.closed ≡ []
     → after ≡ record before { closed = drop 1 before.closed; has_room = after.has_room }
     → after ≡ record before { has_room = after.has_room }
@@ -24,7 +24,7 @@ no_end before after none rest =
     rest ∙ ap (λ (closed : List Closed). record before
     { closed = closed; has_room = after.has_room }) same
 
--- Where no end is to be reported, a turn is taken, by sockets that are seen as these.
+-- If no end is to be reported, a turn is taken, by sockets seen as these.
 pub at_once : {A : Type 0} (now : ℕ) (result : Result (Arrival A) AllocError)
     (seen before after : SeenSockets A) (connections : Connections A) → seen ≡ before
     → before.connections.closed ≡ []

@@ -1,4 +1,4 @@
--- The rest of a walk that goes in turn, and how it falls.
+-- The rest of a walk in turn gets smaller.
 use Rattle.std.proofs.Common.{◌≡◌, refl, ℕ, ◌+◌, ◌<◌, ◌≤◌, inl, inr, ◌⊎◌, List, [], ◌∷◌, length}
 use Rattle.std.proofs.Common.{arith, sym, subst}
 use Rattle.std.proofs.lemmas.Bool.Decides.{nat_tests, leb_tells}
@@ -9,14 +9,14 @@ use Rattle.ready_sockets.specs.Trying.{IsAmong}
 pub is_from_or_below : (from number : ℕ) → (from ≤ number) ⊎ (number < from)
 is_from_or_below from number = elim (leb_tells from number) [ inl w ↦ inl w.1 | inr w ↦ inr w.1 ]
 
--- 1 where the other one is yet to be passed on the way from `from` up to the number that is sought,
--- with 0 after the last
+-- 1 if `other` is yet to be passed on the way from `from` up to the sought number, with 0 after the
+-- last
 abbrev pub counted : (number from other : ℕ) → ℕ
 counted number from other =
     if nat_le from number then (if nat_le from other && nat_le other number then 1 else 0)
     else (if nat_le from other || nat_le other number then 1 else 0)
 
--- how many of these are yet to be passed
+-- the count of these numbers yet to be passed
 abbrev pub ahead : (number from : ℕ) → List ℕ → ℕ
 ahead number from [] = 0
 ahead number from (first ∷ later) = counted number from first + ahead number from later
@@ -26,7 +26,7 @@ ahead_most number from [] = omega arith
 ahead_most number from (first ∷ later) = grind
     (arith, nat_tests, common_steps, ahead_most number from later)
 
--- The number that is sought is yet to be passed.
+-- The sought number is yet to be passed.
 pub counted_itself : (number from : ℕ) → counted number from number ≡ 1
 counted_itself number from = grind (arith, nat_tests, common_steps)
 
@@ -42,7 +42,7 @@ ahead_some number from (first ∷ later) (inr among) =
     let behind : 0 < ahead number from later = ahead_some number from later among in
     omega arith
 
--- From the next number on no more of these are left than from this one.
+-- From the next number on, no more of these are left than before.
 abbrev pub NoMore : (number from next : ℕ) → List ℕ → Type 0
 NoMore number from next numbers =
     (other : ℕ) → IsAmong other numbers → counted number next other ≤ counted number from other
@@ -76,7 +76,7 @@ ahead_falls number from next found (first ∷ later) less (inr among) passed =
     in
     omega arith
 
--- ---- the next begins after one that was found, at 0 after the last, or else after the first
+-- ---- the next begins after a found number, at 0 after the last, or else after the first
 
 pub counted_behind : (number from found other : ℕ) → from ≤ found → (from ≤ number → found < number)
     → counted number (found + 1) other ≤ counted number from other
@@ -94,7 +94,7 @@ pub counted_first : (number from first other : ℕ) → first < number → numbe
     → counted number (first + 1) other ≤ counted number from other
 counted_first number from first other h b = grind (arith, nat_tests, common_steps)
 
--- ---- one that was found was yet to be passed, and then is not
+-- ---- a found number was yet to be passed, and then is not
 
 pub found_counted : (number from found : ℕ) → from ≤ found → (from ≤ number → found < number)
     → counted number from found ≡ 1
@@ -111,9 +111,9 @@ found_passed number from found h b = grind (arith, nat_tests, common_steps)
 pub found_passed_sweep : (number found : ℕ) → number < found → counted number 0 found ≡ 0
 found_passed_sweep number found h = grind (arith, nat_tests, common_steps)
 
--- ---- what the try that finds none takes
+-- ---- the cost of a try without a find
 
--- `most`, where the walk is yet to begin again
+-- `most`, if the walk is yet to begin again
 abbrev pub wraps : (most number from : ℕ) → ℕ
 wraps most number from = if nat_le from number then 0 else most
 
@@ -130,9 +130,9 @@ pub wraps_behind : (most number from found : ℕ) → from ≤ found → (from �
     → wraps most number (found + 1) ≤ wraps most number from
 wraps_behind most number from found h b = grind (arith, nat_tests, common_steps)
 
--- ---- a walk that found another than is sought
+-- ---- a walk with a different number found
 
--- Less is left of it.
+-- Less of the walk is left.
 pub record GoesOn (number from next : ℕ) (ever : List ℕ) : Type 0 where
   pub fewer : ahead number next ever < ahead number from ever
   pub wraps : (most : ℕ) → wraps most number next ≤ wraps most number from

@@ -1,5 +1,5 @@
--- The law of sweeps, of states as sweeps of tries change them: what stays listed is found in one of
--- the sweeps.
+-- The law of sweeps, for states changed by sweeps of tries: a number staying listed is found in a
+-- sweep.
 use Rattle.std.proofs.Common.{◌≡◌, refl, sym, subst, ℕ, zero, suc, ◌+◌, ◌*◌, ◌<◌, ◌≤◌, ◌%◌, ◌⊎◌}
 use Rattle.std.proofs.Common.{inl, inr}
 use Rattle.std.proofs.Common.{List, length, Bool, true, false, is_some, Option, Some, None, arith}
@@ -13,14 +13,14 @@ use Rattle.socket_wire.proofs.InTurn.{Fits, begins_anew, differ, goes_on}
 use Rattle.socket_wire.proofs.Passing.{GoesOn, ahead, ahead_most, ahead_some, no_wrap, wraps}
 use Rattle.socket_wire.proofs.Passing.{wraps_most, wraps_some}
 
--- `done` tries, each of which found one, lead from one state to another.
+-- `done` tries, each with a find, lead from a state to a state.
 unfoldable pub TriesTo : {S : Type 0} → (Tries : Bool → S → S → Type 0) → (done : ℕ)
     → (before after : S) → Type 0
 TriesTo Tries zero before after = after ≡ before
 TriesTo {S} Tries (suc done) before after =
     (between : S) × (Tries true before between × TriesTo Tries done between after)
 
--- The tries go in turn through these entries: each begins where the one before it ended.
+-- The tries go in turn through these entries: each begins at the end of the try before.
 pub record GoInTurn {S X : Type 0} (Tries : Bool → S → S → Type 0) (size : ℕ) (from : S → ℕ)
     (entries : S → List (ℕ × X)) : Type 0 where
   pub report : (found : Bool) (before after : S) → Tries found before after
@@ -72,7 +72,7 @@ module _ {S X : Type 0} (Tries : Bool → S → S → Type 0) (size number : ℕ
     found = later.found;
   }
 
-  -- The try that found none begins again.
+  -- The try without a find begins again.
   ends_sweep : (most sweeps tries begin next : ℕ) (found : Option ℕ) (now : List ℕ)
       → StaysListed size number ever now
       → IsFound begin found now → false ≡ is_some found → next ≡ next_from size found
@@ -86,7 +86,7 @@ module _ {S X : Type 0} (Tries : Bool → S → S → Type 0) (size number : ℕ
       let from_0 : Fits most sweeps 0 number 0 ever = omega arith in
       subst (λ n. Fits most sweeps 0 number n ever) (sym goes) from_0
 
-  -- A try that found one found the number, or less is left.
+  -- A try with a find found the number, or less is left.
   goes_in_sweep : (most sweeps tries begin next : ℕ) (found : Option ℕ) (now : List ℕ)
       → StaysListed size number ever now → IsFound begin found now → true ≡ is_some found
       → next ≡ next_from size found
@@ -170,8 +170,8 @@ module _ {S X : Type 0} (Tries : Bool → S → S → Type 0) (size number : ℕ
             (later.0 + 1, (omega arith, later.1.1))
       ]
 
-  -- Wherever the first sweep begins, the number is found within the sweeps that give a try to each
-  -- number that is ever listed meanwhile, and one sweep more.
+  -- Wherever the first sweep begins, the number is found within enough sweeps for a try of each
+  -- number ever listed meanwhile, and one sweep more.
   pub found_in_sweeps : (sweeps most : ℕ) (before after : ℕ → S) → GoInTurn Tries size from entries
       → ((sweep : ℕ) → TriesUpTo Tries most (before sweep) (after sweep))
       → ((sweep : ℕ) → from (before (sweep + 1)) ≡ from (after sweep))

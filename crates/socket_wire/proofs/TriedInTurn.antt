@@ -1,5 +1,5 @@
--- The laws of walks, for sockets as tries change them: a socket that stays listed is tried, and one
--- that stays noted is given.
+-- The laws of walks, for sockets changed by tries: a socket staying listed is tried, and a socket
+-- staying noted is given.
 use Rattle.std.proofs.Common.{◌≡◌, ap, sym, ◌∙◌, subst, ℕ, zero, suc, ◌+◌, ◌-◌, ◌^◌, ◌<◌, ◌≤◌}
 use Rattle.std.proofs.Common.{inl, inr}
 use Rattle.std.proofs.Common.{List, length, Bool, Option, Some, arith, ◌*◌}
@@ -18,7 +18,7 @@ use Rattle.socket_wire.specs.Trying.{next_from, server_in_turn}
 use Rattle.socket_wire.proofs.InTurn.{given_within, tried_within}
 use Rattle.socket_wire.proofs.TriedInSweeps.{FindsIn, TriesTo, found_in_sweeps}
 
--- A number that is found within `tries` tries is found at one of them.
+-- A number found within `tries` tries is found at one of them.
 pub tried_at : {X : Type 0} (tries size number : ℕ) (listed : ℕ → List (ℕ × X)) (from : ℕ → ℕ)
     → ((try : ℕ) → from (try + 1) ≡ next_from size (first_number (from try) (listed try)))
     → IsTriedWithin tries size number (from 0) listed
@@ -50,8 +50,8 @@ given_at (suc turns) token tokens last goes (inr later) =
     (found.0 + 1, (omega arith, found.1.1))
 
 module _ {A : Type 0} where
-  -- The port of an ask that stays listed is tried within one try more than ports are ever listed
-  -- meanwhile.
+  -- The port of an ask staying listed is tried within one try more than the count of ports ever
+  -- listed meanwhile.
   pub ask_is_tried : (tries port : ℕ) (ever : List ℕ) (found : ℕ → Bool)
       (before after : ℕ → SeenSockets A)
       → ((try : ℕ) → TriesAsk (found try) (before try) (after try))
@@ -139,8 +139,8 @@ module _ {A : Type 0} where
       FindsIn TriesServer (2 ^ 64) conn (λ s. s.next_server) (λ s. s.connections.servers) ever 20
       before
 
-  -- The port of an ask that stays listed is tried within the sweeps that give a try to each port
-  -- that is ever listed meanwhile, and one sweep more.
+  -- The port of an ask staying listed is tried within enough sweeps for a try of each port ever
+  -- listed meanwhile, and one sweep more.
   pub ask_is_tried_in_sweeps : (sweeps port : ℕ) (ever : List ℕ)
       (before after : ℕ → SeenSockets A)
       → ((sweep : ℕ) → TriesUpTo TriesAsk 20 (before sweep) (after sweep))
@@ -198,7 +198,7 @@ module _ {A : Type 0} where
       (listed sweep))
       enough
 
--- A socket that stays noted is given within as many turns of its sweep as sockets are ever noted
+-- A socket staying noted is given within as many turns of its sweep as sockets are ever noted
 -- meanwhile.
 pub socket_is_given : {A : Type 0} (turns : ℕ) (origin : Origin) (ever : List ℕ)
     (given : ℕ → Option Origin)

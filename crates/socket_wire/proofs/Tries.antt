@@ -1,9 +1,9 @@
--- Tries that follow each other, as loops make them.
+-- Consecutive tries, as made by loops.
 use Rattle.std.proofs.Common.{◌≡◌, refl, ℕ, suc, ◌+◌, ◌-◌, ◌<◌, inl, inr, subst, Bool, true, false}
 use Rattle.std.proofs.Common.{arith}
 use Rattle.socket_wire.specs.Trying.{TriesUpTo}
 
--- The tries that are left after `tried` of them yield what all of them yield.
+-- The tries left after `tried` yield the result of all tries.
 pub record TriesAll {S : Type 0} (Tries : Bool → S → S → Type 0) (most tried : ℕ)
     (begun ready : S) : Type 0 where
   pub all : (after : S) → TriesUpTo Tries (most - tried) ready after

@@ -1,4 +1,4 @@
--- Lemmas on decisions for the proofs of crates above.
+-- Lemmas about decisions, for proofs of crates above.
 pub use Rattle.step_actions.proofs.Carried.{carries_nothing, fits_plain, next_is, plain_next}
 pub use Rattle.step_actions.proofs.Changes.{kept_later, kept_put, put_back}
 pub use Rattle.step_actions.proofs.DueFirst.{rest_is, timeout_fits}

@@ -1,18 +1,18 @@
--- A decision that carries nothing.
+-- A decision without pieces.
 use Rattle.std.proofs.Common.{◌≡◌, ℕ, ◌^◌, ◌<◌, length, arith, List, [], sym, subst, Bool, ◌∙◌}
 use Rattle.std.specs.List.{AllByRecursion}
 use Rattle.suffix_routes.specs.Values.{Config}
 use Rattle.trust_rank.specs.Values.{Piece}
-use Rattle.step_table.specs.State.{State}
+use Rattle.step_texts.specs.StepTable.State.{State}
 use Rattle.step_actions.specs.declared.decision.Decision.{Decision}
 use Rattle.step_actions.specs.Decision.{FitsChange, IsRouted, CanChange, changed, next_of}
-use Rattle.alias_chains.specs.Offering.{pieces_of}
+use Rattle.step_texts.specs.AliasChains.Offering.{pieces_of}
 use Rattle.step_values.specs.Values.{actions_of}
 use Rattle.trust_rank.specs.declared.slot.Slot.{Slot}
-use Rattle.step_table.specs.Steps.{Done, offering_step, with_promoted}
+use Rattle.step_texts.specs.StepTable.Steps.{Done, offering_step, with_promoted}
 use Rattle.step_actions.specs.declared.decision.Change.{Change}
 
--- where nothing is carried, only the change has to fit
+-- without carried pieces, only the change has to fit
 pub carries_nothing : {A : Type 0} (c : Config) (n : ℕ) (s : State) (d : Decision A) → pieces_of d.carried.items ≡ []
     → FitsChange c n s d.change → CanChange c n s d
 carries_nothing c n s d none fits = record {
@@ -26,11 +26,11 @@ pub next_is : {A : Type 0} (n : ℕ) (rooms : List Bool) (s : State) (d : Decisi
     → next_of n rooms s d ≡ record { actions = actions_of d.actions; unkept = 0; state = changed n (with_promoted used s) change }
 next_is {A} n rooms s d used change is_used is_change none = λ i. offering_step n rooms (none i) (record { actions = actions_of d.actions; unkept = 0; state = changed n (with_promoted (is_used i) s) (is_change i) })
 
--- and no look-up used anything
+-- and no look-up used any entry
 pub plain_next : {A : Type 0} (n : ℕ) (rooms : List Bool) (s : State) (d : Decision A) (change : Change A) (made : Done) → d.used ≡ [] → d.change ≡ change → pieces_of d.carried.items ≡ []
     → record { actions = actions_of d.actions; unkept = 0; state = changed n s change } ≡ made → next_of n rooms s d ≡ made
 plain_next n rooms s d change made no_used is_change none is = next_is n rooms s d [] change no_used is_change none ∙ is
 
--- what may be done without a piece
+-- a fitting change without pieces can be made
 pub fits_plain : {A : Type 0} (c : Config) (n : ℕ) (s : State) (d : Decision A) (change : Change A) → d.change ≡ change → FitsChange c n s change → pieces_of d.carried.items ≡ [] → CanChange c n s d
 fits_plain {A} c n s d change is fits none = carries_nothing c n s d none (subst (FitsChange {A = A} c n s) (sym is) fits)

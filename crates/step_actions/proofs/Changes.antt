@@ -1,4 +1,4 @@
--- What a forwarder keeps still holds after each change.
+-- A forwarder's invariant holds after each change.
 use Rattle.std.proofs.Common.{Vec, ◌≡◌, ℕ, ◌+◌, ◌^◌, ◌<◌, ◌≤◌, List, [], ◌∷◌, ◌++◌, length, Bool, true, false, cond, refl, sym, ap, ◌∙◌, subst, arith, Option, Some, None}
 use Rattle.std.specs.Prelude.{filter, not, drop, Result, Ok, Err}
 use Rattle.std.specs.declared.alloc.AllocError.{AllocError}
@@ -12,13 +12,13 @@ use Rattle.outstanding.specs.declared.ask.Path.{Path}
 use Rattle.outstanding.specs.declared.ask.Path.TheVariants.{Udp, Tcp}
 use Rattle.outstanding.specs.Lists.{on_path as ask_on, without_path, AreListed, MayBegin}
 use Rattle.outstanding.specs.Values.{Ask, Inquiries}
-use Rattle.step_table.specs.State.{State}
-use Rattle.waiting_questions.specs.Values.{Waiting, waits_for}
-use Rattle.step_table.specs.Attempts.{servers_in}
-use Rattle.step_table.specs.Steps.{ask_list, tcp_count}
+use Rattle.step_texts.specs.StepTable.State.{State}
+use Rattle.step_texts.specs.WaitingQuestions.Values.{Waiting, waits_for}
+use Rattle.step_texts.specs.StepTable.Attempts.{servers_in}
+use Rattle.step_texts.specs.StepTable.Steps.{ask_list, tcp_count}
 use Rattle.record_cache.specs.Values.{Cache}
-use Rattle.step_table.specs.Progress.{AreTakenInTurn, IsBelow}
-use Rattle.step_table.proofs.CallerLemmas.{All-append, All-filter, All-weaker, preferred_put}
+use Rattle.step_texts.specs.StepTable.Progress.{AreTakenInTurn, IsBelow}
+use Rattle.step_texts.proofs.StepTable.CallerLemmas.{All-append, All-filter, All-weaker, preferred_put}
 use Rattle.step_actions.specs.declared.decision.Preferred.{Preferred}
 use Rattle.step_actions.specs.Kept.{IsKeptAsk, HoldsEarlier, IsKeptForwarder}
 use Rattle.step_actions.specs.declared.decision.Change.{Change}
@@ -26,8 +26,8 @@ use Rattle.step_actions.specs.declared.decision.Change.TheVariants.{Nothing, Joi
 use Rattle.step_actions.specs.declared.kept.Kept.{Kept}
 use Rattle.step_actions.specs.Decision.{left_waiting, left_or_sent, with_preferred, without_closed, tcp_count_of, changed, FitsChange, IfFollows, IsSentEarlier, IsServed}
 use Rattle.step_actions.specs.Putting.{state_of, IsKept, IsPut}
-use Rattle.waiting_questions.specs.Onward.{Onward, redirected}
-use Rattle.waiting_questions.specs.Settling.{left_by, settled}
+use Rattle.step_texts.specs.WaitingQuestions.Onward.{Onward, redirected}
+use Rattle.step_texts.specs.WaitingQuestions.Settling.{left_by, settled}
 use Rattle.dns_message.specs.Values.{Question}
 use Rattle.step_actions.proofs.Later.{later_entries, later_held, later_taken, kept_rest, kept_without}
 
@@ -80,7 +80,7 @@ kept_later c e i ws ps m n k kept le small = record {
   counted = kept.counted;
 }
 
--- one question more
+-- one more question
 pub kept_joined : (c : Config) (e : Cache) (i : Inquiries) (ws ws' : List Waiting) (ps : List ℕ) (m n k : ℕ) (x : Waiting) → IsKeptForwarder c e i ws ps m k → m ≤ n → n ≤ 2 ^ 62 → length ws < c.limits.questions → x.taken ≡ n → HoldsEarlier n x → ws' ≡ ws ++ x ∷ [] → IsKeptForwarder c e i ws' ps n k
 kept_joined c e i ws ws' ps m n k x kept le small room at earlier is = subst (λ (xs : List Waiting). IsKeptForwarder c e i xs ps n k) (sym is) (record {
   config = kept.config;
@@ -98,7 +98,7 @@ kept_joined c e i ws ws' ps m n k x kept le small room at earlier is = subst (λ
   counted = kept.counted;
 })
 
--- one ask more
+-- one more ask
 pub kept_asked : (c : Config) (e : Cache) (i i' : Inquiries) (ws : List Waiting) (ps : List ℕ) (m n k j : ℕ) (listed : List Ask) (a : Ask) → IsKeptForwarder c e i ws ps m k → m ≤ n → n ≤ 2 ^ 62 → AllByRecursion (IsKeptAsk c m k) listed → IsKeptAsk c n (k + j) a → k + j < 2 ^ 64
     → i' ≡ record i { asks = listed ++ a ∷ [] } → AreListed i' → IsKeptForwarder c e i' ws ps n (k + j)
 kept_asked c e i i' ws ps m n k j listed a kept le small all one fits is are = subst (λ (q : Inquiries). IsKeptForwarder c e q ws ps n (k + j)) (sym is) (record {
@@ -117,7 +117,7 @@ kept_asked c e i i' ws ps m n k j listed a kept le small all one fits is are = s
   counted = fits;
 })
 
--- questions fewer
+-- fewer questions
 pub kept_left : (c : Config) (e : Cache) (i : Inquiries) (ws ws' : List Waiting) (ps : List ℕ) (m k : ℕ) (r : Option Ask) → IsKeptForwarder c e i ws ps m k → ws' ≡ left_waiting r ws → IsKeptForwarder c e i ws' ps m k
 kept_left c e i ws ws' ps m k r kept is = subst (λ (xs : List Waiting). IsKeptForwarder c e i xs ps m k) (sym is) (by r)
   where
@@ -139,19 +139,19 @@ kept_left c e i ws ws' ps m k r kept is = subst (λ (xs : List Waiting). IsKeptF
       counted = kept.counted;
     }
 
--- ---- questions that are sent on
+-- ---- questions sent on
 
 any_fate : (fates : List (Option Onward)) → AllByRecursion (λ o. Unit {0}) fates
 any_fate [] = tt
 any_fate (fate ∷ fates) = (tt, any_fate fates)
 
--- what a fate leaves of a question, where it meets the condition still, before others that do
+-- a fate keeps a property of a question, if sending on does
 one_settled : (P : Waiting → Type 0) (Fits : Option Onward → Type 0) → ((s : Onward) (x : Waiting) → Fits (Some s) → P x → P (redirected s x)) → (x : Waiting) (rest : List Waiting) → P x → AllByRecursion P rest
     → (o : Option Onward) → Fits o → AllByRecursion P (cons_option (left_by o x) rest)
 one_settled P Fits still x rest was all None h = all
 one_settled P Fits still x rest was all (Some s) h = (still s x h was, all)
 
--- what fates leave of questions, where each that is sent on meets the condition still
+-- fates keep a property of all questions, if sending on does
 all_settled : (P : Waiting → Type 0) (Fits : Option Onward → Type 0) → ((s : Onward) (x : Waiting) → Fits (Some s) → P x → P (redirected s x)) → (q : Question) (fates : List (Option Onward)) (xs : List Waiting)
     → AllByRecursion Fits fates → AllByRecursion P xs → AllByRecursion P (settled q fates xs)
 all_settled P Fits still q fates [] fit all = tt
@@ -160,7 +160,7 @@ all_settled P Fits still q (fate ∷ fates) (x ∷ xs) fit all =
     cond_both (waits_for q x) (cons_option (left_by fate x) (settled q fates xs)) (x ∷ settled q (fate ∷ fates) xs) (AllByRecursion P)
     (λ _. one_settled P Fits still x (settled q fates xs) all.0 (all_settled P Fits still q fates xs fit.1 all.1) fate fit.0) (λ _. (all.0, all_settled P Fits still q (fate ∷ fates) xs fit all.1))
 
--- sending on changes no moment of taking
+-- sending on keeps the moment of taking
 same_taken : (P : ℕ → Type 0) (q : Question) (fates : List (Option Onward)) (xs : List Waiting) → AllByRecursion (λ x. P x.taken) xs → AllByRecursion (λ x. P x.taken) (settled q fates xs)
 same_taken P q fates xs all = all_settled (λ (x : Waiting). P x.taken) (λ o. Unit {0}) (λ s x any h. h) q fates xs (any_fate fates) all
 
@@ -278,17 +278,17 @@ pub preferred_length : (o : Option Preferred) (ps : List ℕ) → length (with_p
 preferred_length None ps = refl
 preferred_length (Some p) ps = length-set ps p.route p.server
 
--- as many elements, put back into their vector
+-- as many elements, put back into the vector
 pub put_back : {Z : Type 0} (v : Vec ℕ Z) (ws ws' : List ℕ) → ws ≡ ws' → length ws' ≡ length v.items → (with_items v ws).items ≡ ws'
 put_back v ws ws' is same = with_items_is v ws (ap (λ (xs : List ℕ). length xs) is ∙ same ∙ sym v.ok.0) ∙ is
 
 -- ---- any change
 
--- what a forwarder keeps in a state, with room for this many asks
+-- a forwarder's invariant for a state, with room for this many asks
 abbrev KeptIn : Config → ℕ → State → Type 0
 KeptIn c room s = IsKeptForwarder c s.cache (record { capacity = room; asks = s.asks }) s.waiting s.preferred s.moment s.tcp_asks
 
--- it holds after a change that fits
+-- the invariant holds after a fitting change
 changed_kept : {A : Type 0} (c : Config) (n room : ℕ) (s : State) (change : Change A) → KeptIn c room s → s.moment ≤ n → n ≤ 2 ^ 62 → FitsChange c n s change → AreListed (record { capacity = room; asks = (changed n s change).asks }) → KeptIn c room (changed n s change)
 changed_kept c n room s Nothing kept le small fits are = kept_later c s.cache _ s.waiting s.preferred s.moment n s.tcp_asks kept le small
 changed_kept c n room s (Join b) kept le small fits are = kept_joined c s.cache _ s.waiting _ s.preferred s.moment n s.tcp_asks b.value kept le small fits.room fits.taken fits.aliases refl
@@ -317,7 +317,7 @@ changed_kept c n room s (Expire closed) kept le small fits are =
     let waiting = kept_dropped c s.cache listed s.waiting (drop 1 s.waiting) s.preferred s.moment s.tcp_asks asks refl in
     kept_later c s.cache listed (drop 1 s.waiting) s.preferred s.moment n s.tcp_asks waiting le small
 
--- what was put in place is kept
+-- the invariant holds of the changed values
 pub kept_put : {H A S : Type 0} (c : Config) (n : ℕ) (before after : Kept H A S) (change : Change A) (result : Result (Unit {0}) AllocError) → IsKept c before → before.moment ≤ n → n ≤ 2 ^ 62 → FitsChange c n (state_of before) change
     → IsPut n before change result after → IsKept c after
 kept_put {H} {A} {S} c n before after change (Ok done) kept le small fits put =

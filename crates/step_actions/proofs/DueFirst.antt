@@ -1,4 +1,4 @@
--- The first of each list decides what is due first.
+-- The first question and the first ask decide the first due moment.
 use Rattle.std.proofs.Common.{◌≡◌, ℕ, ◌+◌, ◌^◌, ◌<◌, ◌≤◌, List, [], ◌∷◌, ◌++◌, Bool, true, false, refl, sym, ap, ◌∙◌, subst, arith, Option, Some}
 use Rattle.std.specs.Prelude.{◌||◌, map, nat_le, slice_get, drop}
 use Rattle.std.specs.List.{list_any, AllByRecursion}
@@ -9,12 +9,12 @@ use Rattle.suffix_routes.specs.Values.{Config, IsConfig}
 use Rattle.outstanding.specs.declared.ask.Path.{Path}
 use Rattle.outstanding.specs.Lists.{on_path as ask_on, Follows, AreInTurn, AreListed, IsInTime}
 use Rattle.outstanding.specs.Values.{Ask, Inquiries}
-use Rattle.waiting_questions.specs.Values.{Waiting}
+use Rattle.step_texts.specs.WaitingQuestions.Values.{Waiting}
 use Rattle.record_cache.specs.Values.{Cache}
-use Rattle.step_table.specs.Progress.{AreTakenInTurn, lesser, least}
-use Rattle.step_table.specs.Replies.{timeout_of}
-use Rattle.step_table.specs.Ticks.{question, deadline_of, first_item}
-use Rattle.step_table.proofs.CallerLemmas.{first_due, first_late, first_deadline, next_due_by_lists, sooner}
+use Rattle.step_texts.specs.StepTable.Progress.{AreTakenInTurn, lesser, least}
+use Rattle.step_texts.specs.StepTable.Replies.{timeout_of}
+use Rattle.step_texts.specs.StepTable.Ticks.{question, deadline_of, first_item}
+use Rattle.step_texts.proofs.StepTable.CallerLemmas.{first_due, first_late, first_deadline, next_due_by_lists, sooner}
 use Rattle.step_actions.specs.Kept.{IsKeptForwarder}
 use Rattle.step_actions.specs.declared.due.Oldest.TheVariants.{Question, Ask as OfAsk}
 use Rattle.step_actions.specs.Due.{IsDueFirst}
@@ -26,12 +26,12 @@ pub first_of : {X : Type 0} (P : X → Type 0) (xs : List X) (x : X) → slice_g
 first_of P [] x there all = absurd (cc)
 first_of P (y ∷ xs) x there all = let same : y ≡ x = cc in subst P same all.0
 
--- the first, and the rest
+-- the first and the rest
 pub rest_is : {X : Type 0} (xs : List X) (x : X) → slice_get xs 0 ≡ Some x → xs ≡ x ∷ drop 1 xs
 rest_is [] x there = absurd (cc)
 rest_is (y ∷ xs) x there = let same : y ≡ x = cc in ap (λ z. z ∷ xs) same
 
--- ---- moments that are numbers of 64 bits
+-- ---- moments of 64 bits
 
 pub deadline_fits : (c : Config) (xs : List Waiting) (x : Waiting) → IsConfig c → AllByRecursion (λ y. y.taken ≤ 2 ^ 62) xs → slice_get xs 0 ≡ Some x → deadline_of c x < 2 ^ 64
 deadline_fits c xs x config all there =
@@ -90,7 +90,7 @@ second_has_come k j n lt = by (nat_le j n) refl
     by true t = ap (λ w. nat_le k n || w) t ∙ or_some (nat_le k n) ∙ sym t
     by false f = ap (λ w. w || nat_le j n) (lt-leb k n (let more = leb-false j n f in omega (arith, more, lt)))
 
--- ---- what is due first
+-- ---- the question or ask due first
 
 abbrev by_lists : Config → List Waiting → List Ask → Option ℕ
 by_lists c xs asks = sooner (least (map (deadline_of c) xs)) (least (map (timeout_of c) asks))
@@ -111,7 +111,7 @@ any_due c n xs asks =
     list_any (λ x. nat_le (deadline_of c x) n) xs || list_any (λ a. nat_le (timeout_of c a) n) asks
 
 module _ {A : Type 0} (c : Config) (xs : List Waiting) (asks : List Ask) where
-  -- the oldest question, where no ask is listed
+  -- the oldest question, if no ask is listed
   pub question_alone : (x : Bor Waiting) → slice_get xs 0 ≡ Some x.now → asks ≡ [] → AreTakenInTurn xs
       → IsDueFirst {A = A} c xs asks (record { oldest = Question x; moment = deadline_of c x.now })
   question_alone x there none start =
@@ -129,7 +129,7 @@ module _ {A : Type 0} (c : Config) (xs : List Waiting) (asks : List Ask) where
             ∙ sym (first_due c.limits.deadline_ms n x.now (drop 1 xs) in_turn);
       }
 
-  -- the oldest ask, where nothing waits
+  -- the oldest ask, if no question waits
   pub ask_alone : (a : Bor Ask) → xs ≡ [] → slice_get asks 0 ≡ Some a.now → AreInTurn asks
       → IsDueFirst {A = A} c xs asks (record { oldest = OfAsk a; moment = timeout_of c a.now })
   ask_alone a none there start =
@@ -145,7 +145,7 @@ module _ {A : Type 0} (c : Config) (xs : List Waiting) (asks : List Ask) where
             ∙ sym (first_late c.limits.ask_ms n a.now (drop 1 asks) in_turn);
       }
 
-  -- of both the question, which is due no later
+  -- of both the question, if due no later
   pub question_first : (x : Bor Waiting) (a : Bor Ask) → slice_get xs 0 ≡ Some x.now → slice_get asks 0 ≡ Some a.now → AreTakenInTurn xs → AreInTurn asks → deadline_of c x.now ≤ timeout_of c a.now
       → IsDueFirst {A = A} c xs asks (record { oldest = Question x; moment = deadline_of c x.now })
   question_first x a there listed taken asked le =
@@ -167,7 +167,7 @@ module _ {A : Type 0} (c : Config) (xs : List Waiting) (asks : List Ask) where
             ∙ first_has_come (deadline_of c x.now) (timeout_of c a.now) n le;
       }
 
-  -- of both the ask, which is due earlier
+  -- of both the ask, if due earlier
   pub ask_first : (x : Bor Waiting) (a : Bor Ask) → slice_get xs 0 ≡ Some x.now → slice_get asks 0 ≡ Some a.now → AreTakenInTurn xs → AreInTurn asks → timeout_of c a.now < deadline_of c x.now
       → IsDueFirst {A = A} c xs asks (record { oldest = OfAsk a; moment = timeout_of c a.now })
   ask_first x a there listed taken asked lt =

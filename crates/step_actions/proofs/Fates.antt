@@ -1,4 +1,4 @@
--- The fate of a question by its look-up: what is decided is what the table has.
+-- A question's fate by its look-up: the decision is the table's.
 use Rattle.std.proofs.Common.{◌≡◌, ℕ, List, true, false, Option, Some, None, refl, sym, ap, ◌∙◌}
 use Rattle.std.proofs.lemmas.Bool.{cond-true, cond-false}
 use Rattle.dns_name.specs.Labels.{lowered}
@@ -7,16 +7,16 @@ use Rattle.suffix_routes.specs.Serving.{serving_route_of, is_local}
 use Rattle.suffix_routes.proofs.CallerLemmas.{serving_lowered, denied_lowered}
 use Rattle.record_cache.specs.Values.{Held}
 use Rattle.answer_builder.specs.Transports.{answer_of}
-use Rattle.alias_chains.specs.LookingUp.{LookUpEnd, ends, too_long, missed, LookUp}
-use Rattle.alias_chains.specs.Looked.{chain_at, kind_of}
-use Rattle.alias_chains.specs.declared.looked.LookUpEnd.TheVariants.{Ends, TooLong, Missed}
+use Rattle.step_texts.specs.AliasChains.LookingUp.{LookUpEnd, ends, too_long, missed, LookUp}
+use Rattle.step_texts.specs.AliasChains.Looked.{chain_at, kind_of}
+use Rattle.step_texts.specs.AliasChains.declared.looked.LookUpEnd.TheVariants.{Ends, TooLong, Missed}
 use Rattle.step_values.specs.Values.{Action}
 use Rattle.step_values.specs.declared.action.Why.TheVariants.{Answered, ChainLong, NoRoute}
-use Rattle.waiting_questions.specs.Values.{Waiting}
-use Rattle.step_table.specs.Steps.{gets, waits, gives_up, denied_locally, sends, transport_of}
-use Rattle.step_table.specs.Clients.{fate_missed, fate_at, fate_of, waits_with}
+use Rattle.step_texts.specs.WaitingQuestions.Values.{Waiting}
+use Rattle.step_texts.specs.StepTable.Steps.{gets, waits, gives_up, denied_locally, sends, transport_of}
+use Rattle.step_texts.specs.StepTable.Clients.{fate_missed, fate_at, fate_of, waits_with}
 
--- ---- what the configuration says of a key it says of the name
+-- ---- the configuration's answers for a key are those for the name
 
 pub served_by_key : (c : Config) (key name : List (List ℕ)) → key ≡ lowered name
     → serving_route_of c key ≡ serving_route_of c name
@@ -32,12 +32,12 @@ it_missed (ends e) is = absurd (cc)
 it_missed too_long is = absurd (cc)
 it_missed missed is = refl
 
--- its chain has aliases alone
+-- a missed look-up's chain has aliases alone
 pub chain_missed : (held : List Held) (m : LookUpEnd) → m ≡ missed → chain_at held m ≡ held
 chain_missed held m is = ap (chain_at held) is
 
 module _ (c : Config) (n : ℕ) (x : Waiting) (l : LookUp) where
-  -- ---- a question by how its look-up ended
+  -- ---- a question's fate, by the end of the look-up
 
   pub ended_fate : (m : LookUpEnd) → kind_of m ≡ Ends
       → gets (sends Answered x (answer_of x.asked (chain_at l.held m) n (transport_of x.client))) ≡ fate_at c n x l m
@@ -50,7 +50,7 @@ module _ (c : Config) (n : ℕ) (x : Waiting) (l : LookUp) where
   long_fate too_long is = refl
   long_fate missed is = absurd (cc)
 
-  -- only after a look-up that missed does it wait
+  -- a question waits only after a missed look-up
   pub waits_missed : (y : Waiting) → waits y ≡ fate_of c n x l → l.met ≡ missed
   waits_missed y is = by l.met is
     where
@@ -59,13 +59,13 @@ module _ (c : Config) (n : ℕ) (x : Waiting) (l : LookUp) where
       by too_long is = absurd (cc)
       by missed is = refl
 
-  -- ---- a question whose look-up missed, by the route of the name that it wants
+  -- ---- a question after a missed look-up, by the wanted name's route
 
   by_route : (route : Option ℕ) → l.met ≡ missed → route ≡ serving_route_of c l.wanted.name
       → fate_missed c n x l route ≡ fate_of c n x l
   by_route route met is = ap (fate_missed c n x l) is ∙ ap (fate_at c n x l) (sym met)
 
-  -- a route serves the name: it waits
+  -- a route serves the name: the question waits
   pub served_fate : (route : ℕ) → l.met ≡ missed → Some route ≡ serving_route_of c l.wanted.name
       → waits (waits_with x l) ≡ fate_of c n x l
   served_fate route met served = by_route (Some route) met served

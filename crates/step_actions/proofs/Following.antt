@@ -1,4 +1,4 @@
--- An ask that comes next may be listed.
+-- A following ask may be listed.
 use Rattle.std.proofs.Common.{◌≡◌, ℕ, ◌+◌, ◌-◌, ◌^◌, ◌<◌, ◌≤◌, List, length, Bool, true, false, refl, sym, ap, ◌∙◌, subst, arith, Option, Some, None}
 use Rattle.std.specs.Prelude.{◌==◌, not}
 use Rattle.std.specs.List.{AllByRecursion}
@@ -15,11 +15,11 @@ use Rattle.outstanding.specs.Values.{Ask, Inquiries}
 use Rattle.outstanding.proofs.CallerLemmas.{next_may_begin as next_begins}
 use Rattle.suffix_routes.specs.Serving.{serving_route_of}
 use Rattle.record_cache.specs.Values.{Cache}
-use Rattle.step_table.specs.State.{State, start}
-use Rattle.waiting_questions.specs.Values.{Waiting}
-use Rattle.step_table.specs.Attempts.{peer_at, over_udp, over_tcp, ask_by, freed_by, plan_of, first_ask, preferred_on}
-use Rattle.step_table.specs.Progress.{IsBelow}
-use Rattle.step_table.proofs.CallerLemmas.{IsAskBy, ask_by-some, udp-some, tcp-some, IsFresh, drawn_fresh, free_now, free_then, none_above, IsNumbered, drawn_numbered, without_shorter, still_earlier, ask_on-is, All-weaker, All-filter}
+use Rattle.step_texts.specs.StepTable.State.{State, start}
+use Rattle.step_texts.specs.WaitingQuestions.Values.{Waiting}
+use Rattle.step_texts.specs.StepTable.Attempts.{peer_at, over_udp, over_tcp, ask_by, freed_by, plan_of, first_ask, preferred_on}
+use Rattle.step_texts.specs.StepTable.Progress.{IsBelow}
+use Rattle.step_texts.proofs.StepTable.CallerLemmas.{IsAskBy, ask_by-some, udp-some, tcp-some, IsFresh, drawn_fresh, free_now, free_then, none_above, IsNumbered, drawn_numbered, without_shorter, still_earlier, ask_on-is, All-weaker, All-filter}
 use Rattle.retry_failover.specs.declared.Plan.{Plan}
 use Rattle.retry_failover.specs.declared.Failure.{Failure}
 use Rattle.retry_failover.specs.declared.Next.{Next}
@@ -128,19 +128,19 @@ module _ (c : Config) (n : ℕ) (words : List ℕ) (path : Path) (a : Ask) (s : 
       new_counted : (p : Path) (conn : ℕ) → p ≡ Tcp conn → s.tcp_asks + 1 < 2 ^ 64 → s.tcp_asks + tcp_count_of p < 2 ^ 64
       new_counted p conn is fits = subst (λ (z : Path). s.tcp_asks + tcp_count_of z < 2 ^ 64) (sym is) fits
 
--- ---- what is kept of the ask that failed
+-- ---- facts about the failed ask that are kept
 
 pub kept_of : (c : Config) (m k : ℕ) (path : Path) (asks : List Ask) (a : Ask) → ask_on path asks ≡ Some a → AllByRecursion (IsKeptAsk c m k) asks → IsKeptAsk c m k a
-kept_of c m k path asks a on all = (Rattle.step_table.proofs.CallerLemmas.ask_on-is (IsKeptAsk c m k) path asks a on all).1
+kept_of c m k path asks a on all = (Rattle.step_texts.proofs.StepTable.CallerLemmas.ask_on-is (IsKeptAsk c m k) path asks a on all).1
 
-pub server_within : (c : Config) (m k : ℕ) (path : Path) (asks : List Ask) (a : Ask) → ask_on path asks ≡ Some a → AllByRecursion (IsKeptAsk c m k) asks → a.server < length (Rattle.step_table.specs.Attempts.servers_in (Rattle.step_table.specs.Attempts.group_of c a.route))
-server_within c m k path asks a on all = Rattle.step_table.proofs.CallerLemmas.peer_within c a.route a.server a.peer (kept_of c m k path asks a on all).server
+pub server_within : (c : Config) (m k : ℕ) (path : Path) (asks : List Ask) (a : Ask) → ask_on path asks ≡ Some a → AllByRecursion (IsKeptAsk c m k) asks → a.server < length (Rattle.step_texts.specs.StepTable.Attempts.servers_in (Rattle.step_texts.specs.StepTable.Attempts.group_of c a.route))
+server_within c m k path asks a on all = Rattle.step_texts.proofs.StepTable.CallerLemmas.peer_within c a.route a.server a.peer (kept_of c m k path asks a on all).server
 
 -- the listed asks, with the room of the configuration
 pub listed_within : (c : Config) (e : Cache) (i : Inquiries) (ws : List Waiting) (ps : List ℕ) (m k : ℕ) → IsKeptForwarder c e i ws ps m k → AreListed (record { capacity = c.limits.inquiries; asks = i.asks })
 listed_within c e i ws ps m k kept = subst (λ (n : ℕ). AreListed (record { capacity = n; asks = i.asks })) kept.capacity kept.listed
 
--- where another ask comes next, a try is left for it
+-- if another ask follows, a try is left
 pub left_for : (plan : Plan) (f : Failure) → (after_failure plan f ≡ GiveUp → ⊥) → plan.used ≤ plan.tries → plan.used + 1 ≤ plan.tries
 left_for plan f goes_on le = by (plan.used == plan.tries) refl
   where
@@ -154,7 +154,7 @@ udp_goes_on r server e gives = let bad : GiveUp ≡ AskUdp server = sym gives �
 pub tcp_goes_on : (r : Next) (server : ℕ) → r ≡ AskTcp server → r ≡ GiveUp → ⊥
 tcp_goes_on r server e gives = let bad : GiveUp ≡ AskTcp server = sym gives ∙ e in absurd (cc)
 
--- ---- the same, of what is kept
+-- ---- the next ask, by the kept facts
 
 pub more_left : (c : Config) (e : Cache) (i : Inquiries) (ws : List Waiting) (ps : List ℕ) (m k : ℕ) (path : Path) (a : Ask) (f : Failure) → IsKeptForwarder c e i ws ps m k → ask_on path i.asks ≡ Some a → (after_failure (plan_of c a) f ≡ GiveUp → ⊥) → a.used + 1 ≤ c.limits.tries
 more_left c e i ws ps m k path a f kept on goes_on = left_for (plan_of c a) f goes_on (kept_of c m k path i.asks a on kept.asks).tries.1

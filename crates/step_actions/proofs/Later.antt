@@ -7,10 +7,10 @@ use Rattle.outstanding.specs.declared.ask.Path.{Path}
 use Rattle.outstanding.specs.Lists.{same_path, without_path, AreListed}
 use Rattle.outstanding.specs.Values.{Ask, Inquiries}
 use Rattle.outstanding.proofs.CallerLemmas.{listed_without_path}
-use Rattle.waiting_questions.specs.Values.{Waiting}
+use Rattle.step_texts.specs.WaitingQuestions.Values.{Waiting}
 use Rattle.record_cache.specs.Values.{Held, Cache}
 use Rattle.answer_builder.specs.Answers.{IsEarlier}
-use Rattle.step_table.proofs.CallerLemmas.{All-filter, All-weaker}
+use Rattle.step_texts.proofs.StepTable.CallerLemmas.{All-filter, All-weaker}
 use Rattle.step_actions.specs.Kept.{IsKeptAsk, HoldsEarlier, IsKeptForwarder}
 use Rattle.step_actions.specs.Decision.{without_closed}
 
@@ -31,7 +31,7 @@ pub listed_without : (closed : Option Path) (i : Inquiries) → AreListed i → 
 listed_without None i listed = listed
 listed_without (Some path) i listed = listed_without_path path i.capacity i.asks listed
 
--- an ask fewer
+-- one ask less
 pub kept_without : (c : Config) (e : Cache) (i i' : Inquiries) (ws : List Waiting) (ps : List ℕ) (m k : ℕ) (closed : Option Path) → IsKeptForwarder c e i ws ps m k → i' ≡ record i { asks = without_closed closed i.asks } → IsKeptForwarder c e i' ws ps m k
 kept_without c e i i' ws ps m k closed kept is = subst (λ (q : Inquiries). IsKeptForwarder c e q ws ps m k) (sym is) (record {
   config = kept.config;

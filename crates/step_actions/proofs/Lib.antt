@@ -7,3 +7,5 @@ pub mod Folds
 pub mod Following
 pub mod Later
 pub mod Made
+pub use Rattle.step_texts.proofs.AliasChains as AliasChains
+pub use Rattle.step_texts.proofs.StepTable as StepTable

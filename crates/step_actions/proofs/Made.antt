@@ -1,10 +1,10 @@
--- A decision yields a row also where that row is written otherwise.
+-- A decision yields a row, also if the row is written in another form.
 use Rattle.std.proofs.Common.{◌≡◌, ◌∙◌, List, Bool}
 use Rattle.std.specs.Prelude.{Result, IfOk}
 use Rattle.std.specs.declared.alloc.AllocError.{AllocError}
 use Rattle.std.proofs.lemmas.Result.{IfOk-weaker}
-use Rattle.step_table.specs.State.{StepStart}
-use Rattle.step_table.specs.Steps.{Done}
+use Rattle.step_texts.specs.StepTable.State.{StepStart}
+use Rattle.step_texts.specs.StepTable.Steps.{Done}
 use Rattle.step_actions.specs.declared.decision.Decision.{Decision}
 use Rattle.step_actions.specs.Decision.{MeetsRow}
 

@@ -12,14 +12,14 @@ use Rattle.step_actions.specs.declared.decision.Change.TheVariants.{Nothing, Joi
 use Rattle.step_actions.specs.declared.decision.Change.TheVariants.{Expire}
 use Rattle.step_actions.specs.declared.decision.Decision.{Decision}
 use Rattle.step_values.specs.Values.{Event, restart, Action, actions_of, Outcome}
-use Rattle.step_table.specs.State.{State, StepStart}
-use Rattle.waiting_questions.specs.Values.{Waiting, waits_for}
+use Rattle.step_texts.specs.StepTable.State.{State, StepStart}
+use Rattle.step_texts.specs.WaitingQuestions.Values.{Waiting, waits_for}
 use Rattle.outstanding.specs.Lists.{on_path as ask_on, without_path, MayBegin, is_tcp}
 use Rattle.outstanding.specs.Values.{Ask}
-use Rattle.step_table.specs.Steps.{Done, Fate, gets, waits, gives_up, ask_list, tcp_count, closes, reply_in}
-use Rattle.step_table.specs.Steps.{with_promoted, offering_step, sends, transport_of}
-use Rattle.step_table.specs.Attempts.{group_of, servers_in}
-use Rattle.step_table.specs.Row.{is_due_at, Happens}
+use Rattle.step_texts.specs.StepTable.Steps.{Done, Fate, gets, waits, gives_up, ask_list, tcp_count, closes, reply_in}
+use Rattle.step_texts.specs.StepTable.Steps.{with_promoted, offering_step, sends, transport_of}
+use Rattle.step_texts.specs.StepTable.Attempts.{group_of, servers_in}
+use Rattle.step_texts.specs.StepTable.Row.{is_due_at, Happens}
 use Rattle.answer_builder.specs.Transports.{answer_of}
 use Rattle.trust_rank.specs.Values.{Piece}
 use Rattle.step_texts.specs.Spelling.{Source}
@@ -27,10 +27,10 @@ use Rattle.step_actions.specs.Kept.{IsKeptAsk, HoldsEarlier}
 use Rattle.answer_builder.specs.Answers.{IsEarlier}
 use Rattle.std.specs.List.{AllByRecursion}
 use Rattle.trust_rank.specs.Walks.{most_aliases}
-use Rattle.waiting_questions.specs.Onward.{Onward}
+use Rattle.step_texts.specs.WaitingQuestions.Onward.{Onward}
 use Rattle.step_values.specs.declared.action.Why.TheVariants.{Answered, ChainLong}
-use Rattle.waiting_questions.specs.Settling.{settled}
-use Rattle.alias_chains.specs.Offering.{pieces_of}
+use Rattle.step_texts.specs.WaitingQuestions.Settling.{settled}
+use Rattle.step_texts.specs.AliasChains.Offering.{pieces_of}
 
 -- one more ask by TCP, if the path is a connection
 abbrev pub tcp_count_of : Path → ℕ

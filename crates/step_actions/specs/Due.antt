@@ -3,10 +3,10 @@ use Rattle.std.specs.Prelude.{◌≡◌, ℕ, ◌||◌, nat_le, List, ◌++◌, 
 use Rattle.std.specs.List.{list_any}
 use Rattle.suffix_routes.specs.Values.{Config}
 use Rattle.outstanding.specs.Values.{Ask}
-use Rattle.waiting_questions.specs.Values.{Waiting}
-use Rattle.step_table.specs.Progress.{least}
-use Rattle.step_table.specs.Replies.{timeout_of}
-use Rattle.step_table.specs.Ticks.{Item, question, attempt, deadline_of, first_item}
+use Rattle.step_texts.specs.WaitingQuestions.Values.{Waiting}
+use Rattle.step_texts.specs.StepTable.Progress.{least}
+use Rattle.step_texts.specs.StepTable.Replies.{timeout_of}
+use Rattle.step_texts.specs.StepTable.Ticks.{Item, question, attempt, deadline_of, first_item}
 use Rattle.step_actions.specs.declared.due.Oldest.{Oldest}
 use Rattle.step_actions.specs.declared.due.Oldest.TheVariants.{Question, Ask as OfAsk}
 use Rattle.step_actions.specs.declared.due.Due.{Due}

@@ -2,11 +2,11 @@
 use Rattle.std.specs.Prelude.{◌≡◌, Some}
 use Rattle.suffix_routes.specs.Serving.{serving_route_of}
 use Rattle.step_values.specs.Values.{action_of}
-use Rattle.waiting_questions.specs.Values.{Waiting}
-use Rattle.alias_chains.specs.LookingUp.{LookUp}
-use Rattle.step_table.specs.State.{StepStart}
-use Rattle.step_table.specs.Steps.{gets, waits}
-use Rattle.step_table.specs.Clients.{fate_of, waits_with}
+use Rattle.step_texts.specs.WaitingQuestions.Values.{Waiting}
+use Rattle.step_texts.specs.AliasChains.LookingUp.{LookUp}
+use Rattle.step_texts.specs.StepTable.State.{StepStart}
+use Rattle.step_texts.specs.StepTable.Steps.{gets, waits}
+use Rattle.step_texts.specs.StepTable.Clients.{fate_of, waits_with}
 use Rattle.step_actions.specs.declared.fate.Fate.{Fate}
 use Rattle.step_actions.specs.declared.fate.Fate.TheVariants.{Reply, Waits}
 

@@ -5,11 +5,11 @@ use Rattle.suffix_routes.specs.Values.{Config, IsConfig}
 use Rattle.outstanding.specs.Lists.{AreListed}
 use Rattle.outstanding.specs.Values.{Ask, Inquiries}
 use Rattle.suffix_routes.specs.Serving.{serving_route_of}
-use Rattle.waiting_questions.specs.Values.{Waiting}
-use Rattle.step_table.specs.Attempts.{peer_at}
+use Rattle.step_texts.specs.WaitingQuestions.Values.{Waiting}
+use Rattle.step_texts.specs.StepTable.Attempts.{peer_at}
 use Rattle.record_cache.specs.Values.{Cache}
 use Rattle.answer_builder.specs.Answers.{IsEarlier}
-use Rattle.step_table.specs.Progress.{AreTakenInTurn, IsTry, IsCacheOf, IsBelow, ArePreferred}
+use Rattle.step_texts.specs.StepTable.Progress.{AreTakenInTurn, IsTry, IsCacheOf, IsBelow, ArePreferred}
 
 -- a listed ask is for a name of its route; it went to the server at its place, as one of the tries
 -- of an inquiry, over a drawn path

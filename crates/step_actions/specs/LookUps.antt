@@ -1,6 +1,6 @@
 -- The input of the look-ups of a step.
-use Rattle.negative_cache.specs.Moments.{CacheAt}
-use Rattle.step_table.specs.State.{StepStart}
+use Rattle.step_texts.specs.NegativeCache.Moments.{CacheAt}
+use Rattle.step_texts.specs.StepTable.State.{StepStart}
 
 -- the cache at the start of the step, at the step's moment and under its configuration
 abbrev pub cache_at : StepStart → CacheAt

@@ -3,7 +3,7 @@ use Rattle.std.specs.Prelude.{◌≡◌, ℕ, ◌^◌, ◌≤◌, Result, IsOk, 
 use Rattle.std.specs.declared.alloc.AllocError.{AllocError}
 use Rattle.suffix_routes.specs.Values.{Config}
 use Rattle.outstanding.specs.Lists.{AreListed}
-use Rattle.step_table.specs.State.{State}
+use Rattle.step_texts.specs.StepTable.State.{State}
 use Rattle.step_actions.specs.declared.decision.Change.{Change}
 use Rattle.step_actions.specs.declared.decision.Change.TheVariants.{Nothing}
 use Rattle.step_actions.specs.declared.kept.Kept.{Kept}

@@ -3,8 +3,9 @@
 ghost use Rattle.std.specs.Prelude.{◌≡◌, ◌≤◌, ◌+◌, ◌<◌, length, IfOk};
 ghost use Rattle.suffix_routes.specs.Values.{IsConfig};
 ghost use Rattle.outstanding.specs.Draws.{drawn_by_tcp};
-ghost use Rattle.step_table.specs.Attempts.{group_of, servers_in, peer_at, over_udp, over_tcp, ask_by, freed_by};
-ghost use Rattle.step_table.specs.Attempts.{plan_of};
+ghost use Rattle.step_texts.specs.StepTable.Attempts.{group_of, servers_in, peer_at, over_udp, over_tcp};
+ghost use Rattle.step_texts.specs.StepTable.Attempts.{ask_by, freed_by};
+ghost use Rattle.step_texts.specs.StepTable.Attempts.{plan_of};
 ghost use Rattle.step_actions.specs.Attempts.{pair_of};
 
 use crate::step_start::StepStartRef;

@@ -2,15 +2,15 @@
 
 ghost use Rattle.std.specs.Prelude.{◌≡◌, []};
 ghost use Rattle.step_values.specs.Values.{actions_of};
-ghost use Rattle.alias_chains.specs.Offering.{pieces_of};
+ghost use Rattle.step_texts.specs.AliasChains.Offering.{pieces_of};
 
-use alias_chains::Slots;
 use outstanding::{Ask, KeyedAsk, Path};
 use record_cache::Held;
 use std::alloc::{Allocator, Global};
+use step_texts::chains::Slots;
+use step_texts::waiting::{KeyedWaiting, Onward};
 use step_values::Actions;
 use suffix_routes::RouteId;
-use waiting_questions::{KeyedWaiting, Onward};
 
 /// The first server to ask from now on: its route, and its place in the route's group.
 #[derive(Clone, Copy)]

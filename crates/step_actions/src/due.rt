@@ -3,15 +3,15 @@
 ghost use Rattle.std.specs.Prelude.{◌≡◌, ◌≤◌, ◌<◌, ◌^◌, [], nat_lt, MatchOption};
 ghost use Rattle.std.specs.List.{AllByRecursion};
 ghost use Rattle.suffix_routes.specs.Values.{IsConfig};
-ghost use Rattle.step_table.specs.Progress.{AreTakenInTurn};
-ghost use Rattle.step_table.specs.Replies.{timeout_of};
-ghost use Rattle.step_table.specs.Ticks.{deadline_of};
+ghost use Rattle.step_texts.specs.StepTable.Progress.{AreTakenInTurn};
+ghost use Rattle.step_texts.specs.StepTable.Replies.{timeout_of};
+ghost use Rattle.step_texts.specs.StepTable.Ticks.{deadline_of};
 ghost use Rattle.step_actions.specs.Due.{IsDueFirst};
 
 use outstanding::{Ask, Inquiries, KeyedAsk};
 use std::alloc::{Allocator, Global};
+use step_texts::waiting::{Waiting, WaitingQuestions};
 use suffix_routes::Config;
-use waiting_questions::{Waiting, WaitingQuestions};
 
 /// The oldest question, or the oldest ask.
 #[derive(Drop)]

@@ -3,18 +3,18 @@
 ghost use Rattle.std.specs.Prelude.{◌≡◌, IfOk};
 ghost use Rattle.std.specs.List.{AllByRecursion};
 ghost use Rattle.answer_builder.specs.Answers.{IsEarlier};
-ghost use Rattle.alias_chains.specs.LookingUp.{missed};
-ghost use Rattle.alias_chains.specs.Looked.{chain_of};
+ghost use Rattle.step_texts.specs.AliasChains.LookingUp.{missed};
+ghost use Rattle.step_texts.specs.AliasChains.Looked.{chain_of};
 ghost use Rattle.step_actions.specs.Fates.{IsFate};
 
 use crate::step_start::StepStartRef;
-use alias_chains::{LookUp, LookUpEnd, copies};
 use std::alloc::{AllocError, Allocator, Global};
 use std::hash::BuildHasher;
+use step_texts::chains::{LookUp, LookUpEnd, copies};
+use step_texts::waiting::{Onward, Request};
 use step_texts::{answer, failure, local_answer};
 use step_values::{Action, Why};
 use suffix_routes::{RouteId, Routing};
-use waiting_questions::{Onward, Request};
 
 /// How a question goes on after its look-up.
 #[derive(Drop)]

@@ -1,7 +1,7 @@
 //! The state of a forwarder, and how a change of its lists is put in place.
 
 ghost use Rattle.std.specs.Prelude.{◌≡◌, ◌^◌, ◌<◌, ◌+◌, slice_set};
-ghost use Rattle.step_table.specs.Steps.{tcp_count};
+ghost use Rattle.step_texts.specs.StepTable.Steps.{tcp_count};
 ghost use Rattle.step_actions.specs.Decision.{tcp_count_of, with_preferred};
 ghost use Rattle.step_actions.specs.Putting.{CanBePut, IsPut};
 
@@ -11,7 +11,7 @@ use outstanding::{Ask, Inquiries, Path};
 use record_cache::Cache;
 use std::alloc::{AllocError, Allocator, Global};
 use std::hash::BuildHasher;
-use waiting_questions::WaitingQuestions;
+use step_texts::waiting::WaitingQuestions;
 
 /// All that a forwarder keeps from step to step, except its configuration.
 #[derive(Drop)]

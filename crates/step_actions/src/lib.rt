@@ -20,3 +20,5 @@ pub use kept::Kept;
 pub use out_of_tries::last_replies;
 pub use replies::{answers_to, close_path, close_paths, failures};
 pub use step_start::{StepStartRef, nothing};
+pub use step_texts as texts;
+pub use step_texts::{chains, waiting};

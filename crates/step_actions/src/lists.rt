@@ -3,12 +3,12 @@
 ghost use Rattle.std.specs.Prelude.{◌≡◌, ◌<◌, ◌∷◌, ◌++◌, [], length, IsSome, OnOk, OnErr};
 ghost use Rattle.std.specs.Option.{IfSome};
 ghost use Rattle.outstanding.specs.Lists.{AreListed, MayBegin, on_path as ask_on, without_path};
-ghost use Rattle.step_table.specs.Steps.{ask_list};
+ghost use Rattle.step_texts.specs.StepTable.Steps.{ask_list};
 ghost use Rattle.step_actions.specs.Decision.{left_or_sent, left_waiting, without_closed, AreForThose};
 
 use outstanding::{Ask, Inquiries, KeyedAsk, Path, Refusal};
 use std::alloc::{AllocError, Allocator};
-use waiting_questions::{Onward, WaitingQuestions};
+use step_texts::waiting::{Onward, WaitingQuestions};
 
 /// Lists an ask for which there is room.
 pub(crate) fn list_ask<A: Allocator>(

@@ -8,22 +8,22 @@ ghost use Rattle.answer_builder.specs.Answers.{IsEarlier};
 ghost use Rattle.plain_values.specs.Borrowed.{lent};
 ghost use Rattle.record_cache.specs.Laws.{Among};
 ghost use Rattle.step_values.specs.Values.{action_of, actions_of};
-ghost use Rattle.step_table.specs.Steps.{closes};
-ghost use Rattle.step_table.specs.Failures.{found_stale, runs_out, with_stale_ttl};
+ghost use Rattle.step_texts.specs.StepTable.Steps.{closes};
+ghost use Rattle.step_texts.specs.StepTable.Failures.{found_stale, runs_out, with_stale_ttl};
 ghost use Rattle.step_actions.specs.Decision.{with_replies};
 
 use crate::replies::close_path;
 use crate::step_start::StepStartRef;
-use alias_chains::look_up_stale;
 use dns_message::QuestionRef;
 use outstanding::KeyedAsk;
 use record_cache::Held;
 use std::alloc::{AllocError, Allocator};
 use std::hash::BuildHasher;
+use step_texts::chains::look_up_stale;
+use step_texts::waiting::Waiting;
 use step_texts::{failure, stale_answer};
 use step_values::{Action, Actions, Why};
 use trust_rank::MOST_ALIASES;
-use waiting_questions::Waiting;
 
 /// Closes the ask, whose question has no try left; each question waiting for it gets its last
 /// reply.

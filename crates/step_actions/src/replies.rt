@@ -8,17 +8,17 @@ ghost use Rattle.plain_values.specs.Borrowed.{lent};
 ghost use Rattle.answer_builder.specs.Transports.{answer_of};
 ghost use Rattle.step_texts.specs.Spelling.{Source};
 ghost use Rattle.step_values.specs.Values.{action_of, actions_of};
-ghost use Rattle.step_table.specs.Steps.{closes, fails, gives_up, sends, transport_of};
+ghost use Rattle.step_texts.specs.StepTable.Steps.{closes, fails, gives_up, sends, transport_of};
 ghost use Rattle.step_actions.specs.Kept.{HoldsEarlier};
 ghost use Rattle.step_actions.specs.Decision.{closing_path, gives_from, reply_from, with_replies};
 
 use outstanding::{KeyedAsk, Path};
 use record_cache::Held;
 use std::alloc::{AllocError, Allocator};
+use step_texts::waiting::{Waiting, WaitingQuestions};
 use step_texts::{Answers, failure};
 use step_values::{Action, Actions, Why};
 use trust_rank::MOST_ALIASES;
-use waiting_questions::{Waiting, WaitingQuestions};
 
 /// The action of giving a path up.
 pub fn close_path<A: Allocator>(path: Path) -> Action<A>

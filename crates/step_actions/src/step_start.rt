@@ -1,16 +1,16 @@
 //! A step's view of the forwarder.
 
 ghost use Rattle.std.specs.Prelude.{◌≡◌, List, Bool, []};
-ghost use Rattle.step_table.specs.Steps.{idle_step};
+ghost use Rattle.step_texts.specs.StepTable.Steps.{idle_step};
 ghost use Rattle.step_actions.specs.Decision.{next_of, CanChange, MeetsStep};
 ghost use Rattle.step_actions.specs.LookUps.{cache_at};
 
 use crate::decision::{Change, Decision};
 use crate::kept::Kept;
-use negative_cache::CacheAt;
 use std::alloc::{Allocator, Global};
 use std::hash::BuildHasher;
 use std::marker::Model;
+use step_texts::chains::CacheAt;
 use step_values::Actions;
 use suffix_routes::Config;
 
@@ -31,7 +31,7 @@ pub struct StepStartRef<'a, H: BuildHasher, A: Allocator = Global> {
 
 impl<'a, H: BuildHasher, A: Allocator> Model for StepStartRef<'a, H, A> {
     ghost use Rattle.std.specs.Prelude.{◌≤◌, ◌^◌};
-    ghost use Rattle.step_table.specs.State.{StepStart};
+    ghost use Rattle.step_texts.specs.StepTable.State.{StepStart};
     ghost use Rattle.step_actions.specs.Kept.{IsKeptForwarder};
 
     ghost Value = { StepStart };

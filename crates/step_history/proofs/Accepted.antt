@@ -1,4 +1,4 @@
--- The content of an accepted reply is the walk that the table computes.
+-- The content of an accepted reply is the walk computed by the table.
 use Rattle.std.proofs.Common.{◌≡◌, ◌≢◌, ◌⊎◌, ℕ, false, List, ◌++◌, Some, refl, sym, ap, ◌∙◌}
 use Rattle.std.proofs.lemmas.Bool.{false≢true}
 use Rattle.dns_message.specs.Values.{Question, Message}
@@ -40,7 +40,7 @@ module _ (c : Config) (s : Step) (past : List Step) (pieces servers : List Piece
   pub accepted_end : w.end ≡ a.end
   accepted_end = ap (λ (x : Walk). x.end) walk_is
 
--- a reply whose walk is not lame is accepted
+-- a reply is accepted if its walk is not lame
 pub walk_accepted : (c : Config) (s : Step) (past : List Step) (ask : ShownAsk) (asked : Question) (route : ℕ)
     (octets : List ℕ) (m : Message) → AllDiffer c.routes → Matches c s past ask octets asked → Spells octets m
     → m.header.tc ≡ false → (m.header.rcode ≡ 0) ⊎ (m.header.rcode ≡ 3)
@@ -62,7 +62,7 @@ walk_accepted c s past ask asked route octets m differ matches spells untruncate
   not_lame = ends_well (walk_of c m asked route).end fine;
 }
 
--- and its question is the asked one
+-- and the accepted question is the asked question
 pub walk_accepted-asked : (c : Config) (s : Step) (past : List Step) (ask : ShownAsk) (asked : Question) (route : ℕ)
     (octets : List ℕ) (m : Message) (differ : AllDiffer c.routes) (matches : Matches c s past ask octets asked)
     (spells : Spells octets m) (untruncated : m.header.tc ≡ false)
@@ -72,7 +72,7 @@ pub walk_accepted-asked : (c : Config) (s : Step) (past : List Step) (ask : Show
 unfolding walk_accepted
 walk_accepted-asked c s past ask asked route octets m differ matches spells untruncated rcode on fine = refl
 
--- and its end is the walk's
+-- and the accepted end is the walk's
 pub walk_accepted-end : (c : Config) (s : Step) (past : List Step) (ask : ShownAsk) (asked : Question) (route : ℕ)
     (octets : List ℕ) (m : Message) (differ : AllDiffer c.routes) (matches : Matches c s past ask octets asked)
     (spells : Spells octets m) (untruncated : m.header.tc ≡ false)

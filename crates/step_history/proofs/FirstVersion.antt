@@ -1,4 +1,4 @@
--- The claims without a window and without a route that denies: version 2 adds nothing.
+-- The claims without a window and without denying routes: version 2 adds nothing.
 use Rattle.std.proofs.Common.{◌≡◌, ℕ, ◌≤◌, List, false, sym, ◌∙◌, inl, inr, arith}
 use Rattle.std.proofs.lemmas.Bool.{false≢true}
 use Rattle.suffix_routes.proofs.RouteLaws.{all_hold}

@@ -8,3 +8,4 @@ mod FirstVersion
 mod WorkedStale
 mod Worked
 mod WorkedPieces
+pub use Rattle.cache_laws.proofs as CacheLaws

@@ -12,7 +12,7 @@ pub then_carried-append : (t : ℕ) (ps : List Piece) (new os : List Held) → t
 then_carried-append t [] new os = refl
 then_carried-append t (p ∷ ps) new os = then_carried-append t ps (record { piece = p; accepted = t } ∷ new) os
 
--- the pieces carried up to a step of the era are the older part of all that were carried
+-- the pieces carried up to a step of the era are the older part of all carried pieces
 pub carried_since : (c : Config) (upto now : List Step) (all : List Held) → InEra upto now → CarriedInEra c now all → (os : List Held) × (new : List Held) × CarriedInEra c upto os × (all ≡ new ++ os)
 carried_since c upto [] all era h = absurd era
 carried_since c upto (s ∷ past) all (inl here) h = (all, [], subst (λ (x : List Step). CarriedInEra c x all) (sym here) h, refl)

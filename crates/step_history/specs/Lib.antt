@@ -10,3 +10,4 @@ pub mod Sound
 pub mod Asked
 pub mod Accounting
 pub mod Laws
+pub use Rattle.cache_laws.specs as CacheLaws

@@ -4,7 +4,7 @@ use Rattle.std.proofs.lemmas.Bool.{false≢true}
 use Rattle.suffix_routes.specs.Values.{Config}
 use Rattle.trust_rank.specs.Values.{End, found, ends_no_data, ends_denied, elsewhere, lame, Walk}
 use Rattle.trust_rank.specs.Walks.{has_last}
-use Rattle.record_cache.specs.Values.{Held}
+use Rattle.alias_chains.specs.RecordCache.Values.{Held}
 use Rattle.outstanding.specs.Values.{Ask}
 use Rattle.step_table.specs.State.{State, start}
 use Rattle.waiting_questions.specs.Values.{Waiting}

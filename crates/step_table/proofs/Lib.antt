@@ -13,3 +13,4 @@ pub mod Redirected
 pub mod Times
 pub mod Progress
 pub mod CallerLemmas
+pub use Rattle.alias_chains.proofs as AliasChains

@@ -11,9 +11,9 @@ use Rattle.outstanding.specs.declared.ask.Path.TheVariants.{Udp}
 use Rattle.outstanding.specs.Lists.{on_path as ask_on}
 use Rattle.outstanding.specs.Values.{Ask}
 use Rattle.retry_failover.specs.declared.Failure.{Failure}
-use Rattle.answer_builder.specs.Values.{Asked}
-use Rattle.answer_builder.specs.Answers.{full_answer, cut_answer, error_response}
-use Rattle.answer_builder.specs.Transports.{over_udp}
+use Rattle.alias_chains.specs.AnswerBuilder.Values.{Asked}
+use Rattle.alias_chains.specs.AnswerBuilder.Answers.{full_answer, cut_answer, error_response}
+use Rattle.alias_chains.specs.AnswerBuilder.Transports.{over_udp}
 use Rattle.step_values.specs.declared.event.Client.{Client}
 use Rattle.step_values.specs.declared.event.Client.TheVariants.{Udp as FromUdp}
 use Rattle.step_values.specs.declared.action.Why.{Why}

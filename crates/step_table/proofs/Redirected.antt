@@ -7,10 +7,10 @@ use Rattle.dns_message.specs.Messages.{IsSameQuestion}
 use Rattle.dns_message.proofs.CallerLemmas.{same_question_decides}
 use Rattle.suffix_routes.specs.Values.{Config, Route}
 use Rattle.trust_rank.specs.Walks.{target_of, most_aliases}
-use Rattle.record_cache.specs.Values.{Held}
-use Rattle.negative_cache.specs.Values.{Found, miss}
-use Rattle.negative_cache.specs.Values as find
-use Rattle.negative_cache.specs.Finding.{found as found_in}
+use Rattle.alias_chains.specs.RecordCache.Values.{Held}
+use Rattle.alias_chains.specs.NegativeCache.Values.{Found, miss}
+use Rattle.alias_chains.specs.NegativeCache.Values as find
+use Rattle.alias_chains.specs.NegativeCache.Finding.{found as found_in}
 use Rattle.suffix_routes.specs.Serving.{serving_route_of}
 use Rattle.dns_message.specs.Questions.{asked_at}
 use Rattle.waiting_questions.specs.Values.{Waiting, waits_for}

@@ -9,7 +9,7 @@ use Rattle.outstanding.specs.declared.ask.Path.TheVariants.{Udp, Tcp}
 use Rattle.outstanding.specs.Values.{Ask}
 use Rattle.retry_failover.specs.declared.Failure.TheVariants.{Truncated}
 use Rattle.trust_rank.specs.Values.{rows}
-use Rattle.record_cache.specs.Values.{Held}
+use Rattle.alias_chains.specs.RecordCache.Values.{Held}
 use Rattle.step_values.specs.declared.event.Client.{Client}
 use Rattle.step_values.specs.declared.event.Client.TheVariants.{Udp as FromUdp}
 use Rattle.step_values.specs.declared.action.Why.TheVariants.{Exhausted, Deadline}

@@ -8,14 +8,14 @@ use Rattle.suffix_routes.specs.Values.{Config}
 use Rattle.outstanding.specs.Lists.{of_question}
 use Rattle.outstanding.specs.Values.{Ask}
 use Rattle.trust_rank.specs.Walks.{most_aliases}
-use Rattle.record_cache.specs.Values.{Held}
+use Rattle.alias_chains.specs.RecordCache.Values.{Held}
 use Rattle.step_values.specs.declared.event.Client.{Client}
 use Rattle.step_values.specs.declared.action.Why.TheVariants.{BadFormat, BadOpcode, NotServed, NoRoute, QuestionsFull}
 use Rattle.step_values.specs.declared.action.Why.TheVariants.{InquiriesFull, NoPort, ChainLong}
 use Rattle.step_values.specs.Values.{Action}
 use Rattle.suffix_routes.specs.Serving.{serving_route_of, is_local}
 use Rattle.step_values.specs.Requests.{is_taken}
-use Rattle.answer_builder.specs.Values.{asked_in}
+use Rattle.alias_chains.specs.AnswerBuilder.Values.{asked_in}
 use Rattle.step_table.specs.State.{State, StepStart, from_state}
 use Rattle.waiting_questions.specs.Values.{Waiting}
 use Rattle.step_table.specs.Attempts.{first_ask_for}

@@ -9,7 +9,7 @@ use Rattle.retry_failover.specs.declared.Next.{Next}
 use Rattle.retry_failover.specs.declared.Next.TheVariants.{AskUdp, AskTcp, GiveUp}
 use Rattle.retry_failover.specs.Table.{after_failure}
 use Rattle.trust_rank.specs.Walks.{most_aliases}
-use Rattle.record_cache.specs.Values.{Held}
+use Rattle.alias_chains.specs.RecordCache.Values.{Held}
 use Rattle.step_values.specs.declared.action.Why.TheVariants.{NoPort, Exhausted}
 use Rattle.step_values.specs.Values.{Action}
 use Rattle.step_table.specs.State.{State, StepStart}

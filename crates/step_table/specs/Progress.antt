@@ -5,7 +5,7 @@ use Rattle.std.specs.List.{AllByRecursion}
 use Rattle.suffix_routes.specs.Values.{Config, Route}
 use Rattle.outstanding.specs.Lists.{on_path as ask_on, AreInTurn}
 use Rattle.outstanding.specs.Values.{Ask}
-use Rattle.record_cache.specs.Values.{Held, Cache}
+use Rattle.alias_chains.specs.RecordCache.Values.{Held, Cache}
 use Rattle.suffix_routes.specs.Serving.{serving_route_of}
 use Rattle.step_values.specs.Values.{Event, from_client, delivery, path_failed, tick, restart}
 use Rattle.step_table.specs.State.{State}

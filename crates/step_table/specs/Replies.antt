@@ -17,7 +17,7 @@ use Rattle.retry_failover.specs.declared.Failure.TheVariants as failure
 use Rattle.trust_rank.specs.declared.slot.Slot.{Slot}
 use Rattle.trust_rank.specs.Values.{Piece, End, found, ends_no_data, ends_denied, elsewhere, lame, Walk}
 use Rattle.trust_rank.specs.Walks.{most_aliases, walk_of, is_lame}
-use Rattle.record_cache.specs.Values.{Held}
+use Rattle.alias_chains.specs.RecordCache.Values.{Held}
 use Rattle.step_values.specs.declared.action.Why.TheVariants.{NoPort}
 use Rattle.step_table.specs.State.{State, StepStart, from_state}
 use Rattle.waiting_questions.specs.Values.{Waiting, waits_for}

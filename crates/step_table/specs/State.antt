@@ -2,7 +2,7 @@
 use Rattle.std.specs.Prelude.{ℕ, List}
 use Rattle.suffix_routes.specs.Values.{Config}
 use Rattle.outstanding.specs.Values.{Ask}
-use Rattle.record_cache.specs.Values.{Cache}
+use Rattle.alias_chains.specs.RecordCache.Values.{Cache}
 use Rattle.waiting_questions.specs.Values.{Waiting}
 
 -- a forwarder's memory from step to step

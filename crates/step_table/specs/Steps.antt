@@ -11,13 +11,13 @@ use Rattle.outstanding.specs.Lists.{without_path, is_tcp}
 use Rattle.outstanding.specs.Values.{Ask}
 use Rattle.trust_rank.specs.declared.slot.Slot.{Slot}
 use Rattle.trust_rank.specs.Values.{Piece}
-use Rattle.record_cache.specs.Values.{Held}
-use Rattle.answer_builder.specs.declared.asked.Transport.{Transport}
-use Rattle.answer_builder.specs.declared.asked.Transport.TheVariants as transport
-use Rattle.answer_builder.specs.declared.fault.Fault.{Fault}
-use Rattle.answer_builder.specs.Values.{Asked}
-use Rattle.answer_builder.specs.Answers.{error_response}
-use Rattle.answer_builder.specs.Transports.{answer_of, stale_answer_of, local_answer_of}
+use Rattle.alias_chains.specs.RecordCache.Values.{Held}
+use Rattle.alias_chains.specs.AnswerBuilder.declared.asked.Transport.{Transport}
+use Rattle.alias_chains.specs.AnswerBuilder.declared.asked.Transport.TheVariants as transport
+use Rattle.alias_chains.specs.AnswerBuilder.declared.fault.Fault.{Fault}
+use Rattle.alias_chains.specs.AnswerBuilder.Values.{Asked}
+use Rattle.alias_chains.specs.AnswerBuilder.Answers.{error_response}
+use Rattle.alias_chains.specs.AnswerBuilder.Transports.{answer_of, stale_answer_of, local_answer_of}
 use Rattle.step_values.specs.declared.event.Client.{Client}
 use Rattle.step_values.specs.declared.event.Client.TheVariants.{Udp as FromUdp, Tcp as FromTcp}
 use Rattle.step_values.specs.declared.action.Why.{Why}

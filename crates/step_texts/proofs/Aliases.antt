@@ -10,26 +10,26 @@ use Rattle.step_values.specs.declared.event.Client.{Client}
 use Rattle.step_values.specs.declared.action.Why.{Why}
 use Rattle.step_values.specs.declared.action.Why.TheVariants.{Answered, Stale, LocalDenied, TooLarge}
 use Rattle.step_values.specs.Values.{send_reply}
-use Rattle.waiting_questions.specs.Values.{Waiting}
+use Rattle.step_table.specs.WaitingQuestions.Values.{Waiting}
 use Rattle.step_table.specs.Steps.{failed, sends, transport_of}
 
--- one more is borrowed
+-- one more item is borrowed
 pub lent_one_more : {X : Type 0} (refs more : List (Bor X)) (r : Bor X) (xs : List X) (i : ℕ) → i < length xs → r.now ≡ get_or xs i r.now → lent refs ≡ take i xs → more ≡ refs ++ r ∷ []
     → lent more ≡ take (i + 1) xs
 lent_one_more {X = X} refs more r xs i lt is so_far pushed =
     ap lent pushed ∙ map-append (λ (x : Bor X). x.now) refs (r ∷ []) ∙ (λ j. so_far j ++ is j ∷ []) ∙ sym (take_more xs i r.now lt)
 
--- and then others
+-- and further items
 pub lent_then : {X : Type 0} (refs others more : List (Bor X)) (xs : List X) → lent refs ≡ xs → more ≡ refs ++ others → lent more ≡ xs ++ lent others
 lent_then {X = X} refs others more xs so_far put = ap lent put ∙ map-append (λ (x : Bor X). x.now) refs others ∙ ap (λ (ys : List X). ys ++ lent others) so_far
 
--- ---- what a client gets
+-- ---- the reply to a client
 
 pub sends_alike : (why : Why) (x y : Waiting) (answer : Result (List ℕ) Fault) → x.client ≡ y.client → x.asked ≡ y.asked → sends why x answer ≡ sends why y answer
 sends_alike why x y (Ok text) client asked = ap (λ (c : Client). send_reply c text why) client
 sends_alike why x y (Err fault) client asked = λ i. failed (client i) (asked i) TooLarge
 
--- of one chain, two questions of one client that ask the same get the same
+-- from a single chain, two equal questions of a client get equal replies
 pub sent_alike : (x y : Waiting) (chain other : List Held) (n : ℕ) → x.client ≡ y.client → x.asked ≡ y.asked → chain ≡ other
     → sends Answered x (answer_of x.asked chain n (transport_of x.client)) ≡ sends Answered y (answer_of y.asked other n (transport_of y.client))
 sent_alike x y chain other n client asked same =

@@ -1,10 +1,10 @@
--- Answers to requests with one question differ in their first three octets alone.
+-- Answers to requests with a single question differ in the first three octets alone.
 use Rattle.std.proofs.Common.{◌≡◌, ℕ, ◌+◌, ◌<◌, ◌≤◌, List, [], ◌∷◌, length, length-drop, Bool, true, false, cond, refl, sym, ap, ◌∙◌, arith, Option, Some, None}
 use Rattle.std.specs.Prelude.{◌*◌, ◌/◌, ◌%◌, nat_le, map, Ok, Err, option_map}
 use Rattle.std.specs.Option.{IfSome}
 use Rattle.dns_message.specs.Values.{Question, Message}
 use Rattle.dns_message.specs.Writing.{◌▹◌, written, bit}
-use Rattle.trust_rank.specs.Values.{Body, rows, no_data, denied}
+use Rattle.record_cache.specs.TrustRank.Values.{Body, rows, no_data, denied}
 use Rattle.record_cache.specs.Values.{Held}
 use Rattle.answer_builder.specs.declared.asked.Transport.{Transport}
 use Rattle.answer_builder.specs.declared.asked.Transport.TheVariants.{Udp, Tcp}
@@ -21,7 +21,7 @@ pub long_enough : (m : Message) → 12 ≤ length (written m)
 unfolding written ◌▹◌
 long_enough m = omega arith
 
--- QR, opcode, AA, TC and RD: TC stays as it was
+-- QR, opcode, AA, TC and RD: TC is unchanged
 high_flags : (opcode other : ℕ) (rd other_rd cut : Bool) (rcode : ℕ) → opcode < 16 → rcode < 16
     → 128 + opcode * 8 + (32768 + other * 2048 + 0 + bit cut 512 + bit other_rd 256 + 128 + 0 + rcode) / 256 % 256 / 2 % 2 * 2 + bit rd 1
     ≡ (32768 + opcode * 2048 + 0 + bit cut 512 + bit rd 256 + 128 + 0 + rcode) / 256 % 256
@@ -48,7 +48,8 @@ low_flags opcode rd other other_rd cut rcode = sym (low opcode rd cut) ∙ low o
 four : (a b c d e f : ℕ) (rest : List ℕ) → c ≡ d → e ≡ f → a ∷ b ∷ c ∷ e ∷ rest ≡ a ∷ b ∷ d ∷ f ∷ rest
 four a b c d e f rest third fourth = cc
 
--- the answer to a request is that to any other with its question, under its own front
+-- the answer to a request is the answer to any request with an equal question, under the first
+-- request's front
 fronted : (a b : Asked) (cut : Bool) (s : Sections) → a.opcode < 16 → s.rcode < 16 → with_front a (written (answer_message (record b { question = a.question }) cut s)) ≡ written (answer_message a cut s)
 unfolding written ◌▹◌
 fronted a b cut s small code = four _ _ _ _ _ _ _ (high_flags a.opcode b.opcode a.rd b.rd cut s.rcode small code) (low_flags b.opcode b.rd a.opcode a.rd cut s.rcode)
@@ -56,7 +57,7 @@ fronted a b cut s small code = four _ _ _ _ _ _ _ (high_flags a.opcode b.opcode 
 under_own_front : (a b : Asked) (cut : Bool) (s : Sections) → a.opcode < 16 → s.rcode < 16 → b.question ≡ a.question → with_front a (written (answer_message b cut s)) ≡ written (answer_message a cut s)
 under_own_front a b cut s small code same = ap (λ (q : Option Question). with_front a (written (answer_message (record b { question = q }) cut s))) same ∙ fronted a b cut s small code
 
--- it is as long
+-- with a new front a text has its old length
 as_long : (a : Asked) (text : List ℕ) → 3 ≤ length text → length (with_front a text) ≡ length text
 as_long a text some = let rest = length-drop 3 text in omega (arith, some, rest)
 
@@ -71,7 +72,7 @@ small_rcode : (chain : List PieceWithTtl) → (sections_with_ttls chain).rcode <
 small_rcode [] = omega arith
 small_rcode (x ∷ chain) = small_code (last_of x chain).piece.body
 
--- what is sent of texts that are those of another request under a front is what is sent of its own
+-- if a front turns two texts into a request's own, the sent text becomes the request's
 sent_fronted : (f : List ℕ → List ℕ) (full other cut other_cut : List ℕ) (t : Transport) → f other ≡ full → f other_cut ≡ cut → length other ≡ length full
     → option_map f (ok_text (sent_over t other other_cut)) ≡ ok_text (sent_over t full cut)
 sent_fronted f full other cut other_cut Udp is cut_is long = ap Some (chosen (nat_le (length other) 512) ∙ (λ i. cond (nat_le (long i) 512) (is i) (cut_is i)))
@@ -85,7 +86,8 @@ sent_fronted f full other cut other_cut Tcp is cut_is long = mapped (nat_le (len
     mapped true = refl
     mapped false = refl
 
--- what is sent to a request is what is sent to any other with its question, under its own front
+-- the text sent to a request is the text sent to any request with an equal question, under the
+-- first request's front
 pub sent_alike : (a b : Asked) (chain : List Held) (moment : ℕ) (t : Transport) → a.opcode < 16 → b.question ≡ a.question
     → option_map (with_front a) (ok_text (answer_of b chain moment t)) ≡ ok_text (answer_of a chain moment t)
 sent_alike a b chain moment t small same =
@@ -96,9 +98,9 @@ sent_alike a b chain moment t small same =
     let long = sym (as_long a (written (full_answer b s)) (omega (arith, enough))) ∙ ap (λ (text : List ℕ). length text) full in
     sent_fronted (with_front a) (written (full_answer a s)) (written (full_answer b s)) (written (cut_answer a s)) (written (cut_answer b s)) t full cut long
 
--- ---- a text that has a front
+-- ---- a text with a front
 
--- what is sent is one of two texts
+-- one of two texts is sent
 one_of : (t : Transport) (full cut text : List ℕ) → 12 ≤ length full → 12 ≤ length cut → Some text ≡ ok_text (sent_over t full cut) → 12 ≤ length text
 one_of Udp full cut text long cut_long e = udp (nat_le (length full) 512) e
   where
@@ -111,7 +113,7 @@ one_of Tcp full cut text long cut_long e = tcp (nat_le (length full) 65535) e
     tcp true is = let same : text ≡ full = cc in rw same long
     tcp false is = absurd (cc)
 
--- a text that is an answer under another front has the octets of a front
+-- an answer under a different front has the octets of a front
 pub has_front : (chain : List Held) (n : ℕ) (t : Transport) (a : Asked) (text : Option (List ℕ)) → option_map (with_front a) text ≡ ok_text (answer_of a chain n t) → IfSome text (λ t. 3 ≤ length t)
 has_front chain n t a None e = tt
 has_front chain n t a (Some text) e =

@@ -13,13 +13,13 @@ use Rattle.dns_message.specs.Values.{Question, Message}
 use Rattle.dns_message.specs.contracts.reading.question_ref.QuestionRef.{the_row as question_row}
 use Rattle.dns_message.specs.Writing.{written, written_within}
 use Rattle.dns_message.proofs.CallerLemmas.{bare_message_is_short}
-use Rattle.outstanding.specs.Draws.{ask_message}
+use Rattle.step_values.specs.Outstanding.Draws.{ask_message}
 
--- what owning a `QuestionRef` of this question says of its machine values
+-- owning a `QuestionRef` of this question implies this about the machine values
 abbrev pub IsQuestion : Question → List Val → Type 0
 IsQuestion = Is (question_row (record { mir = erased; lft = [] }))
 
--- so its name is a name
+-- so the question's name is a name
 pub question_is_named : (q : Question) (values : List Val) → IsQuestion q values → IsName q.name
 question_is_named q values owned = subst IsName (ap (λ (x : Question). x.name) owned.0.1.0) owned.0.1.1.name
 
@@ -35,7 +35,7 @@ fits h q named = cond-false (nat_lt 271 (length (written (asking h q)))) _ _ (le
 pub not_refused : (h : Header) (q : Question) → IsName q.name → written_within 271 (asking h q) ≡ Err TooLarge → ⊥
 not_refused h q named refused = let bad : Ok (written (asking h q)) ≡ Err TooLarge = sym (fits h q named) ∙ refused in cc
 
--- and the text is that of the query
+-- and the text is the query's
 pub query_given : (h : Header) (id : ℕ) (q asked : Question) (text : List ℕ) → IsName q.name → ((x : Question) → h ≡ (ask_message id x).header) → q ≡ asked
     → written_within 271 (asking h q) ≡ Ok text → text ≡ written (ask_message id asked)
 query_given h id q asked text named header same given =

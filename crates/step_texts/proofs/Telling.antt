@@ -1,4 +1,4 @@
--- A chain as the answer has it, one piece after another.
+-- A chain as shown by the answer, piece by piece.
 use Rattle.std.proofs.Common.{◌≡◌, ℕ, zero, suc, ◌+◌, ◌<◌, ◌≤◌, List, [], ◌∷◌, ◌++◌, length, map, take, drop, get_or, Bor, refl, sym, ap, subst, ◌∙◌, drop-cons, arith}
 use Rattle.std.proofs.lemmas.List.{take_more, map-append, length-map}
 use Rattle.std.specs.List.{AllByRecursion}
@@ -6,14 +6,14 @@ use Rattle.std.specs.Prelude.{Result, Ok, Err}
 use Rattle.answer_builder.specs.declared.fault.Fault.{Fault}
 use Rattle.plain_values.specs.Borrowed.{lent}
 use Rattle.step_values.specs.declared.action.Why.{Why}
-use Rattle.waiting_questions.specs.Values.{Waiting}
+use Rattle.step_table.specs.WaitingQuestions.Values.{Waiting}
 use Rattle.step_table.specs.Steps.{sends}
 use Rattle.step_texts.specs.Spelling.{ok_text, sends_text}
 use Rattle.record_cache.specs.Values.{Held}
 use Rattle.answer_builder.specs.Values.{PieceWithTtl}
 use Rattle.answer_builder.specs.Answers.{with_ttl, with_stale_ttl, with_stale_ttls}
 
--- with none before the others all are answered as stale
+-- with stale pieces from the first on, all are answered as stale
 all_past : (t : ℕ) (xs : List Held) → with_stale_ttls zero t xs ≡ map (with_stale_ttl t) xs
 all_past t xs = refl
 
@@ -28,7 +28,7 @@ no_pieces : (k t : ℕ) → with_stale_ttls k t [] ≡ []
 no_pieces zero t = refl
 no_pieces (suc k) t = refl
 
--- one more of those that are answered with the lifetime that is left
+-- one more piece, answered with the remaining lifetime
 pub left_more : (stale_from t : ℕ) (xs : List Held) (i : ℕ) (h : Held) → i < length xs → h ≡ get_or xs i h → i < stale_from → with_stale_ttls stale_from t (take (i + 1) xs) ≡ with_stale_ttls stale_from t (take i xs) ++ with_ttl t h ∷ []
 left_more zero t xs i h lt is below = absurd (omega (arith, below))
 left_more (suc k) t [] i h lt is below = absurd (omega (arith, lt))
@@ -37,7 +37,7 @@ left_more (suc k) t (x ∷ xs) (suc i) h lt is below =
     ap (λ (n : ℕ). with_stale_ttls (suc k) t (take n (x ∷ xs))) (next_is i)
     ∙ ap (λ (pieces : List PieceWithTtl). with_ttl t x ∷ pieces) (left_more k t xs i h (omega (arith, lt)) is (omega (arith, below)))
 
--- and of those after them
+-- one more stale piece
 pub past_more : (stale_from t : ℕ) (xs : List Held) (i : ℕ) (h : Held) → i < length xs → h ≡ get_or xs i h → stale_from ≤ i → with_stale_ttls stale_from t (take (i + 1) xs) ≡ with_stale_ttls stale_from t (take i xs) ++ with_stale_ttl t h ∷ []
 past_more zero t xs i h lt is above = past_one t xs i h lt is
 past_more (suc k) t [] i h lt is above = absurd (omega (arith, lt))
@@ -46,7 +46,7 @@ past_more (suc k) t (x ∷ xs) (suc i) h lt is above =
     ap (λ (n : ℕ). with_stale_ttls (suc k) t (take n (x ∷ xs))) (next_is i)
     ∙ ap (λ (pieces : List PieceWithTtl). with_ttl t x ∷ pieces) (past_more k t xs i h (omega (arith, lt)) is (omega (arith, above)))
 
--- where none is after them, all are answered with the lifetime that is left
+-- with no stale piece, all are answered with the remaining lifetime
 pub none_past : (t : ℕ) (chain : List Held) → with_stale_ttls (length chain) t chain ≡ map (with_ttl t) chain
 none_past t [] = refl
 none_past t (h ∷ chain) = ap (λ (pieces : List PieceWithTtl). with_ttl t h ∷ pieces) (none_past t chain)
@@ -61,14 +61,14 @@ lent_at (x ∷ refs) (suc i) r is = lent_at refs i r is
 pub lent_length : {X : Type 0} (refs : List (Bor X)) → length (lent refs) ≡ length refs
 lent_length {X = X} refs = length-map refs (λ (y : Bor X). y.now)
 
--- a property of all from a place on is one of the element there, and of all after it
+-- a property of all from a place on is a property of the element at the place, and of all after
 pub all_from_next : {X : Type 0} (P : X → Type 0) (xs : List X) (i : ℕ) (x : X) → i < length xs → x ≡ get_or xs i x → AllByRecursion P (drop i xs) → P x × AllByRecursion P (drop (i + 1) xs)
 all_from_next P xs i x lt is all =
     let rest = subst (AllByRecursion P) (drop-cons xs i x lt) all in
     let next : suc i ≡ i + 1 = omega arith in
     (subst P (sym is) rest.0, subst (λ (n : ℕ). AllByRecursion P (drop n xs)) next rest.1)
 
--- ---- what is sent of a text
+-- ---- the reply made from a text
 
 pub sent_by : (why : Why) (x : Waiting) (r : Result (List ℕ) Fault) → sends_text why x (ok_text r) ≡ sends why x r
 sent_by why x (Ok text) = refl

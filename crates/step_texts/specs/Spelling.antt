@@ -17,7 +17,7 @@ use Rattle.answer_builder.specs.Values.{Asked}
 use Rattle.step_values.specs.declared.action.Why.{Why}
 use Rattle.step_values.specs.declared.action.Why.TheVariants.{TooLarge}
 use Rattle.step_values.specs.Values.{Action, send_reply}
-use Rattle.waiting_questions.specs.Values.{Waiting}
+use Rattle.step_table.specs.WaitingQuestions.Values.{Waiting}
 use Rattle.step_table.specs.Steps.{gives_up}
 use Rattle.step_texts.specs.declared.answers.Spelled.{Spelled}
 

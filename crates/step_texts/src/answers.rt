@@ -23,8 +23,8 @@ use plain_values::{Octets, PlainList};
 use record_cache::Held;
 use std::alloc::{AllocError, Allocator, Global};
 use std::marker::Model;
+use step_table::waiting::{Request, Waiting};
 use step_values::{Action, Why};
-use waiting_questions::{Request, Waiting};
 
 /// The reply to a question from a chain of pieces, none accepted after the moment, in milliseconds:
 /// aliases in order, then a set or a denial.

@@ -11,3 +11,4 @@ pub use answers::{Answers, answer};
 pub use queries::ask;
 pub use refusals::{failure, refusal};
 pub use stale_answers::{local_answer, stale_answer};
+pub use step_table::{chains, waiting};

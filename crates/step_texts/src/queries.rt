@@ -5,15 +5,14 @@ ghost use Rattle.dns_message.specs.Header.{FitsBits};
 ghost use Rattle.dns_message.specs.Values.{Question};
 ghost use Rattle.dns_message.specs.Writing.{written};
 ghost use Rattle.step_values.specs.Values.{action_of};
-ghost use Rattle.outstanding.specs.Draws.{ask_message};
+ghost use Rattle.step_values.specs.Outstanding.Draws.{ask_message};
 ghost use Rattle.step_table.specs.Steps.{asks};
 
 use crate::refusals::BARE_ROOM;
 use dns_message::{Fault, Header, MessageParts, QuestionRef, write_parts};
-use outstanding::{Ask, Path};
 use plain_values::Octets;
 use std::alloc::{AllocError, Allocator};
-use step_values::Action;
+use step_values::{Action, Ask, Path};
 
 /// The action of sending an ask.
 pub fn ask<A: Allocator + Copy>(alloc: A, ask: &Ask<A>) -> Result<Action<A>, AllocError>

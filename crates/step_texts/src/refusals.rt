@@ -10,8 +10,8 @@ use answer_builder::{AskedRef, put_failure};
 use dns_message::{Header, codes};
 use plain_values::Octets;
 use std::alloc::{AllocError, Allocator};
+use step_table::waiting::Request;
 use step_values::{Action, Client, Why};
-use waiting_questions::Request;
 
 /// A header and a question have 271 octets at most.
 pub(crate) const BARE_ROOM: usize = 271;

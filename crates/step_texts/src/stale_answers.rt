@@ -14,8 +14,8 @@ use crate::texts::reply;
 use answer_builder::{PieceWithTtl, Sections};
 use record_cache::Held;
 use std::alloc::{AllocError, Allocator};
+use step_table::waiting::Request;
 use step_values::{Action, Why};
-use waiting_questions::Request;
 
 /// The reply to a question without a try left: from its held aliases, then the found pieces, which
 /// may be stale. None was accepted after the moment, in milliseconds. Expired pieces among the

@@ -10,8 +10,8 @@ use crate::refusals::failure;
 use answer_builder::{Fault, Sections, Transport, UDP_LIMIT};
 use plain_values::Octets;
 use std::alloc::{AllocError, Allocator};
+use step_table::waiting::Request;
 use step_values::{Action, Client, Why};
-use waiting_questions::Request;
 
 /// The reply with the answer that has these sections for this reason, or that it is too large.
 pub(crate) fn reply<A: Allocator + Copy>(

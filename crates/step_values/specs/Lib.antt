@@ -1,2 +1,3 @@
 pub mod Values
 pub mod Requests
+pub use Rattle.outstanding.specs as Outstanding

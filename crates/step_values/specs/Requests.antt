@@ -1,6 +1,6 @@
 -- The messages of clients that are accepted, and the response code of each reply.
 use Rattle.std.specs.Prelude.{ℕ, Bool, ◌&&◌, not, nat_le, List, length}
-use Rattle.dns_message.specs.Header.{header_in}
+use Rattle.outstanding.specs.DnsMessage.Header.{header_in}
 use Rattle.step_values.specs.declared.action.Why.{Why}
 use Rattle.step_values.specs.declared.action.Why.TheVariants.{Answered, BadFormat, BadOpcode, NotServed, NoRoute}
 use Rattle.step_values.specs.declared.action.Why.TheVariants.{QuestionsFull, InquiriesFull, NoPort, Exhausted, Deadline}

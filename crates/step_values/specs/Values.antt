@@ -1,6 +1,6 @@
 -- Events, actions and steps.
 use Rattle.std.specs.Prelude.{ℕ, Bool, List, map, Option, Some, None}
-use Rattle.suffix_routes.specs.declared.peer.Peer.{Peer}
+use Rattle.outstanding.specs.SuffixRoutes.declared.peer.Peer.{Peer}
 use Rattle.step_values.specs.declared.event.Client.{Client}
 use Rattle.outstanding.specs.declared.ask.Path.{Path}
 use Rattle.outstanding.specs.declared.ask.Path.TheVariants as path

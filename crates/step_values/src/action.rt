@@ -3,9 +3,8 @@
 ghost use Rattle.std.specs.Prelude.{◌≡◌, IfOk};
 
 use crate::event::Client;
-use plain_values::{FewList, Octets, PlainList};
+use outstanding::{FewList, Octets, Peer, PlainList};
 use std::alloc::{AllocError, Allocator, Global};
-use suffix_routes::Peer;
 
 /// The reason of a reply.
 #[derive(Clone, Copy, PartialEq, Eq, Debug)]

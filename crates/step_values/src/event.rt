@@ -2,10 +2,8 @@
 
 ghost use Rattle.std.specs.Prelude.{◌≡◌, IfOk};
 
-use outstanding::Path;
-use plain_values::{Octets, PlainList};
+use outstanding::{Octets, Path, Peer, PlainList};
 use std::alloc::{AllocError, Allocator, Global};
-use suffix_routes::Peer;
 
 /// A client: a UDP peer, or the number of a TCP connection that the client opened.
 #[derive(Clone, Copy, PartialEq, Eq, Debug)]

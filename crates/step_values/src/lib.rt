@@ -7,5 +7,5 @@ mod step;
 
 pub use action::{Action, Actions, Why};
 pub use event::{Client, Event};
-pub use outstanding::Path;
+pub use outstanding::{Ask, Path};
 pub use step::{Outcome, Step, StepInput};

@@ -1,4 +1,4 @@
--- Where a client that waits for nothing is closed, fewer are open.
+-- With the first idle client closed, fewer clients are open.
 use Rattle.std.proofs.Common.{◌≡◌, ℕ, ◌<◌, List, [], ◌∷◌, length, Some, arith}
 use Rattle.std.specs.Ordering.{nat_cmp}
 use Rattle.std.specs.Map.{remove_entry}

@@ -12,7 +12,7 @@ is_excerpt octets le = record {
   zeros = rw (front_is octets) refl;
 }
 
--- one more octet, where a zero was
+-- one more octet, in place of a zero
 pub copy_more : (octets : List ℕ) (i : ℕ) → i < length octets → length octets ≤ 64
     → set (take i octets ++ replicate (64 - i) 0) i (get_or octets i 0) ≡ take (i + 1) octets ++ replicate (64 - (i + 1)) 0
 copy_more octets i lt le =

@@ -19,7 +19,7 @@ use Rattle.suffix_routes.proofs.ReadRoutes.{bind_ok, routes_accepted}
 
 -- ---- the limits
 
--- a limit whose key is absent has its default
+-- a limit without a key has its default
 no_window : (ms : Members) (n : ℕ) → get_member (codes "stale_s") ms ≡ None → limit_in limit.StaleS ms ≡ Ok n → n ≡ 0
 unfolding limit_in
 no_window ms n none is = let one : Ok 0 ≡ Ok n = rw none at is in cc

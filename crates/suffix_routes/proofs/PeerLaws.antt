@@ -1,4 +1,4 @@
--- Texts of peers: what is read is what is written, and every text of a peer is read.
+-- Texts of peers: a written text is read back, and every text of a peer is read.
 use Rattle.std.proofs.Common.{◌≡◌, ℕ, suc, ◌+◌, ◌<◌, Bool, true, false, ◌&&◌, ◌==◌, List, [], ◌∷◌, ◌++◌, length, take, drop, Option, Some, None, refl, sym, ap, ◌∙◌, arith, inl, inr}
 use Rattle.std.specs.Prelude.{MatchOption}
 use Rattle.std.specs.List.{list_all, position_or_len}
@@ -12,7 +12,7 @@ use Rattle.suffix_routes.specs.Peers.{◌>>?◌, cut, is_decimal, number_in, pee
 abbrev Text : Type 0
 Text = List ℕ
 
--- ---- what comes of what is there
+-- ---- the result for a present value
 
 record Bound {A B : Type 0} (o : Option A) (f : A → Option B) (y : B) : Type 0 where
   value : A
@@ -48,7 +48,7 @@ cut_whole separator text front back is =
       | inr le ↦ absurd (let no : None ≡ Some (front, back) = rw (le-ltb (position_or_len (λ c. c == separator) text) (length text) le) at is in cc)
     ]
 
--- an octet that is no digit
+-- a separator is no digit
 abbrev IsNoDigit : ℕ → Type 0
 IsNoDigit separator = (c : ℕ) → is_ascii_digit c ≡ true → (c == separator) ≡ false
 

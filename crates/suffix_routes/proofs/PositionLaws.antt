@@ -6,7 +6,7 @@ use Rattle.std.proofs.lemmas.List.Sums.{take_while-cons, sum_by-cons}
 use Rattle.std.proofs.lemmas.Bool.{cond-true, ne_eqb}
 use Rattle.suffix_routes.specs.Positions.{is_line_feed, begins_character, last_line}
 
--- one octet more, which comes first
+-- one more octet, put first
 last_more : (i : ℕ) (octets : List ℕ) → i < length octets → (octet : ℕ) → get_or octets i 0 ≡ octet
     → last_line (take (i + 1) octets) ≡ cond (not (is_line_feed octet)) (octet ∷ last_line (take i octets)) []
 last_more i octets lt octet is =

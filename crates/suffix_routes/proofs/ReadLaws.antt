@@ -29,7 +29,7 @@ value_grows i digits =
 pub too_great : (i high : ℕ) (digits : List ℕ) → high < decimal_value (take i digits) → up_to high (decimal_value digits) ≡ None
 too_great i high digits lt = let great : high < decimal_value digits = omega (arith, value_grows i digits) in rw (lt-leb (decimal_value digits) high great) refl
 
--- the keys of a map are those of its members: so is the first of some sort
+-- a map's keys are its members' keys, so the first strange key is the same
 pub first-key : {V : Type 0} (view : V → Data) (strange : List ℕ → Bool) (es : List (String Global × V))
     → find strange (keys_of (members_of (map (λ (e : String Global × V). (e.0, view e.1)) es))) ≡ option_map string_bytes (find (λ k. strange (string_bytes k)) (map (λ (e : String Global × V). e.0) es))
 first-key view strange [] = refl

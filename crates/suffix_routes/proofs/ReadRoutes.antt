@@ -1,4 +1,4 @@
--- A configuration that was read is well formed, and faults are passed on.
+-- A configuration read without a fault is well formed, and faults are passed on.
 use Rattle.std.proofs.Common.{◌≡◌, ℕ, suc, ◌+◌, ◌<◌, Bool, true, false, ◌==◌, List, [], ◌∷◌, ◌++◌, length, get_or, Option, Some, None, Result, Ok, Err, refl, sym, ap, subst, arith, inl, inr}
 use Rattle.std.specs.Prelude.{slice_get, position, codes}
 use Rattle.std.proofs.lemmas.Bool.Decides.{nat_tests}
@@ -21,7 +21,7 @@ use Rattle.suffix_routes.specs.declared.peer.Peer.{Peer}
 use Rattle.suffix_routes.specs.Values.{Route, IsRoute, IsWithin, HasNoSuffix, AllDiffer}
 use Rattle.suffix_routes.specs.Excerpts.{excerpt}
 use Rattle.suffix_routes.specs.Routes.{route_at}
-use Rattle.plain_values.proofs.CallerLemmas.{fault_fails, fault_before_next}
+use Rattle.dns_name.proofs.PlainValues.CallerLemmas.{fault_fails, fault_before_next}
 use Rattle.suffix_routes.specs.Reading.{◌>>=◌, wants_memory, Fails, required, text_in, array_in, table_in, known_keys, suffix_name, new_suffix, servers_after, counted_servers, servers_in, suffix_in, deny_of, deny_in, no_servers, group_in, route_in, routes_after, counted_routes, routes_in}
 use Rattle.suffix_routes.proofs.RouteLaws.{no_own}
 use Rattle.suffix_routes.proofs.VersionLaws.{deny_is_strange}
@@ -34,7 +34,7 @@ fails_bind e r f fails = fault_before_next wants_memory e r f fails
 pub fails_of : {A : Type 0} (e : ConfigFault) (r : Result A ConfigFault) → r ≡ Err e → Fails e r
 fails_of e r is = fault_fails wants_memory e r is
 
--- ---- what comes of what is there
+-- ---- the result for a present value
 
 pub record Bound {A B : Type 0} (r : Result A ConfigFault) (f : A → Result B ConfigFault) (y : B) : Type 0 where
   pub value : A
@@ -74,7 +74,7 @@ servers_range route ms servers is =
     let items = bind_ok (array_in (place.Servers route) value.value) (counted_servers route) servers value.next in
     counted route items.value servers items.next
 
--- a route that denies has none
+-- a denying route has no servers
 none_named : (route : ℕ) (named : Option Data) (servers : List Peer) → no_servers route named ≡ Ok servers → length servers ≡ 0
 none_named route None servers is = let one : [] ≡ servers = cc in rw (← one) refl
 none_named route (Some d) servers is = absurd (let no : Err (fault.DenyWithServers route) ≡ Ok servers = is in cc)
@@ -119,7 +119,7 @@ pub record IsNewRoute (version : Version) (earlier : List Route) (r : Route) : T
   pub new : route_at earlier r.suffix ≡ None
   pub serves : version ≡ One → r.deny ≡ false
 
--- in the first version no key says that a route denies
+-- in the first version no key makes a route deny
 first_serves : (version : Version) (route : ℕ) (ms : Members) (known : Unit {0}) (deny : Bool) → known_keys version (place.Route route) ms ≡ Ok known → deny_in route ms ≡ Ok deny
     → version ≡ One → deny ≡ false
 unfolding deny_in

@@ -1,4 +1,4 @@
--- The route of a name: there is one answer, and it is the one that is computed.
+-- The route of a name: the answer is unique, and computed.
 use Rattle.std.proofs.Common.{◌≡◌, ℕ, zero, suc, ◌+◌, ◌<◌, ◌≤◌, Bool, true, false, List, [], ◌∷◌, ◌++◌, length, Option, Some, None, refl, sym, ap, subst, ◌∙◌, arith, inl, inr, ◌⊎◌}
 use Rattle.std.specs.Prelude.{slice_get, position}
 use Rattle.std.specs.Prelude.{nat_eq}
@@ -14,7 +14,7 @@ use Rattle.suffix_routes.specs.Routes.{IsRouteOf, IsAnswer, route_at, place_or, 
 abbrev Name : Type 0
 Name = List (List ℕ)
 
--- ---- the first place that passes a test
+-- ---- the first place passing a test
 
 record FoundAt {X : Type 0} (p : X → Bool) (xs : List X) (place : ℕ) : Type 0 where
   item : X
@@ -63,13 +63,13 @@ position_none p xs is =
       | inr le ↦ none_passes p xs le
     ]
 
--- ---- what is computed is an answer
+-- ---- the computed place is an answer
 
 under_cases : (l : List ℕ) (ls s : Name) → IsUnder (l ∷ ls) s → IsSame (l ∷ ls) s ⊎ IsUnder ls s
 under_cases l ls s ([], back, parts, one) = inl (ap lowered parts ∙ one)
 under_cases l ls s ((f ∷ front), back, parts, one) = let rest : ls ≡ front ++ back = cc in inr (front, back, rest, one)
 
--- where a route has the name itself as its suffix, it is the answer
+-- if a route's suffix is the name itself, this route is the answer
 own_route : (routes : List Route) (name : Name) (place : ℕ) → route_at routes name ≡ Some place → IsRouteOf routes name place
 own_route routes name place is =
     let found = position_some (λ r. same name r.suffix) routes place is in
@@ -88,8 +88,8 @@ no_own routes name is k other there one =
     let no : false ≡ true = sym fails ∙ (same_decides name other.suffix).1 one in
     absurd cc
 
--- an answer for the name without its first label is one for the name, where no suffix is the name
--- itself
+-- if no suffix is the name itself, an answer for the name without its first label is an answer for
+-- the name
 longer_name : (routes : List Route) (l : List ℕ) (ls : Name) (answer : Option ℕ) → route_at routes (l ∷ ls) ≡ None → IsAnswer routes ls answer → IsAnswer routes (l ∷ ls) answer
 longer_name routes l ls None none answer = λ k other there under.
     elim (under_cases l ls other.suffix under) [
@@ -125,14 +125,14 @@ unfolding route_of
 route_of-is routes [] = root_answer routes (route_at routes []) refl
 route_of-is routes (l ∷ ls) = place_answer routes l ls (route_at routes (l ∷ ls)) (route_of routes ls) refl (route_of-is routes ls)
 
--- ---- there is one answer
+-- ---- the answer is unique
 
 differs : (suffix : Name) (routes : List Route) (k : ℕ) (other : Route) → HasNoSuffix suffix routes → slice_get routes k ≡ Some other → IsSame suffix other.suffix → ⊥
 differs suffix [] k other none there one = absurd (let no : None ≡ Some other = there in cc)
 differs suffix (r ∷ rs) zero other none there one = let here : r ≡ other = cc in none.0 (rw here one)
 differs suffix (r ∷ rs) (suc k) other none there one = differs suffix rs k other none.1 there one
 
--- two places whose suffixes are the same name are one place
+-- two places with equal suffixes are equal
 pub one_place : (routes : List Route) (j k : ℕ) (a b : Route) → AllDiffer routes → slice_get routes j ≡ Some a → slice_get routes k ≡ Some b → IsSame a.suffix b.suffix → j ≡ k
 one_place [] j k a b differ at_j at_k one = absurd (let no : None ≡ Some a = at_j in cc)
 one_place (r ∷ rs) zero zero a b differ at_j at_k one = refl
@@ -163,7 +163,7 @@ unfolding route_of
 route_of-lowered routes [] = refl
 route_of-lowered routes (l ∷ ls) = rw (at_lowered routes (l ∷ ls), route_of-lowered routes ls) refl
 
--- names that are the same have one route
+-- an answer for a name is an answer for each equal name
 pub answer_of_same : (routes : List Route) (n m : Name) (answer : Option ℕ) → IsSame n m → IsAnswer routes n answer → IsAnswer routes m answer
 answer_of_same routes n m None one answer = λ k other there under. answer k other there (under_respects_same m n other.suffix other.suffix (sym one) refl under)
 answer_of_same routes n m (Some place) one answer = record {
@@ -186,7 +186,7 @@ abbrev pub BestBelow : List Route → Name → ℕ → Option ℕ → ℕ → Ty
 BestBelow routes name i None size = (size ≡ 0) × ((k : ℕ) (other : Route) → k < i → slice_get routes k ≡ Some other → IsUnder name other.suffix → ⊥)
 BestBelow routes name i (Some place) size = BestIs routes name i place size
 
--- a suffix of a name that has no more octets than another has no more labels
+-- a suffix of a name with no more octets than a second suffix has no more labels
 no_longer : (name s t : Name) → IsUnder name s → IsUnder name t → size_of s ≤ size_of t → length s ≤ length t
 no_longer name s t us ut le =
     elim (cases_lt (length t) (length s)) [
@@ -259,7 +259,7 @@ best_of_all routes name (Some place) size best = record {
   most = λ k other there under. best.most k other (slice_get_within routes k other there) there under;
 }
 
--- names that are the same have the same route
+-- equal names have the same route
 pub route_of-same : (routes : List Route) (n m : Name) → IsSame n m → route_of routes n ≡ route_of routes m
 route_of-same routes n m one = sym (route_of-lowered routes n) ∙ ap (route_of routes) one ∙ route_of-lowered routes m
 
@@ -267,14 +267,14 @@ is_route_at : (routes : List Route) (name : Name) (place : ℕ) (answer : Option
 is_route_at routes name place None is answer = absurd (let no : None ≡ Some place = is in cc)
 is_route_at routes name place (Some k) is answer = let one : k ≡ place = cc in subst (IsRouteOf routes name) one answer
 
--- the route of a name is one of the routes, and its suffix is the longest that the name is under
+-- the route of a name is listed, with the longest suffix above the name
 pub route_of-some : (routes : List Route) (name : Name) (place : ℕ) → route_of routes name ≡ Some place → IsRouteOf routes name place
 route_of-some routes name place is = is_route_at routes name place (route_of routes name) is (route_of-is routes name)
 
 pub route_of-within : (routes : List Route) (name : Name) (place : ℕ) → route_of routes name ≡ Some place → place < length routes
 route_of-within routes name place is = let r = route_of-some routes name place is in slice_get_within routes place r.route r.there
 
--- what holds of each route holds of the one at a place
+-- a property of each route is a property of the route at a place
 pub all_hold : (P : Route → Type 0) (routes : List Route) (place : ℕ) (r : Route) → AllByRecursion P routes → slice_get routes place ≡ Some r → P r
 all_hold P [] place r each there = absurd (let no : None ≡ Some r = there in cc)
 all_hold P (x ∷ xs) zero r each there = let one : x ≡ r = cc in subst P one each.0
@@ -283,9 +283,9 @@ all_hold P (x ∷ xs) (suc k) r each there = all_hold P xs k r each.1 there
 pub route_holds : (routes : List Route) (place : ℕ) (r : Route) → AllByRecursion IsRoute routes → slice_get routes place ≡ Some r → IsRoute r
 route_holds routes place r each there = all_hold IsRoute routes place r each there
 
--- ---- a name and one above it
+-- ---- a name and a name above
 
--- the name above is under each suffix of the name that has no more octets
+-- the name above is under each suffix of the name with no more octets
 above_is_under : (name above s : Name) → IsUnder name above → IsUnder name s → size_of s ≤ size_of above → IsUnder above s
 above_is_under name above s under mine le = suffix_under_suffix name above s under mine (no_longer name s above mine under le)
 
@@ -301,14 +301,14 @@ answer_of_above routes name above (Some place) under short answer = record {
   most = λ k other there mine. answer.most k other there (above_is_under name above other.suffix under mine (short k other there mine));
 }
 
--- where no suffix of a name has more octets than a name above it, the two have one route
+-- if no suffix of a name has more octets than a name above, both have the same route
 pub route_of-above : (routes : List Route) (name above : Name) → AllDiffer routes → IsUnder name above
     → ((k : ℕ) (other : Route) → slice_get routes k ≡ Some other → IsUnder name other.suffix → size_of other.suffix ≤ size_of above)
     → route_of routes above ≡ route_of routes name
 route_of-above routes name above differ under short =
     computed routes name (route_of routes above) differ (answer_of_above routes name above (route_of routes above) under short (route_of-is routes above))
 
--- of two suffixes of a name the one that has no more labels has no more octets
+-- a suffix of a name with no more labels than a second suffix has no more octets
 no_larger : (name s t : Name) → IsUnder name s → IsUnder name t → length s ≤ length t → size_of s ≤ size_of t
 no_larger name s t us ut le =
     elim (cases_lt (length s) (length t)) [
@@ -326,7 +326,7 @@ no_answer_of_both routes name above (Some place) k other under there mine long h
     let short = (ends_where_under above higher.route.suffix higher.under).fewer in
     omega (arith, long, no_larger name other.suffix above mine under (omega (arith, few, short)))
 
--- where one has, they have not
+-- if a suffix has more octets, the routes differ
 pub route_of-longer : (routes : List Route) (name above : Name) (k : ℕ) (other : Route) → IsUnder name above
     → slice_get routes k ≡ Some other → IsUnder name other.suffix → size_of above < size_of other.suffix
     → route_of routes above ≡ route_of routes name → ⊥

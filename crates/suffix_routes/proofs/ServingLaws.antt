@@ -1,4 +1,4 @@
--- Routes that serve names, and those that deny them.
+-- Serving routes, and denying routes.
 use Rattle.std.proofs.Common.{◌≡◌, ℕ, Bool, true, false, List, [], ◌∷◌, Option, Some, None, refl, sym, ap, subst, ◌∙◌}
 use Rattle.std.specs.Prelude.{slice_get, if◌then◌else◌}
 use Rattle.suffix_routes.specs.declared.peer.Peer.{Peer}
@@ -38,7 +38,7 @@ denies_serves_not_at : (place : ℕ) (o : Option Route) → denies_at o ≡ true
 denies_serves_not_at place None e = refl
 denies_serves_not_at place (Some r) e = by_deny r.deny place e
 
--- a route that denies serves nothing
+-- a denying route serves nothing
 pub denies_serves_not : (routes : List Route) (place : Option ℕ) → denies routes place ≡ true → serving routes place ≡ None
 denies_serves_not routes None e = refl
 denies_serves_not routes (Some place) e = denies_serves_not_at place (slice_get routes place) e
@@ -53,7 +53,7 @@ all_serve_at place (Some x) r is e =
     let no : x.deny ≡ false = (let same : r ≡ x = cc in subst (λ (y : Route). y.deny ≡ false) same e) in
     (by_no_deny x.deny place no, no)
 
--- no route denies: so none does that a name has
+-- if no route denies, no name's route denies
 pub nothing_is_denied : NothingIsDenied
 nothing_is_denied config name neither = by (route_of config.routes name) refl
   where
@@ -68,7 +68,7 @@ nothing_is_denied config name neither = by (route_of config.routes name) refl
 abbrev nobody : Peer
 nobody = record { ip = []; port = 53 }
 
--- names under b are denied, but those under a.b
+-- names under b are denied, except for names under a.b
 abbrev routes : List Route
 routes =
     record { suffix = []; deny = false; servers = nobody ∷ [] }
@@ -76,7 +76,7 @@ routes =
     ∷ record { suffix = (97 ∷ []) ∷ (98 ∷ []) ∷ []; deny = false; servers = nobody ∷ [] }
     ∷ []
 
--- c is served by the first route, and c.b by none, although it has one
+-- c is served by the first route, and c.b by none, in spite of its route
 served : serving routes (route_of routes ((99 ∷ []) ∷ [])) ≡ Some 0
 unfolding route_of
 served = refl

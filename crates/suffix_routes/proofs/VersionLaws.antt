@@ -1,4 +1,4 @@
--- Keys that the first version doesn't know are in no table of it.
+-- Keys unknown to the first version are in no table of this version.
 use Rattle.std.proofs.Common.{◌≡◌, ℕ, Bool, true, false, not, List, [], ◌∷◌, Option, Some, None, Result, Ok, Err, Ordering, Less, Equal, Greater, nat_cmp, refl, sym, ap, inl, inr}
 use Rattle.std.specs.Prelude.{codes}
 use Rattle.std.specs.List.{find}
@@ -16,12 +16,12 @@ use Rattle.suffix_routes.specs.Excerpts.{excerpt}
 use Rattle.suffix_routes.specs.Places.{knows}
 use Rattle.suffix_routes.specs.Reading.{keys_of, is_strange, no_strange, known_keys}
 
--- no key was met that is strange
+-- no strange key was met
 none_met : (version : Version) (place : Place) (met : Option (List ℕ)) (known : Unit {0}) → no_strange version place met ≡ Ok known → met ≡ None
 none_met version place None known is = refl
 none_met version place (Some key) known is = absurd (let no : Err (UnknownKey version place (excerpt key)) ≡ Ok known = is in cc)
 
--- a strange key is none of those that a table has where no strange one was met
+-- a strange key is no key of a table without a strange key met
 other_key : (strange : List ℕ → Bool) (key other : List ℕ) (order : Ordering) (d : Data) (rest : Option Data) → strange key ≡ true → strange other ≡ false
     → slice_cmp nat_cmp key other ≡ order → rest ≡ None → match_ordering order rest (Some d) rest ≡ None
 other_key strange key other Less d rest is isnt cmp none = none
@@ -41,7 +41,7 @@ absent strange key (member other d ms) is none =
           other_key strange key other (slice_cmp nat_cmp key other) d (get_member key ms) is isnt refl rest
     ]
 
--- a key that is strange at a place is in no table there whose keys are known
+-- a strange key of a place is absent from each table of known keys there
 strange_is_absent : (version : Version) (place : Place) (key : List ℕ) (ms : Members) (known : Unit {0}) → is_strange version place key ≡ true → known_keys version place ms ≡ Ok known
     → get_member key ms ≡ None
 unfolding known_keys

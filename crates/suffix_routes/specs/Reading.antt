@@ -4,8 +4,8 @@ use Rattle.std.specs.Prelude.{if◌then◌else◌, List, [], ◌∷◌, ◌++◌
 use Rattle.std.specs.Prelude.{Result, Ok, Err}
 use Rattle.std.specs.Ordering.{int_eq}
 use Rattle.std.specs.List.{find}
-use Rattle.plain_values.specs.FirstFault as reading
-pub use Rattle.plain_values.specs.FirstFault.{◌>>=◌}
+use Rattle.dns_name.specs.PlainValues.FirstFault as reading
+pub use Rattle.dns_name.specs.PlainValues.FirstFault.{◌>>=◌}
 use Rattle.toml.specs.Data.{Data, Items, no_items, item, Members, no_members, member, get_member, as_str, as_integer}
 use Rattle.toml.specs.Data.{as_bool, as_array, as_table}
 use Rattle.toml.specs.Parse.{parse_document}

@@ -9,8 +9,7 @@ use crate::limits::Limits;
 use crate::peer::Peer;
 use crate::route::{Route, RouteId};
 use crate::routing::Routing;
-use dns_name::{Name, NameKey};
-use plain_values::PlainList;
+use dns_name::{Name, NameKey, PlainList};
 use std::alloc::{AllocError, Allocator, Global};
 use std::marker::Model;
 

@@ -16,8 +16,7 @@ use crate::table::{
     array_at, boolean_at, check_keys, peer_at, require, table_at, text_at, value_of,
 };
 use crate::version::Version;
-use dns_name::{Name, NameFault};
-use plain_values::PlainList;
+use dns_name::{Name, NameFault, PlainList};
 use std::alloc::Allocator;
 use toml::{Table, Value};
 

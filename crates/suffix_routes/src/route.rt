@@ -3,8 +3,7 @@
 ghost use Rattle.std.specs.Prelude.{◌≡◌, IfOk};
 
 use crate::peer::Peer;
-use dns_name::Name;
-use plain_values::PlainList;
+use dns_name::{Name, PlainList};
 use std::alloc::{AllocError, Allocator, Global};
 use std::marker::Model;
 

@@ -1,9 +1,9 @@
--- What the proofs of crates above cite of a stream's frames.
+-- Laws of a stream's frames for proofs of crates above.
 use Rattle.tcp_frames.specs.Laws.{AllFramesAreTaken, CutDoesNotMatter, PiecesContinue}
 use Rattle.tcp_frames.proofs.FrameLaws.{continues}
 use Rattle.tcp_frames.proofs.RunLaws.{all_taken, frames_kept}
 
--- however a stream is cut into pieces, its frames are the same
+-- however a stream is cut into pieces, the frames are the same
 pub cut_does_not_matter : CutDoesNotMatter
 cut_does_not_matter = frames_kept
 
@@ -11,6 +11,6 @@ cut_does_not_matter = frames_kept
 pub all_frames_are_taken : AllFramesAreTaken
 all_frames_are_taken = all_taken
 
--- with a further piece the frames go on after those that were there
+-- with a further piece the frames go on after the frames before
 pub pieces_continue : PiecesContinue
 pieces_continue = continues

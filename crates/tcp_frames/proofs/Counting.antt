@@ -1,4 +1,4 @@
--- The place of a stream in its frames after a part of a frame, and after a piece.
+-- A stream's place in the frames after a part of a frame, and after a piece.
 use Rattle.std.proofs.Common.{◌≡◌, ℕ, ◌+◌, ◌-◌, ◌*◌, ◌<◌, ◌≤◌, List, [], ◌∷◌, ◌++◌, length, take, drop, get_or, refl, sym, ap, ◌∙◌, append-nil, append_assoc, arith}
 use Rattle.std.proofs.lemmas.Bool.{le-leb, lt-leb}
 use Rattle.std.proofs.lemmas.List.{take_all, drop_all, length-append, length-take-le, take-append-drop}
@@ -83,7 +83,7 @@ ended_once (Message left) = omega arith
 
 -- ---- a piece, part by part
 
--- so far: after these octets and `count` frames the rest of the piece is left
+-- after these octets and `count` frames the rest of the piece is left
 pub record GoesOn (rest piece left : List ℕ) (count : ℕ) (place : Within) : Type 0 where
   pub behind : List ℕ
   pub stands : Stands place behind

@@ -1,5 +1,4 @@
--- The frames of a stream, as they are read: what `frames_of` and `unfinished_of` are where a frame
--- leads, and where none does.
+-- The frames read from a stream: `frames_of` and `unfinished_of`, with and without a leading frame.
 use Rattle.std.proofs.Common.{◌≡◌, ℕ, zero, suc, ◌+◌, ◌*◌, ◌/◌, ◌%◌, ◌<◌, ◌≤◌, Bool, true, List, [], ◌∷◌, ◌++◌, length, take, drop, refl, sym, ap, ◌∙◌, append_assoc, inl, inr, arith}
 use Rattle.std.specs.Prelude.{nat_le, if◌then◌else◌}
 use Rattle.std.specs.List.{flat_map, AllByRecursion}
@@ -35,7 +34,7 @@ frames_of-two high low more =
     ap (λ (found : List (List ℕ)). if nat_le size (length more) then take size more ∷ found else [])
     (frames_within-enough (length (low ∷ more)) (length (drop size more)) (drop size more) (omega (arith, length-drop size more)) (omega arith))
 
--- ---- where a frame leads
+-- ---- with a leading frame
 
 number_is : (n : ℕ) → 256 * (n / 256) + n % 256 ≡ n
 number_is n = omega arith
@@ -56,14 +55,14 @@ unfinished_of-leads message rest stream leads =
     ∙ ap (drop (length (framed message) + length later)) leads.octets
     ∙ drop-append-add (framed message) rest (length later)
 
--- more octets after the stream leave its first frame
+-- octets added at the stream's end leave the first frame
 pub leads-append : (message rest stream more : List ℕ) → Leads message rest stream → Leads message (rest ++ more) (stream ++ more)
 leads-append message rest stream more leads = record {
   short = leads.short;
   octets = ap (λ (octets : List ℕ). octets ++ more) leads.octets ∙ append_assoc (framed message) rest more;
 }
 
--- ---- where none leads
+-- ---- without a leading frame
 
 pub frames_of-unfinished : (stream : List ℕ) → IsUnfinished stream → frames_of stream ≡ []
 unfolding frames_of frames_within
@@ -79,7 +78,7 @@ pub none_leads : (stream : List ℕ) → IsUnfinished stream → (message rest :
 none_leads stream u message rest leads =
     let none : message ∷ frames_of rest ≡ [] = sym (frames_of-leads message rest stream leads) ∙ frames_of-unfinished stream u in cc
 
--- ---- a stream is cut in one way
+-- ---- a stream is cut in a single way
 
 pub cut_read : (messages : List (List ℕ)) (rest stream : List ℕ) → IsCut messages rest stream → (frames_of stream ≡ messages) × (unfinished_of stream ≡ rest)
 cut_read [] rest stream cut =

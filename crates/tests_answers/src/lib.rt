@@ -1,4 +1,4 @@
-//! Tests of `answer_builder`: refused allocations, the largest answer, and the texts of faults.
+//! Tests of `answer_builder`: refused allocations, the largest answer, and texts of faults.
 #![tactic(auto)]
 
 #[cfg(test)]

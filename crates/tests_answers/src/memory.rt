@@ -9,8 +9,7 @@ use refusing_allocator::Refusing;
 use std::alloc::Global;
 use std::test::Fail;
 
-/// The number of allocations of the answer from a reply to its own question that are refused one
-/// after another, until it is there.
+/// The number of allocations, refused in turn, of the answer from a reply to its own question.
 fn refusals(
     table_heap: Global,
     kind: Kind,
@@ -35,7 +34,7 @@ fn refusals(
     Err(Fail::from("no answer"))
 }
 
-/// The numbers of refused allocations of an answer over UDP and over TCP.
+/// The numbers of an answer's refused allocations over UDP and over TCP.
 fn refusals_of(table_heap: Global, kind: Kind, reply: &str) -> Result<(u64, u64), Fail> {
     let udp = refusals(table_heap, kind, reply, Transport::Udp)?;
     let tcp = refusals(table_heap, kind, reply, Transport::Tcp)?;

@@ -1,4 +1,4 @@
-//! Questions, and the chains that answer them, from the octets of replies.
+//! Questions, and their answering chains, from the octets of replies.
 
 ghost use Rattle.std.specs.Prelude.{◌<◌, ◌≤◌, IfOk};
 ghost use Rattle.std.specs.List.{AllByRecursion};
@@ -14,18 +14,18 @@ use std::test::Fail;
 use suffix_routes::{Config, RouteId};
 use trust_rank::{Piece, Walk, pieces};
 
-/// The moment at which all replies came, in milliseconds.
+/// The moment of all replies, in milliseconds.
 pub(crate) const ACCEPTED: u64 = 1020;
 
 /// a.example has an address for five minutes.
 pub(crate) const ADDRESS: &str =
     "0008850000010001000000000161076578616d706c650000010001c00c000100010000012c0004c6336405";
 
-/// b.example is an alias of a.example, which has an address for ten minutes.
+/// b.example is an alias of a.example; a.example has an address for ten minutes.
 pub(crate) const ALIAS: &str =
     "0018850000010002000000000162076578616d706c650000010001c00c000500010000003c00040161c00ec02700010001000002580004c6336409";
 
-/// x.example is not there; its SOA says ten minutes.
+/// x.example does not exist; the SOA says ten minutes.
 pub(crate) const NAME_ERROR: &str =
     "0008850300010000000100000178076578616d706c650000010001c00e0006000100000e10001d026e73c00e0168c00e0000000100000002000000030000000400000258";
 
@@ -33,14 +33,14 @@ pub(crate) const NAME_ERROR: &str =
 pub(crate) const TO_LAN: &str =
     "0008850000010001000000000161076578616d706c650000010001c00c000500010000003c00070168036c616e00";
 
-/// One route for all names.
+/// A single route for all names.
 const CONFIG: &str = r#"version = 1
 [[route]]
 suffix = "."
 servers = ["192.0.2.1:53"]
 "#;
 
-/// The pieces that a reply carries for its own question.
+/// The pieces of a reply for its own question.
 fn walked<'h>(
     table_heap: Global,
     heap: &'h Refusing<Global>,
@@ -53,7 +53,7 @@ fn walked<'h>(
     Ok(pieces(heap, &message, &question, RouteId { place: 0 }, &config)?)
 }
 
-/// A question that wants recursion.
+/// A question with RD.
 pub(crate) fn asked<A: Allocator>(id: u16, question: Question<A>) -> Asked<A>
     ensures { result.opcode < 16 }
 {
@@ -65,7 +65,7 @@ pub(crate) fn asked<A: Allocator>(id: u16, question: Question<A>) -> Asked<A>
     }
 }
 
-/// The pieces, all of which came at one moment, not after this one.
+/// The pieces, all accepted at [`ACCEPTED`], not after `moment`.
 fn chain_of<A: Allocator + Copy>(
     alloc: A,
     pieces: &[Piece<A>],
@@ -84,21 +84,21 @@ fn chain_of<A: Allocator + Copy>(
     Ok(chain)
 }
 
-/// An answer: its octets, or that it is too large, or out of memory.
+/// An answer: the octets, or too large, or out of memory.
 pub(crate) type Built<'h> = Result<Octets<&'h Refusing<Global>>, Fault>;
 
-/// The answer that is built of the pieces.
+/// The kind of answer built from the pieces.
 #[derive(Clone, Copy)]
 pub(crate) enum Kind {
-    /// With what is left of each, this many milliseconds after they came.
+    /// With the seconds left, at this many milliseconds after acceptance.
     Left(u64),
-    /// Stale from this index on, when the address has just expired.
+    /// With stale pieces from this index on, at the address's expiry.
     Stale(usize),
-    /// Of a route that denies, a second after they came.
+    /// Of a denying route, a second after acceptance.
     Local,
 }
 
-/// The moment of an answer, in milliseconds.
+/// An answer's moment, in milliseconds.
 fn moment_of(kind: Kind) -> u64
     ensures { 1020 ≤ result }
 {
@@ -109,7 +109,7 @@ fn moment_of(kind: Kind) -> u64
     }
 }
 
-/// A question, and the reply whose pieces answer it, both in octets.
+/// A question, and the reply with the answering pieces, both in octets.
 #[derive(Clone, Copy)]
 pub(crate) struct Case<'c> {
     pub kind: Kind,
@@ -143,7 +143,7 @@ pub(crate) fn answer<'h>(
     Ok(built)
 }
 
-/// The octets of the answer to a question, with ample memory; `None` where it is too large.
+/// The octets of a question's answer, with ample memory; `None` if too large.
 pub(crate) fn text<'h>(
     table_heap: Global,
     heap: &'h Refusing<Global>,
@@ -157,7 +157,7 @@ pub(crate) fn text<'h>(
     }
 }
 
-/// Writes the answer over UDP from one piece, or from an alias and a piece, into a vector.
+/// Writes the answer over UDP from a piece, or from an alias and a piece, into a vector.
 fn put<A: Allocator + Copy>(
     alloc: A,
     octets: &mut Vec<u8, A>,
@@ -181,8 +181,8 @@ fn put<A: Allocator + Copy>(
     }
 }
 
-/// The number of allocations that are refused one after another, until the answer is written into
-/// the vector; `None` on another fault, or if no end is met.
+/// The number of allocations, refused in turn, until the answer is in the vector; `None` for
+/// another fault, or if no end is met.
 fn growths_of<'h>(
     heap: &'h Refusing<Global>,
     octets: &mut Vec<u8, &'h Refusing<Global>>,
@@ -204,8 +204,8 @@ fn growths_of<'h>(
     None
 }
 
-/// The number of allocations that are refused until the answer from a reply to its own question is
-/// written. The answer is written over UDP, into a vector with room.
+/// The number of allocations refused until the answer from a reply to its own question is written,
+/// over UDP, into a vector with room.
 pub(crate) fn growths_beside_room(table_heap: Global, reply: &[u8]) -> Result<Option<u64>, Fail> {
     let heap = Refusing::new(table_heap);
     let walk = walked(table_heap, &heap, reply)?;

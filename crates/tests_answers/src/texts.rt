@@ -1,4 +1,4 @@
-//! The octets of worked answers, the largest answer, and the text of a fault.
+//! The octets of worked answers, the largest answer, and a fault's text.
 
 use crate::samples::{ADDRESS, ALIAS, Case, Kind, TO_LAN, text};
 use answer_builder::{Asked, Fault, Transport, failure};
@@ -7,7 +7,7 @@ use refusing_allocator::Refusing;
 use std::alloc::Global;
 use std::test::Fail;
 
-/// The text of a.example has data of the octets that are given: the reply up to RDLENGTH.
+/// The reply with the TXT record of a.example, up to RDLENGTH.
 const TEXT: &str = "0008850000010001000000000161076578616d706c650000100001c00c001000010000012c";
 
 /// The reply with a text of `len` octets.
@@ -21,10 +21,10 @@ fn long_reply(heap: Global, len: u16) -> Result<Vec<u8>, Fail> {
     Ok(reply)
 }
 
-/// a.example TXT, with a capital letter, so that the owner of its answer is written out.
+/// a.example TXT, with a capital letter, so that the answer's owner is written in full.
 const CAPITAL_QUESTION: &str = "1234010000010000000000000141076578616d706c650000100001";
 
-/// The number of octets of each answer from a text of `len`; `None` where it is too large.
+/// The number of octets of each answer from a text of `len` octets; `None` if too large.
 fn lengths_of(
     heap: Global,
     kind: Kind,
@@ -46,7 +46,7 @@ fn lengths_of(
     Ok(lengths)
 }
 
-/// The kinds of answers. No chain of aliases is as long as TCP allows, so a text is used for one.
+/// The kinds of answers. No chain of aliases reaches the limit of TCP, so a text is used.
 const KINDS: [Kind; 3] = [Kind::Left(0), Kind::Stale(0), Kind::Local];
 
 #[test]
@@ -87,7 +87,7 @@ fn answered(heap: Global, kind: Kind, question: &str, reply: &str) -> Result<Str
     }
 }
 
-/// The worked answer at once, and after 10.5 seconds, when 289 of the 300 seconds are left.
+/// The worked answer at once, and after 10.5 seconds, with 289 of the 300 seconds left.
 const WORKED: [(u64, &str); 2] = [
     (
         0,
@@ -108,9 +108,8 @@ fn worked_answers_in_octets(rt: HostRuntime) -> Result<(), Fail> {
     Ok(())
 }
 
-/// The opcode, whether the question is repeated, the response code, and the octets of the failure:
-/// SERVFAIL, FORMERR for a question that can't be read, and NOTIMP for a status request (RFC 1035
-/// 4.1.1).
+/// The opcode, whether the question is repeated, the response code, and the failure's octets:
+/// SERVFAIL, FORMERR for an unreadable question, and NOTIMP for a status request (RFC 1035 4.1.1).
 const FAILURES: [(u8, bool, u8, &str); 3] = [
     (
         0,
@@ -148,15 +147,15 @@ fn worked_failures_in_octets(rt: HostRuntime) -> Result<(), Fail> {
     Ok(())
 }
 
-/// The address of a.example has expired, and has 30 seconds.
+/// The address of a.example, expired, with 30 seconds.
 const STALE: &str =
     "1234818000010001000000000161076578616d706c650000010001c00c000100010000001e0004c6336405";
 
-/// The alias was held and has expired: none is left. The address has 300 of its 600 seconds.
+/// An alias held by the question, expired: no second left. The address has 300 of 600 seconds.
 const HELD_ALIAS: &str = "123481800001000200000000\
      0162076578616d706c650000010001c00c000500010000000000040161c00ec027000100010000012c0004c6336409";
 
-/// The alias was found, and has 30 seconds.
+/// An alias found expired, with 30 seconds.
 const FOUND_ALIAS: &str = "123481800001000200000000\
      0162076578616d706c650000010001c00c000500010000001e00040161c00ec027000100010000012c0004c6336409";
 
@@ -176,13 +175,13 @@ fn a_stale_answer_has_30_seconds(rt: HostRuntime) -> Result<(), Fail> {
 /// h.lan A.
 const LAN_QUESTION: &str = "1234010000010000000000000168036c616e0000010001";
 
-/// A reply that carries nothing: a.example has no address, and there is no SOA.
+/// An empty reply: a.example has no address, and there is no SOA.
 const NOTHING: &str = "0008850000010000000000000161076578616d706c650000010001";
 
 /// The header with response code 3, and the question.
 const LAN: &str = "1234818300010000000000000168036c616e0000010001";
 
-/// The header with response code 3, the question, and the alias, of whose TTL a second has passed.
+/// The header with response code 3, the question, and the alias, with a second of the TTL passed.
 const LAN_ALIAS: &str =
     "1234818300010001000000000161076578616d706c650000010001c00c000500010000003b00070168036c616e00";
 

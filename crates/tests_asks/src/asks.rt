@@ -1,4 +1,4 @@
-//! A listed ask is found, the allocations of the list of asks, and the text of a refusal.
+//! Look-ups of a listed ask, allocations of the list of asks, and a refusal's text.
 
 ghost use Rattle.std.specs.Prelude.{◌≡◌, IfOk};
 
@@ -10,7 +10,7 @@ use std::alloc::Global;
 use std::test::Fail;
 use suffix_routes::{Peer, RouteId};
 
-/// An ask for an address of a name, of the server 192.0.2.1:53.
+/// An ask for a name's address, sent to 192.0.2.1:53.
 fn ask_for<'a>(
     heap: &'a Refusing<Global>,
     name: &str,
@@ -38,7 +38,7 @@ fn ask_for<'a>(
     })
 }
 
-/// Whether the ask is equal to the ask that `ask_for` makes for a.example on port 1032 at 1000.
+/// Whether the ask equals `ask_for`'s ask for a.example on port 1032 at 1000.
 fn is_worked<'a>(ask: &Ask<&'a Refusing<Global>>) -> bool {
     let question = &ask.question;
     let is_asked = question.name.octets() == b"\x01a\x07example".as_slice()
@@ -71,11 +71,11 @@ fn a_listed_ask_is_found(rt: HostRuntime) -> Result<(), Fail> {
     Ok(())
 }
 
-/// A name of 33 octets, which are not kept in place.
+/// A name of 33 octets, too long to be kept in place.
 const LONG: &str = "a.abcdefghijklmnopqrstuv.example";
 
-/// Lists an ask where one allocation is refused, alone or with each one after it, after
-/// `growths` are granted; whether it is listed.
+/// Grants `growths` allocations, refuses the next, alone or with all later allocations, and returns
+/// whether an ask is listed.
 fn is_begun(heap: &Refusing<Global>, growths: u64, is_alone: bool) -> Result<bool, Fail> {
     let ask = ask_for(heap, LONG, Path::Udp(1024), 1000)?;
     let mut inquiries = Inquiries::new(heap, 1);
@@ -108,8 +108,7 @@ fn each_growth_of_begin_is_refused(rt: HostRuntime) -> Result<(), Fail> {
     Ok(())
 }
 
-/// One allocation that is allowed stays unspent where a list is made, and cleared though it was
-/// never used.
+/// A single allowed allocation stays unspent while a list is made, and cleared unused.
 #[test]
 fn an_empty_list_takes_no_memory(rt: HostRuntime) {
     let heap = Refusing::new(rt.alloc());
@@ -121,7 +120,7 @@ fn an_empty_list_takes_no_memory(rt: HostRuntime) {
     assert!(rt; inquiries.len() == 0 && is_left && is_last);
 }
 
-/// Whether draws and look-ups find the listed ask and those like it.
+/// Whether draws and look-ups find the listed ask and similar asks.
 fn are_found<'a>(
     inquiries: &Inquiries<&'a Refusing<Global>>,
     question: &Question<&'a Refusing<Global>>,
@@ -134,8 +133,8 @@ fn are_found<'a>(
         && inquiries.by_path(Path::Udp(1024)).is_some()
 }
 
-/// One allocation that is allowed stays unspent over all other calls, and over a `begin` into room
-/// that there is.
+/// A single allowed allocation stays unspent over all other calls, and over a `begin` with room
+/// left.
 #[test]
 fn only_begin_takes_memory(rt: HostRuntime) -> Result<(), Fail> {
     let heap = Refusing::new(rt.alloc());

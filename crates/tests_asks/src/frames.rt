@@ -1,4 +1,4 @@
-//! Frames in concrete octets (RFC 1035 4.2.2), their allocations, and the text of a fault.
+//! Frames in concrete octets (RFC 1035 4.2.2), their allocations, and a fault's text.
 
 use refusing_allocator::Refusing;
 use std::alloc::{AllocError, Global};
@@ -31,7 +31,7 @@ const OCTET_BY_OCTET: [(u8, Option<&[u8]>); 7] = [
     (0, Some(b"")),
 ];
 
-/// Whether a reader that is fed one more octet gives this message, or none.
+/// Whether a reader, fed a further octet, returns this message, or none.
 fn gives(
     reader: &mut FrameReader<Global>,
     octet: u8,
@@ -65,7 +65,7 @@ fn what_is_said_of_a_fault(rt: HostRuntime) -> Result<(), Fail> {
     Ok(())
 }
 
-/// Refuses the next allocation: alone, or with each one after it.
+/// Refuses the next allocation, alone or with all later allocations.
 fn refuse(heap: &Refusing<Global>, is_alone: bool) {
     if is_alone {
         heap.refuse_one(0);
@@ -74,8 +74,8 @@ fn refuse(heap: &Refusing<Global>, is_alone: bool) {
     }
 }
 
-/// Whether each allocation of a reader is refused in turn, and what it has stays: a piece, a piece
-/// after another one, for which it needs more room, and the message of both.
+/// Whether each allocation of a reader is refused in turn and changes nothing: for a piece, for the
+/// room of a further piece, and for the message of both.
 fn are_refused_in_turn<'a>(
     heap: &'a Refusing<Global>,
     reader: &mut FrameReader<&'a Refusing<Global>>,
@@ -94,7 +94,7 @@ fn are_refused_in_turn<'a>(
     Ok(is_piece_refused && is_more_refused && is_message_refused)
 }
 
-/// Whether the message of 65 octets is taken with one allocation.
+/// Whether a message of 65 octets is taken with a single allocation.
 fn is_taken<'a>(
     heap: &'a Refusing<Global>,
     reader: &mut FrameReader<&'a Refusing<Global>>,
@@ -151,8 +151,8 @@ fn two_longest(alloc: Global) -> Result<Vec<u8>, AllocError> {
     Ok(piece)
 }
 
-/// Whether the allocation of the next message is refused, and it is 65,535 times this octet once it
-/// is granted.
+/// Whether the next message's allocation is refused, and the message, once granted, is 65,535 times
+/// this octet.
 fn is_refused_then_taken<'a>(
     heap: &'a Refusing<Global>,
     reader: &mut FrameReader<&'a Refusing<Global>>,

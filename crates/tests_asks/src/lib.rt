@@ -1,5 +1,5 @@
 //! Tests of `tcp_frames`, `outstanding` and `reply_match`: allocations succeed if there is memory,
-//! calls that promise not to allocate do not, and faults have their texts.
+//! calls that promise not to allocate do not, and faults have texts.
 #![tactic(auto)]
 
 #[cfg(test)]

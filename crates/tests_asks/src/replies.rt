@@ -1,4 +1,4 @@
-//! A reply that is cut anywhere, and the longest one.
+//! A reply cut anywhere, and the longest reply.
 
 use dns_message::Question;
 use dns_name::{Name, NameFault};
@@ -14,7 +14,7 @@ const SERVER: Peer = Peer {
     port: 53,
 };
 
-/// The reply to the ask: the address of a.example is 198.51.100.5. Its header has 12 octets, its
+/// The reply to the ask: a.example has the address 198.51.100.5. The header has 12 octets, the
 /// question 15.
 const REPLY: [u8; 43] =
     *b"\x00\x08\x85\x00\x00\x01\x00\x01\x00\x00\x00\x00\x01a\x07example\x00\x00\x01\x00\x01\xc0\x0c\x00\x01\x00\x01\x00\x00\x01\x2c\x00\x04\xc6\x33\x64\x05";
@@ -37,8 +37,7 @@ fn ask(heap: Global) -> Result<Ask, NameFault> {
     })
 }
 
-/// The verdict on the first `octets` octets of the reply: it needs its header and its question to
-/// be one.
+/// The verdict on the first `octets` octets of the reply. A reply needs header and question.
 fn wanted(octets: usize) -> Verdict {
     match octets {
         0..=26 => Verdict::Stranger,

@@ -1,5 +1,4 @@
-//! The octets that a TCP stream is still to take: one that takes a part, nothing, all, and one that
-//! fails.
+//! Octets that a TCP stream has yet to take. The stream takes a part, nothing or all, or fails.
 
 use linked_list_allocator::LocalHeap;
 use plain_values::PlainList;
@@ -10,7 +9,7 @@ use std::io::{ErrorKind, Write};
 use std::test::Fail;
 use tcp_frames::Unsent;
 
-/// A stream that takes at most `most` octets of a write, and fails where that is `None`.
+/// A stream taking at most `most` octets of a write; for `None` a write fails.
 #[derive(Drop)]
 struct Slow {
     most: Option<usize>,
@@ -32,8 +31,8 @@ impl Write for Slow {
     }
 }
 
-/// Each write of "abcdefgh": the most octets that the stream takes, where it doesn't fail; the
-/// number that it took, or how it failed; and the number left then.
+/// Each write of "abcdefgh": the most octets that the stream takes, or `None` for a failure; the
+/// number taken, or the error; and the number left.
 const WRITES: [(Option<usize>, Result<usize, ErrorKind>, usize); 6] = [
     (Some(0), Ok(0), 8),
     (Some(3), Ok(3), 5),
@@ -43,7 +42,7 @@ const WRITES: [(Option<usize>, Result<usize, ErrorKind>, usize); 6] = [
     (Some(9), Ok(1), 0),
 ];
 
-/// The result of a write: a number of octets, or an error of this kind.
+/// The result of a write: a number of octets, or the kind of error.
 fn sent(unsent: &mut Unsent<Global>, stream: &mut Slow) -> Result<usize, ErrorKind> {
     unsent.send(stream).map_err(|error| error.kind())
 }
@@ -67,12 +66,12 @@ fn a_stream_takes_a_part_and_nothing_and_fails(rt: HostRuntime) -> Result<(), Fa
     Ok(())
 }
 
-/// The octets of a memory that counts those in use.
+/// The size of a memory that reports the octets in use.
 const MEMORY: usize = 1 << 16;
 
-/// A stream that took most of what it was given: those octets are forgotten with the next that are
-/// put after them, which takes one allocation; where that is refused, all is as it was. Once the
-/// stream took all, their memory is free again.
+/// After a stream took most octets, the taken octets are dropped when further octets are put, with
+/// a single allocation. If that allocation is refused, nothing changes. Once the stream took all,
+/// the memory is free again.
 #[test]
 fn what_a_stream_took_is_forgotten(rt: HostRuntime) -> Result<(), Fail> {
     let memory = LocalHeap::new(rt.alloc(), MEMORY)?;

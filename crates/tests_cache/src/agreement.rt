@@ -50,7 +50,7 @@ fn entry_of(held: Option<&Held>) -> Option<Entry> {
     })
 }
 
-/// One of the values, by a word.
+/// A value, chosen by a word.
 fn pick<T: Copy>(values: &[T], word: u32) -> Option<T> {
     values.get(word as usize % values.len().max(1)).copied()
 }
@@ -64,7 +64,7 @@ fn denial_by(word: u32) -> Option<Denial<'static>> {
     })
 }
 
-/// Offers the denial to the cache and to the list; whether their answers are equal.
+/// Offers the denial to the cache and to the list, and returns whether the answers are equal.
 fn offer_both(
     alloc: Global,
     cache: &mut Cache<DefaultHasher>,
@@ -82,7 +82,7 @@ fn offer_both(
     Ok(denial.offer(alloc, cache, moment)? == answer)
 }
 
-/// Makes a random call of the cache and of the list; whether their answers agree.
+/// Makes a random call of the cache and of the list, and returns whether the answers agree.
 fn call_both(
     alloc: Global,
     cache: &mut Cache<DefaultHasher>,
@@ -141,8 +141,8 @@ fn are_the_same(
     )
 }
 
-/// The first of the random calls that the cache and the list answer differently, and the first
-/// after which they differ, if any. Another capacity has other calls.
+/// The first random call with differing answers of cache and list, and the first call with
+/// differing contents afterwards, if any. Another capacity has other calls.
 fn partings(
     alloc: Global,
     cache: &mut Cache<DefaultHasher>,
@@ -161,18 +161,17 @@ fn partings(
     Ok((None, None))
 }
 
-/// The number of entries that a clear of the cache leaves, and whether there is a name error then.
+/// The number of entries left by a clear of the cache, and whether a name error is left.
 fn left(cache: &mut Cache<DefaultHasher>) -> (usize, bool) {
     cache.clear();
     (cache.len(), cache.has_name_error(10))
 }
 
-/// Two calls with which a cache and a list part, if any; then the number of entries that are left
-/// once the cache is cleared, and whether there is a name error.
+/// The result of [`partings`], then the result of [`left`].
 type Compared = ((Option<u64>, Option<u64>), (usize, bool));
 
 /// Compares a new cache with a new list of this capacity. Both are forgotten: dropping them would
-/// have to be proved here.
+/// need a proof here.
 fn compared_anew(alloc: Global, capacity: usize) -> Result<Compared, Fail>
     requires { 0 < capacity }
 {

@@ -1,4 +1,4 @@
-//! Copies of what replies carry, and what is kept of one.
+//! Copies of replies' pieces, and the kept copy of a piece.
 
 use crate::samples::{ADDRESS, ALIAS, NAME_ERROR, NO_DATA, pieces_of};
 use dns_message::{DataRef, Record};
@@ -9,7 +9,7 @@ use std::mem::forget;
 use std::test::Fail;
 use trust_rank::{Body, Piece, Rows, Slot};
 
-/// Whether the data are the same, in the same order.
+/// Whether the data is equal, order included.
 fn is_same_rows(rows: &Rows, others: &Rows) -> bool {
     match (rows.data(), others.data()) {
         (DataRef::Row(row), DataRef::Row(other)) => row.octets() == other.octets(),
@@ -32,7 +32,7 @@ fn is_same_record(record: &Record, other: &Record) -> bool {
         && record.rdata.octets() == other.rdata.octets()
 }
 
-/// Whether both have one, and they are the same.
+/// Whether both have an SOA, and the SOAs are equal.
 fn is_same_soa(soa: &Option<Box<Record>>, other: &Option<Box<Record>>) -> bool {
     match (soa, other) {
         (Some(soa), Some(other)) => is_same_record(soa.as_ref(), other.as_ref()),
@@ -49,8 +49,8 @@ fn is_same_body(body: &Body, other: &Body) -> bool {
     }
 }
 
-/// Whether each part is the same: owner as it is spelled, slot, data, lifetime, rank and route. A
-/// denial has an SOA.
+/// Whether each part is equal: owner as spelled, slot, data, lifetime, rank and route. A denial has
+/// an SOA.
 fn is_same(piece: &Piece, other: &Piece) -> bool {
     piece.owner.octets() == other.owner.octets()
         && piece.slot() == other.slot()
@@ -60,13 +60,13 @@ fn is_same(piece: &Piece, other: &Piece) -> bool {
         && piece.route == other.route
 }
 
-/// Whether the copy of a piece is equal to the piece.
+/// Whether a piece's copy equals the piece.
 fn is_copied(alloc: Global, piece: &Piece) -> Result<bool, Fail> {
     let copy = piece.copy(alloc)?;
     Ok(is_same(&copy, piece))
 }
 
-/// The number of pieces, and the number of their equal copies.
+/// The number of pieces, and the number of equal copies.
 fn equal_copies(alloc: Global, pieces: &[Piece]) -> Result<(usize, usize), Fail> {
     let mut equal = 0usize;
     for piece in pieces {
@@ -75,13 +75,13 @@ fn equal_copies(alloc: Global, pieces: &[Piece]) -> Result<(usize, usize), Fail>
     Ok((pieces.len(), equal))
 }
 
-/// The number of the pieces that a reply carries, and the number of their equal copies.
+/// The number of a reply's pieces, and the number of equal copies.
 fn equal_copies_of(alloc: Global, digits: &str) -> Result<(usize, usize), Fail> {
     let pieces = pieces_of(alloc, digits)?;
     equal_copies(alloc, pieces.as_slice())
 }
 
-/// An alias and a set of two addresses, NODATA with its SOA, and a name error with its own.
+/// An alias and a set of two addresses, NODATA with an SOA, and a name error with an SOA.
 #[test]
 fn copies_are_equal_in_each_part(rt: HostRuntime) -> Result<(), Fail> {
     let alloc = rt.alloc();
@@ -93,8 +93,8 @@ fn copies_are_equal_in_each_part(rt: HostRuntime) -> Result<(), Fail> {
     Ok(())
 }
 
-/// Whether the piece is that of the first worked reply: the address 198.51.100.5 of `a.example`,
-/// for 300 seconds, of rank 3.
+/// Whether the piece is the first worked reply's: the address 198.51.100.5 of `a.example`, for 300
+/// seconds, of rank 3.
 fn is_worked(piece: &Piece) -> bool {
     let is_address = match &piece.body {
         Body::Rows(rows) => match rows.data() {
@@ -110,9 +110,9 @@ fn is_worked(piece: &Piece) -> bool {
         && (piece.lifetime, piece.rank, piece.route.place) == (300, 3, 0)
 }
 
-/// The cache gets a copy of the only piece: the number of entries before, the result of the offer,
-/// the number after, and whether the cache has the worked piece in its slot, accepted at the moment
-/// of the offer.
+/// Offers the cache a copy of the only piece. Returns the number of entries before, the offer's
+/// result, the number after, and whether the cache has the worked piece in its slot, accepted at
+/// the offer's moment.
 fn offered_copy(
     alloc: Global,
     cache: &mut Cache<DefaultHasher>,
@@ -130,7 +130,8 @@ fn offered_copy(
     Ok((before, answer, cache.len(), is_found))
 }
 
-/// The result of [`offered_copy`] for a new cache with room for two entries, which is forgotten.
+/// The result of [`offered_copy`] for a new cache with room for two entries. The cache is
+/// forgotten.
 fn offered_to_new(alloc: Global, pieces: &[Piece]) -> Result<(usize, Offered, usize, bool), Fail> {
     let mut cache = Cache::new(alloc, 2, DefaultHasher::default())?;
     let offered = offered_copy(alloc, &mut cache, pieces);
@@ -138,7 +139,7 @@ fn offered_to_new(alloc: Global, pieces: &[Piece]) -> Result<(usize, Offered, us
     offered
 }
 
-/// The result of [`offered_copy`] for a new cache and the piece of the first worked reply.
+/// The result of [`offered_copy`] for a new cache and the first worked reply's piece.
 fn offered_of_worked(alloc: Global) -> Result<(usize, Offered, usize, bool), Fail> {
     let pieces = pieces_of(alloc, ADDRESS)?;
     offered_to_new(alloc, pieces.as_slice())

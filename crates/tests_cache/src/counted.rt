@@ -1,5 +1,5 @@
-//! A look-up computes few hashes, however many labels the name has, and the promotion after it
-//! none.
+//! A look-up computes few hashes, however many labels the name has. The promotion afterwards
+//! computes none.
 
 use crate::samples::{CONFIG, Denial, found_stale};
 use dns_name::{Name, NameFault};
@@ -13,7 +13,7 @@ use std::mem::forget;
 use std::test::Fail;
 use suffix_routes::Config;
 
-/// Counts the hashers that it makes: one for each hash.
+/// Counts the hashers made, a hasher for each hash.
 #[derive(Drop)]
 struct Counting<'a, S> {
     begun: &'a Cell<u64>,
@@ -31,22 +31,22 @@ impl<'a, S: BuildHasher> BuildHasher for Counting<'a, S> {
     }
 }
 
-/// A name of 127 labels, which is the longest (RFC 1035 2.3.4): of 254 octets, without the root's.
+/// The longest name, of 127 labels (RFC 1035 2.3.4): 254 octets, without the root's.
 const LONGEST: &str =
     "a.a.a.a.a.a.a.a.a.a.a.a.a.a.a.a.a.a.a.a.a.a.a.a.a.a.a.a.a.a.a.a.a.a.a.a.a.a.a.a.a.a.\
 a.a.a.a.a.a.a.a.a.a.a.a.a.a.a.a.a.a.a.a.a.a.a.a.a.a.a.a.a.a.a.a.a.a.a.a.a.a.a.a.a.a.\
 a.a.a.a.a.a.a.a.a.a.a.a.a.a.a.a.a.a.a.a.a.a.a.a.a.a.a.a.a.a.a.a.a.a.a.a.a.a.a.a.a.a.a";
 
-/// Denied names of ten octets, ten, and two, none of them at or above the longest name. The first
-/// ends otherwise. The second ends in the last eight octets of the longest name.
+/// Denied names of ten octets, ten, and two, none at or above the longest name. The first has
+/// another ending. The second ends in the longest name's last eight octets.
 const DENIED: [&str; 3] = ["x.example", "b.a.a.a.a", "b"];
 
-/// The most hashes of a call: one for the set, one for an alias, and one for each size that a
-/// denied name has.
+/// The most hashes of a call: one for the set, one for an alias, and one for each size of a denied
+/// name.
 const MOST: u64 = 4;
 
-/// The number of hashes of each call: a look-up, one that takes expired entries too, and `shown`.
-/// Both look-ups have to miss.
+/// The hashes of three calls: a look-up, a look-up of expired entries too, and `shown`. Both
+/// look-ups have to miss.
 fn begun_by(
     begun: &Cell<u64>,
     cache: &mut Cache<Counting<'_, DefaultHasher>>,
@@ -71,8 +71,7 @@ fn begun_by(
     }
 }
 
-/// The number of hashes of each call for the longest name, in this cache, which gets the denied
-/// names.
+/// The hashes of each call for the longest name, after offering the denied names to this cache.
 fn begun_for_the_longest(
     alloc: Global,
     begun: &Cell<u64>,
@@ -86,7 +85,7 @@ fn begun_for_the_longest(
     Ok(begun_by(begun, cache, &name, config))
 }
 
-/// The number of hashes of a look-up that finds a denied name, and of the promotion after it.
+/// The hashes of a denied name's look-up, and of the promotion afterwards.
 fn begun_by_use(
     alloc: Global,
     begun: &Cell<u64>,
@@ -107,8 +106,8 @@ fn begun_by_use(
     }
 }
 
-/// The number of hashes of the look-up of a denied name, and of the promotion after it, in a new
-/// cache. The cache is forgotten.
+/// The hashes of a denied name's look-up, and of the promotion afterwards, in a new cache. The
+/// cache is forgotten.
 fn begun_by_use_in_new(alloc: Global) -> Result<Option<[u64; 2]>, Fail> {
     let begun = Cell::new(0);
     let hasher = Counting {
@@ -121,7 +120,7 @@ fn begun_by_use_in_new(alloc: Global) -> Result<Option<[u64; 2]>, Fail> {
     counts
 }
 
-/// The result of [`begun_for_the_longest`] in a new cache, which is forgotten.
+/// The result of [`begun_for_the_longest`] in a new cache. The cache is forgotten.
 fn begun_in_new(alloc: Global, config: &Config) -> Result<Option<[u64; 3]>, Fail> {
     let begun = Cell::new(0);
     let hasher = Counting {
@@ -134,8 +133,7 @@ fn begun_in_new(alloc: Global, config: &Config) -> Result<Option<[u64; 3]>, Fail
     counts
 }
 
-/// The result of [`begun_for_the_longest`] in a new cache, with a configuration that serves all
-/// names.
+/// The result of [`begun_for_the_longest`] in a new cache, with a configuration serving all names.
 fn begun(alloc: Global) -> Result<Option<[u64; 3]>, Fail> {
     let config = Config::read(alloc, alloc, CONFIG)?;
     begun_in_new(alloc, &config)

@@ -11,10 +11,10 @@ use std::test::Fail;
 use suffix_routes::Config;
 use trust_rank::Piece;
 
-/// Names whose address is asked for, the finding of each a second after it was kept, and the
-/// finding with a window of an hour when all have expired: the set five minutes and the alias one
-/// minute after it was kept, so that both are within the window, and the denials after an hour.
-/// Names under `lan` are denied by the configuration, which only a look-up of what is alive shows.
+/// Names, each looked up for an address: the finding a second after acceptance, and the finding
+/// after expiry, with a window of an hour. The set expires after five minutes, the alias after a
+/// minute, both within the window; the denials expire after an hour. The configuration denies names
+/// under `lan`; only the look-up of living entries reports so.
 const LOOK_UPS: [(&str, &str, &str); 6] = [
     ("h.Lan", "local", "miss"),
     ("B.example", "rows", "rows"),
@@ -36,8 +36,8 @@ fn word(found: &Found<'_>) -> &'static str {
     }
 }
 
-/// Offers pieces, an alias `a.example` and the addresses of `b.example`; then NODATA of `n.example`
-/// and a name error of `x.example`.
+/// Offers the pieces, an alias `a.example` and the addresses of `b.example`; then NODATA of
+/// `n.example` and a name error of `x.example`.
 fn fill(alloc: Global, cache: &mut Cache<DefaultHasher>, pieces: &[Piece]) -> Result<(), Fail> {
     for piece in pieces {
         cache.offer(piece.copy(alloc)?, 1000);
@@ -47,7 +47,7 @@ fn fill(alloc: Global, cache: &mut Cache<DefaultHasher>, pieces: &[Piece]) -> Re
     Ok(())
 }
 
-/// The findings of a name, alive and expired.
+/// A name's findings, alive and expired.
 fn words(
     alloc: Global,
     cache: &Cache<DefaultHasher>,
@@ -60,8 +60,8 @@ fn words(
     Ok((word(&found), word(&expired)))
 }
 
-/// The number of look-ups that find what they have to, alive and expired, in this cache, which gets
-/// these pieces and denials.
+/// The number of right look-ups, alive and expired, after offering the pieces and denials to this
+/// cache.
 fn right_look_ups(
     alloc: Global,
     cache: &mut Cache<DefaultHasher>,
@@ -87,8 +87,8 @@ fn right_in_new(alloc: Global, config: &Config, pieces: &[Piece]) -> Result<(usi
     right
 }
 
-/// The number of right look-ups, alive and expired, with the pieces of a reply and a configuration
-/// that denies.
+/// The number of right look-ups, alive and expired, with a reply's pieces and a denying
+/// configuration.
 fn right(alloc: Global) -> Result<(usize, usize), Fail> {
     let config = Config::read(alloc, alloc, DENYING)?;
     let pieces = pieces_of(alloc, ALIAS)?;

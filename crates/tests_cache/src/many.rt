@@ -13,19 +13,19 @@ use trust_rank::{Body, Piece, Slot};
 
 type Heap<'a> = &'a Refusing<Global>;
 
-/// The slot of the addresses of the name with this number.
+/// The slot of the numbered name's addresses.
 fn slot_numbered(heap: Heap<'_>, number: u32) -> Result<Slot, Fail> {
     let name = format!(in heap; "n{number}.example")?;
     Ok(Denial::of(name.as_str(), Some(1)).slot(heap)?)
 }
 
-/// An address of the name with this number.
+/// An address of the numbered name.
 fn set_numbered<'a>(heap: Heap<'a>, number: u32) -> Result<Piece<Heap<'a>>, Fail> {
     let name = format!(in heap; "n{number}.example")?;
     set(heap, name.as_str())
 }
 
-/// The cache holds an address of the name with this number.
+/// Whether the cache holds an address of the numbered name.
 fn holds_set_numbered<'a>(
     heap: Heap<'a>,
     cache: &Cache<DefaultHasher, Heap<'a>>,
@@ -38,8 +38,8 @@ fn holds_set_numbered<'a>(
     }
 }
 
-/// Offers an address of the name with this number, with one allocation more granted from try to
-/// try; whether each refusal left the cache as it was, and the last try kept it.
+/// Offers an address of the numbered name, with one more allocation granted at each try. Returns
+/// whether each refusal left the cache unchanged, and the last try kept the address.
 fn is_kept_at_last<'a>(
     heap: Heap<'a>,
     cache: &mut Cache<DefaultHasher, Heap<'a>>,
@@ -60,16 +60,16 @@ fn is_kept_at_last<'a>(
     Ok(false)
 }
 
-/// The names that a cache gets.
+/// The names offered to a cache.
 #[derive(Clone, Copy)]
 enum Names {
-    /// One name more than a cache for 4,096 entries holds.
+    /// One name too many for a cache of 4,096 entries.
     OneTooMany,
     /// 4,200 in the largest cache, with each allocation refused in turn.
     Refused,
 }
 
-/// Whether an address of the name with this number is kept as it has to be.
+/// Whether an address of the numbered name is kept as required.
 fn is_kept<'a>(
     heap: Heap<'a>,
     cache: &mut Cache<DefaultHasher, Heap<'a>>,
@@ -82,7 +82,7 @@ fn is_kept<'a>(
     }
 }
 
-/// The first of `count` names that is not kept as it has to be, if any.
+/// The first of `count` names not kept as required, if any.
 fn first_unkept<'a>(
     heap: Heap<'a>,
     cache: &mut Cache<DefaultHasher, Heap<'a>>,
@@ -97,8 +97,8 @@ fn first_unkept<'a>(
     Ok(None)
 }
 
-/// The first and the last of `count` names that the cache holds; `None` if it holds none, or not
-/// all between them.
+/// The first and the last held name of `count` names; `None` if none is held, or not all names
+/// between.
 fn held_of<'a>(
     heap: Heap<'a>,
     cache: &Cache<DefaultHasher, Heap<'a>>,
@@ -117,11 +117,11 @@ fn held_of<'a>(
     Ok(held)
 }
 
-/// The contents of a cache that got many names: the first name that was not kept, the number of
-/// entries, and the first and the last name that the cache holds.
+/// The contents after offering many names: the first name not kept, the number of entries, and the
+/// first and the last held name.
 type Seen = (Option<u32>, usize, Option<(u32, u32)>);
 
-/// The contents of this cache, which gets `count` names.
+/// The contents of this cache after offering `count` names.
 fn seen_in<'a>(
     heap: Heap<'a>,
     cache: &mut Cache<DefaultHasher, Heap<'a>>,
@@ -132,8 +132,8 @@ fn seen_in<'a>(
     Ok((unkept, cache.len(), held_of(heap, cache, count)?))
 }
 
-/// The contents of a new cache, which gets `count` names. The cache is forgotten: dropping it would
-/// have to be proved here.
+/// The contents of a new cache after offering `count` names. The cache is forgotten: dropping it
+/// would need a proof here.
 fn seen_in_new(heap: Heap<'_>, capacity: usize, names: Names, count: u32) -> Result<Seen, Fail>
     requires { 0 < capacity }
 {

@@ -13,8 +13,8 @@ use suffix_routes::Config;
 
 type Heap<'a> = &'a Refusing<Global>;
 
-/// Whether a new cache is made with `growths` allocations granted. It is forgotten: dropping it
-/// would have to be proved here.
+/// Whether a new cache is made with `growths` allocations granted. The cache is forgotten: dropping
+/// it would need a proof here.
 fn is_made(heap: Heap<'_>, growths: u64) -> bool {
     heap.allow(growths);
     let made = Cache::new(heap, 2, DefaultHasher::default());
@@ -23,7 +23,7 @@ fn is_made(heap: Heap<'_>, growths: u64) -> bool {
     is_made
 }
 
-/// The number of allocations of a new cache that are refused one after another, until it is made.
+/// The number of a new cache's allocations, refused in turn.
 fn refused_of_new(alloc: Global) -> u64 {
     let heap = Refusing::new(alloc);
     for growths in 0..100u64 {
@@ -43,7 +43,7 @@ fn each_growth_of_a_new_cache_is_refused(rt: HostRuntime) {
     );
 }
 
-/// Offers a denial with `growths` allocations granted, its own octets aside.
+/// Offers a denial with `growths` allocations granted, besides the denial's own octets.
 fn offer_within<'a>(
     heap: Heap<'a>,
     growths: u64,
@@ -61,30 +61,30 @@ fn offer_within<'a>(
 /// The calls of a new cache for two entries.
 #[derive(Clone, Copy)]
 enum Calls {
-    /// A name is offered, and a second one with this number of allocations granted.
+    /// A name is offered, then a second name with this number of allocations granted.
     Second(u64),
-    /// A set is offered, and no allocation is granted to offers at its slot.
+    /// A set is offered, then offers at the set's slot have no allocation granted.
     SameSlot,
-    /// The cache is cleared, with one allocation granted.
+    /// The cache is cleared, with a single allocation granted.
     ClearUnused,
-    /// All calls that do not allocate are made, with one allocation granted.
+    /// All calls without allocations are made, with a single allocation granted.
     Others,
-    /// Names are looked up, with one allocation granted.
+    /// Names are looked up, with a single allocation granted.
     LookUps,
 }
 
 /// The result of these calls.
 #[derive(Clone, Copy, PartialEq, Eq, Debug)]
 enum Came {
-    /// The calls do all that they have to do.
+    /// The calls do all that is required.
     Whole,
-    /// The second name is not kept, and the cache is as it was.
+    /// The second name is not kept, and the cache is unchanged.
     Unkept,
-    /// The call with this number, from 0, did anything else.
+    /// The call with this number, from 0, fails otherwise.
     Other(usize),
 }
 
-/// The result, if these are as they have to be.
+/// `Whole` if the calls went as required.
 const fn came_if(is_whole: bool) -> Came {
     if is_whole {
         Came::Whole
@@ -114,8 +114,7 @@ fn came_of_second<'a>(
     }
 }
 
-/// Offers at the slot of a set of rank 3 and 300 seconds: the rank and the lifetime of each, and
-/// how it ends.
+/// Offers at the slot of a set of rank 3 and 300 seconds: each rank, lifetime and result.
 const OFFERS: [(u8, u16, Offered); 5] = [
     (1, 300, Offered::Outranked),
     (3, 300, Offered::Kept),
@@ -143,7 +142,7 @@ fn came_of_same_slot<'a>(
     Ok(Came::Whole)
 }
 
-/// Whether one allocation is left, and no more.
+/// Whether exactly one allocation is left.
 fn is_one_left(heap: Heap<'_>) -> bool {
     Box::new(heap, 0u8).is_ok() && Box::new(heap, 0u8).is_err()
 }
@@ -169,8 +168,8 @@ fn came_of_others<'a>(
     Ok(came_if(is_there && is_one_left(heap)))
 }
 
-/// A name that the configuration denies, one under a name error and one next to it are found as
-/// they have to be, and the second one is shown, all with one allocation granted, which is left.
+/// Looks up a name denied by the configuration, a name under a name error, and a name next to it,
+/// and shows the second. All succeed with a single allocation granted, and leave it.
 fn are_found<'a>(
     heap: Heap<'a>,
     cache: &mut Cache<DefaultHasher, Heap<'a>>,
@@ -209,7 +208,7 @@ fn came_of_look_ups<'a>(
     Ok(came_if(are_found(heap, cache, config, &names)))
 }
 
-/// The result of these calls of this cache, with a configuration.
+/// The result of these calls for this cache, with a configuration.
 fn came_of<'a>(
     heap: Heap<'a>,
     cache: &mut Cache<DefaultHasher, Heap<'a>>,
@@ -225,7 +224,7 @@ fn came_of<'a>(
     }
 }
 
-/// The result of these calls of a new cache, which is forgotten.
+/// The result of these calls for a new cache. The cache is forgotten.
 fn came_of_new<'a>(heap: Heap<'a>, config: &Config<Heap<'a>>, calls: Calls) -> Result<Came, Fail> {
     let mut cache = Cache::new(heap, 2, DefaultHasher::default())?;
     let came = came_of(heap, &mut cache, config, calls);
@@ -233,15 +232,15 @@ fn came_of_new<'a>(heap: Heap<'a>, config: &Config<Heap<'a>>, calls: Calls) -> R
     Ok(came?)
 }
 
-/// The result of these calls of a new cache, with a configuration that denies.
+/// The result of these calls for a new cache, with a denying configuration.
 fn done(alloc: Global, calls: Calls) -> Result<Came, Fail> {
     let heap = Refusing::new(alloc);
     let config = Config::read(alloc, &heap, DENYING)?;
     came_of_new(&heap, &config, calls)
 }
 
-/// The number of allocations of the second offer that are refused one after another, until it is
-/// kept, and the result then.
+/// The number of the second offer's allocations, refused in turn until the offer is kept, and the
+/// result then.
 fn refused_of_second(alloc: Global) -> Result<(u64, Came), Fail> {
     for growths in 0..100u64 {
         let came = done(alloc, Calls::Second(growths))?;
@@ -272,7 +271,7 @@ fn a_cache_that_was_never_used_is_cleared_without_memory(rt: HostRuntime) -> Res
     Ok(())
 }
 
-/// One allocation is granted, and stays unspent over all calls that do not allocate.
+/// A single granted allocation stays unspent over all calls without allocations.
 #[test]
 fn other_calls_take_no_memory(rt: HostRuntime) -> Result<(), Fail> {
     assert_eq!(rt; done(rt.alloc(), Calls::Others)?, Came::Whole);

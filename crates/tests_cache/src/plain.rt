@@ -4,7 +4,7 @@ use record_cache::Offered;
 use std::alloc::{AllocError, Global};
 use trust_rank::Slot;
 
-/// The fields of an entry that are compared.
+/// The compared fields of an entry.
 #[derive(Clone, Copy, Debug, PartialEq, Eq)]
 pub(crate) struct Entry {
     pub rank: u8,
@@ -69,7 +69,7 @@ impl PlainCache {
         Ok(Offered::Kept)
     }
 
-    /// Whether a name error is there.
+    /// Whether any name error is held.
     pub(crate) fn has_name_error(&self) -> bool {
         self.entries.iter().any(|pair| pair.0.kind.is_none())
     }

@@ -14,14 +14,14 @@ use std::test::Fail;
 use suffix_routes::{Config, RouteId};
 use trust_rank::{Body, Piece, Rows, Slot, pieces};
 
-/// One route for all names.
+/// A single route for all names.
 pub(crate) const CONFIG: &str = r#"version = 1
 [[route]]
 suffix = "."
 servers = ["192.0.2.1:53"]
 "#;
 
-/// One route for all names, and one that denies the names under `lan`.
+/// A route for all names, and a route denying the names under `lan`.
 pub(crate) const DENYING: &str = r#"version = 2
 [[route]]
 suffix = "."
@@ -35,21 +35,20 @@ deny = true
 pub(crate) const ADDRESS: &str =
     "0008850000010001000000000161076578616d706c650000010001c00c000100010000012c0004c6336405";
 
-/// The address of a.example is asked for. It is an alias of b.example, which has two addresses; and
-/// there is a name server of example.
+/// A reply to a question for a.example's address. a.example is an alias of b.example; b.example has
+/// two addresses. The authority section has a name server of example.
 pub(crate) const ALIAS: &str =
     "0008850000010003000100000161076578616d706c650000010001c00c000500010000003c00040162c00ec027000100010000012c0004c6336405c02700010001000002580004c6336406c00e0002000100000e100005026e73c00e";
 
-/// The name x.example is not there: TTL 3,600 and MINIMUM 600.
+/// The name x.example does not exist: TTL 3,600 and MINIMUM 600.
 pub(crate) const NAME_ERROR: &str =
     "0008850300010000000100000178076578616d706c650000010001c00e0006000100000e10001d026e73c00e0168c00e0000000100000002000000030000000400000258";
 
-/// The name x.example has no address: with the same SOA.
+/// The name x.example has no address: with an equal SOA.
 pub(crate) const NO_DATA: &str =
     "0008850000010000000100000178076578616d706c650000010001c00e0006000100000e10001d026e73c00e0168c00e0000000100000002000000030000000400000258";
 
-/// A denial without SOA: of a type (NODATA), or of the whole name (a name error) where there is
-/// none.
+/// A denial without SOA: of a type (NODATA), or, without a type, of the whole name (a name error).
 #[derive(Clone, Copy)]
 pub(crate) struct Denial<'a> {
     pub owner: &'a str,
@@ -60,7 +59,7 @@ pub(crate) struct Denial<'a> {
 }
 
 impl<'a> Denial<'a> {
-    /// Of a type and an hour.
+    /// A denial of an hour.
     pub(crate) fn of(owner: &'a str, kind: Option<u16>) -> Denial<'a> {
         Denial {
             owner,
@@ -83,7 +82,7 @@ impl<'a> Denial<'a> {
         Ok(piece_of(owner, self.kind, self.lifetime, self.rank))
     }
 
-    /// Offers it at a moment.
+    /// Offers the denial at a moment.
     pub(crate) fn offer<A: Allocator + Copy>(
         self,
         alloc: A,
@@ -110,7 +109,7 @@ fn piece_of<A: Allocator>(owner: Name<A>, kind: Option<u16>, lifetime: u16, rank
     }
 }
 
-/// The addresses of a name: one of them, for five minutes.
+/// A name's addresses: a single address, for five minutes.
 pub(crate) fn set<A: Allocator + Copy>(alloc: A, owner: &str) -> Result<Piece<A>, Fail> {
     let owner = Name::from_text(alloc, owner)?;
     let mut rows = PlainList::new(alloc);
@@ -132,7 +131,7 @@ fn set_of<A: Allocator>(owner: Name<A>, rows: Rows<A>) -> Piece<A>
     }
 }
 
-/// The pieces that a message carries as the reply to its own question.
+/// The pieces of a message, taken as the reply to its own question.
 fn pieces_in(
     alloc: Global,
     config: &Config,
@@ -145,15 +144,15 @@ fn pieces_in(
     Ok(walk.pieces)
 }
 
-/// The pieces that a message in hexadecimal digits carries as the reply to its own question, with a
-/// configuration that serves all names.
+/// The pieces of a message in hexadecimal digits, taken as the reply to its own question, with a
+/// configuration serving all names.
 pub(crate) fn pieces_of(alloc: Global, digits: &str) -> Result<PlainList<Piece, Global>, Fail> {
     let octets = hex::decode(alloc, digits)?;
     let config = Config::read(alloc, alloc, CONFIG)?;
     pieces_in(alloc, &config, &octets)
 }
 
-/// Looks up the address of a name, expired entries too, with a window in seconds.
+/// Looks up a name's address, expired entries too, with a window in seconds.
 pub(crate) fn found_stale<'a, H: BuildHasher + Drop, A: Allocator + Copy>(
     at: &CacheAt<'a, H, A>,
     name: &Name<A>,

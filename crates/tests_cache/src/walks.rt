@@ -1,4 +1,5 @@
-//! Replies in octets, and what no contract can say: that allocations succeed where there is memory.
+//! Replies in octets, and a fact that no contract can state: allocations succeed if there is
+//! memory.
 
 ghost use Rattle.dns_message.specs.Messages.{HasShapes};
 
@@ -10,10 +11,10 @@ use std::test::Fail;
 use suffix_routes::{Config, RouteId};
 use trust_rank::{Piece, pieces};
 
-/// Forty addresses of a.example are counted.
+/// A reply that counts forty addresses, up to the addresses.
 const FORTY: &str = "0008850000010028000000000161076578616d706c650000010001";
 
-/// Forty addresses of a.example: twenty, and then these twenty again.
+/// Forty addresses of a.example: twenty, then the twenty again.
 fn twenty_twice(heap: Global) -> Result<Vec<u8>, Fail> {
     let mut octets = hex::decode(heap, FORTY)?;
     for place in 0..40u8 {
@@ -27,7 +28,7 @@ fn twenty_twice(heap: Global) -> Result<Vec<u8>, Fail> {
 
 type Heap<'a> = &'a Refusing<Global>;
 
-/// The values that are made, with each allocation refused in turn.
+/// The values to make, with each allocation refused in turn.
 #[derive(Clone, Copy)]
 enum Made {
     /// The pieces of a reply.
@@ -36,10 +37,10 @@ enum Made {
     Copies,
 }
 
-/// For each value that is made the number of allocations that are refused one after another.
+/// For each value, the number of allocations refused in turn.
 type Refused = [Option<u64>; 3];
 
-/// The number of allocations of a copy.
+/// The number of a copy's allocations.
 fn refused_copies<'h>(heap: Heap<'h>, piece: &Piece<Heap<'h>>) -> u64 {
     for growths in 0..100u64 {
         heap.allow(growths);
@@ -52,7 +53,7 @@ fn refused_copies<'h>(heap: Heap<'h>, piece: &Piece<Heap<'h>>) -> u64 {
     100
 }
 
-/// The number of allocations of a copy of each piece.
+/// The number of allocations of each piece's copy.
 fn refused_of_copies<'h>(heap: Heap<'h>, pieces: &[Piece<Heap<'h>>]) -> Result<Refused, Fail> {
     let mut refused = [None; 3];
     if pieces.len() > refused.len() {
@@ -64,7 +65,7 @@ fn refused_of_copies<'h>(heap: Heap<'h>, pieces: &[Piece<Heap<'h>>]) -> Result<R
     Ok(refused)
 }
 
-/// The number of allocations of the pieces of this message as the reply to this question.
+/// The number of allocations of the pieces, with this message as the reply to this question.
 fn refused_of_pieces<'h>(
     heap: Heap<'h>,
     message: &Message<Heap<'h>>,
@@ -84,8 +85,7 @@ fn refused_of_pieces<'h>(
     200
 }
 
-/// The number of allocations of each value that is made of this message as the reply to this
-/// question.
+/// The number of allocations of each value, with this message as the reply to this question.
 fn refused_in<'h>(
     heap: Heap<'h>,
     message: &Message<Heap<'h>>,
@@ -107,8 +107,8 @@ fn refused_in<'h>(
     }
 }
 
-/// The number of allocations of each value that is made of a message in octets, as the reply to its
-/// own question.
+/// The number of allocations of each value, with a message in octets as the reply to its own
+/// question.
 fn refused_of<'h>(
     heap: Heap<'h>,
     config: &Config<Heap<'h>>,
@@ -121,15 +121,15 @@ fn refused_of<'h>(
     refused_in(heap, &message, &question, config, made)
 }
 
-/// The number of allocations of each value that is made of a message in octets, with a
-/// configuration that serves all names.
+/// The number of allocations of each value for a message in octets, with a configuration serving
+/// all names.
 fn refused_of_octets(alloc: Global, octets: &[u8], made: Made) -> Result<Refused, Fail> {
     let heap = Refusing::new(alloc);
     let config = Config::read(alloc, &heap, CONFIG)?;
     refused_of(&heap, &config, octets, made)
 }
 
-/// The number of allocations of each value that is made of a message in hexadecimal digits.
+/// The number of allocations of each value for a message in hexadecimal digits.
 fn refused_of_digits(alloc: Global, digits: &str, made: Made) -> Result<Refused, Fail> {
     let octets = hex::decode(alloc, digits)?;
     refused_of_octets(alloc, &octets, made)
@@ -153,8 +153,8 @@ fn each_growth_is_refused(rt: HostRuntime) -> Result<(), Fail> {
     Ok(())
 }
 
-/// Names and data of at most 30 octets do not allocate. One allocation goes to the list of a set of
-/// more than one record; those of a denial to the data of its SOA and to the box that it is in.
+/// Names and data up to 30 octets do not allocate. A set of several records takes an allocation for
+/// the list. A denial takes allocations for the SOA's data and for the SOA's box.
 #[test]
 fn each_growth_of_a_copy_is_refused(rt: HostRuntime) -> Result<(), Fail> {
     let alias = refused_of_digits(rt.alloc(), ALIAS, Made::Copies)?;

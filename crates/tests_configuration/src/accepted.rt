@@ -1,9 +1,9 @@
-//! The values of accepted texts, and the defaults where they say nothing.
+//! The values of accepted texts, and the defaults of missing keys.
 
 use std::test::Fail;
 use suffix_routes::{Config, Limits, Peer};
 
-/// A configuration that names as little as one may.
+/// A configuration with the required keys alone.
 const LEAST: &str = r#"version = 1
 [[route]]
 suffix = "."

@@ -3,7 +3,7 @@
 use std::test::Fail;
 use suffix_routes::{Config, Peer, Route};
 
-/// A route with two servers, and one that denies.
+/// A serving route with two servers, and a denying route.
 const TEXT: &str = r#"version = 2
 listen = "192.0.2.7:5353"
 [limits]
@@ -17,14 +17,14 @@ suffix = "Lan"
 deny = true
 "#;
 
-/// Whether two routes have the same parts, the suffix letter for letter.
+/// Whether two routes have equal parts, the suffix letter for letter.
 fn are_equal(one: &Route, other: &Route) -> bool {
     one.suffix.octets() == other.suffix.octets()
         && one.deny == other.deny
         && one.servers.as_slice() == other.servers.as_slice()
 }
 
-/// Whether the route at a place is the same in both.
+/// Whether the routes at a place are equal.
 fn are_equal_at(one: &Config, other: &Config, place: usize) -> bool {
     match (one.routes().get(place), other.routes().get(place)) {
         (Some(one), Some(other)) => are_equal(one, other),

@@ -5,7 +5,7 @@ use std::alloc::{AllocError, Global};
 use std::test::Fail;
 use suffix_routes::Config;
 
-/// A text up to where the reader of TOML stops, its rest, and the hint.
+/// A text up to the place at which the TOML reader stops, the rest, and the hint.
 const TEXTS: [(&str, &str, &str); 29] = [
     (
         "version = 1\n[limits]\ncache = ",
@@ -27,7 +27,7 @@ const TEXTS: [(&str, &str, &str); 29] = [
         "1h }\n",
         "digits alone, without quotation marks: it counts seconds",
     ),
-    // The number of tries counts tries; an array is of no limit.
+    // The limit `tries` counts tries; no limit is an array.
     (
         "version = 1\n[limits]\ntries = ",
         "4x\n",
@@ -95,7 +95,7 @@ const TEXTS: [(&str, &str, &str); 29] = [
         "a carriage return has no line feed after it",
     ),
     ("version = 1\n", "// text\n", "a comment begins with `#`"),
-    // A bracket, a quotation mark and a header that are not closed, after others that are.
+    // An open bracket, quotation mark and header, each after closed ones.
     (
         "version = 1\n[[route]]\nservers = [\"a\", \"b\"\n",
         "[[route]]\n",
@@ -116,8 +116,7 @@ const TEXTS: [(&str, &str, &str); 29] = [
         "\n",
         "what line 2, column 1 opens is not closed",
     ),
-    // Nothing is known: a missing comma, a value that is missing, a further value, an octet that is
-    // no text.
+    // No hint: a missing comma, a missing value, a further value, an octet of no text.
     ("servers = [\"a\" ", "\"b\"]\n", ""),
     ("version =", "\n", ""),
     ("version = 1 ", "2\n", ""),
@@ -192,9 +191,9 @@ const FAULTS: [(&str, &str); 34] = [
         "version = 1\nlisten = \"10.0.0.53:53, 10.0.0.54:53\"",
         "only one address can be given",
     ),
-    // One address, with a space in it.
+    // A single address, with a space inside.
     ("version = 1\nlisten = \"10.0.0.53 :53\"", ""),
-    // The fault of a number's range says itself what is allowed.
+    // The fault of a number's range already says the allowed range.
     ("version = 1\nlisten = \"192.0.2.256:53\"", ""),
     ("version = 1\nlisten = \"192.0.2.1005:53\"", ""),
     ("version = 1\nlisten = \"10.0.0.300:53\"", ""),
@@ -230,7 +229,7 @@ const FAULTS: [(&str, &str); 34] = [
         "version = 1\n[[route]]\nsuffix = \"corp.\u{435}xample\"",
         "'\u{435}' (U+0435) is Cyrillic among Latin letters: type the name again",
     ),
-    // A label that is Cyrillic as a whole is meant, whatever the other labels are.
+    // An entirely Cyrillic label is intended, whatever the other labels.
     (
         "version = 1\n[[route]]\nsuffix = \"corp.\u{440}\u{444}\"",
         "'\u{440}' is not ASCII: write the label in its form that begins with `xn--`",
@@ -242,7 +241,7 @@ const FAULTS: [(&str, &str); 34] = [
     ("version = 1\n[[route]]\nsuffix = \"a..b\"", ""),
 ];
 
-/// A server, and the hint for it.
+/// A server, and the hint.
 const SERVERS: [(&str, &str); 15] = [
     (
         "192.0.2.1:53 192.0.2.2:53",
@@ -283,11 +282,11 @@ const SERVERS: [(&str, &str); 15] = [
     ),
     ("fe80::1%eth0", "only addresses of IPv4 can be given"),
     ("dns.example@853", "an address is wanted, no name"),
-    // All addresses are none to ask.
+    // A wildcard address is no server's.
     ("*:53", ""),
 ];
 
-/// A table with a key that it may not have, and the hint for it.
+/// A table with a forbidden key, and the hint.
 const KEYS: [(&str, &str); 14] = [
     (
         "[limits]\nlisten = \"10.0.0.53:53\"",
@@ -310,7 +309,7 @@ const KEYS: [(&str, &str); 14] = [
         "`suffix` is a key of `[[route]]`",
     ),
     ("[[route]]\nTRIES = 1", "`tries` is a key of `[limits]`"),
-    // A key of the table itself comes first.
+    // Keys of the table itself come first.
     ("listen-address = \"\"", "did you mean `listen`?"),
     ("[limits]\ncache_size = 1", "did you mean `cache`?"),
     ("[[route]]\nserver = \"\"", "did you mean `servers`?"),
@@ -319,7 +318,7 @@ const KEYS: [(&str, &str); 14] = [
     ("dns = \"\"", ""),
 ];
 
-/// Whether this is the text of a hint, empty if there is none.
+/// Whether this is the hint's text, empty without a hint.
 fn is_said(heap: Global, hint: Option<Hint>, wanted: &str) -> Result<bool, AllocError> {
     match hint {
         Some(hint) => {
@@ -330,7 +329,7 @@ fn is_said(heap: Global, hint: Option<Hint>, wanted: &str) -> Result<bool, Alloc
     }
 }
 
-/// Whether this is the hint for a text that is no TOML.
+/// Whether this is the hint for a text of invalid TOML.
 fn is_said_of_text(
     heap: Global,
     before: &str,
@@ -404,7 +403,7 @@ fn keys(rt: HostRuntime) -> Result<(), Fail> {
     let far = hint_for_key(b"vrsn_", "`version`");
     let long = hint_for_key(b"a_key_that_is_longer_than_any", "`version`");
     let longer = hint_for_key(b"deadline_mss", "`deadline_ms`");
-    // As long as a key near the longest known key can be, which it does not begin with.
+    // A key of the greatest length near the longest known key, with another beginning.
     let longest = hint_for_key(b"dead_lines_ms", "`deadline_ms`");
     let least = hint_for_key(b"tris", "`cache`, `tries`, `trees`");
     assert_eq!(rt; near, Some(Hint::Nearly("version")));

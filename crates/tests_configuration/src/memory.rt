@@ -1,5 +1,5 @@
-//! Each allocation of a configuration and of its copy, and of a name that is made of labels, is
-//! refused once; then all of them are granted.
+//! Each allocation of a configuration, of its copy, and of a name made from labels is refused once.
+//! Then all allocations are granted.
 
 use dns_name::{Name, NameFault};
 use refusing_allocator::Refusing;
@@ -7,7 +7,7 @@ use std::alloc::{AllocError, Global};
 use std::test::Fail;
 use suffix_routes::{Config, ConfigFault};
 
-/// Two routes with one server each.
+/// Two routes with a server each.
 const SERVING: &str = r#"version = 1
 [[route]]
 suffix = "."
@@ -17,7 +17,7 @@ suffix = "corp.example"
 servers = ["192.0.2.9:53"]
 "#;
 
-/// A route with one server, and one that denies, whose suffix is too long to be kept in place.
+/// A route with a server, and a denying route with a suffix too long to be kept in place.
 const DENYING: &str = r#"version = 2
 [limits]
 stale_s = 600
@@ -29,7 +29,7 @@ suffix = "names-that-nobody-is-to-be-asked-for.example"
 deny = true
 "#;
 
-/// The number of routes of the configuration of a text and of its copy together.
+/// The sum of routes in a text's configuration and its copy.
 fn read_and_copied(
     table_heap: Global,
     heap: &Refusing<Global>,
@@ -57,7 +57,7 @@ fn each_growth_may_be_refused(rt: HostRuntime) {
     }
 }
 
-/// `count` labels of one letter each.
+/// `count` labels of a letter each.
 fn labels_of<'a>(
     heap: &'a Refusing<Global>,
     count: u8,
@@ -78,7 +78,7 @@ fn named_with(heap: &Refusing<Global>, labels: u8, growths: u64) -> Result<usize
     octets
 }
 
-/// Up to 30 octets do not allocate; more of them allocate once.
+/// A name up to 30 octets does not allocate; a longer name allocates once.
 #[test]
 fn each_growth_of_a_name_of_labels_may_be_refused(rt: HostRuntime) {
     let heap = Refusing::new(rt.alloc());

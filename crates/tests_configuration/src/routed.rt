@@ -1,10 +1,10 @@
-//! The routing of names by a configuration: served, denied, or by no route.
+//! A configuration's routing of names: served, denied, or without a route.
 
 use dns_name::Name;
 use std::test::Fail;
 use suffix_routes::{Config, Routing};
 
-/// A route for the names of an office, and one that denies some of them.
+/// A route for an office's names, and a route denying some.
 const TEXT: &str = r#"version = 2
 [[route]]
 suffix = "example"
@@ -14,13 +14,12 @@ suffix = "Gone.example"
 deny = true
 "#;
 
-/// Whether both ways to ask give the same for a name: the place of its route, `Some(9)` where that
-/// denies it, or none.
+/// Whether routing by name and by key agree: the route's place, `Some(9)` for a denial, or `None`.
 fn is_routed(config: &Config, name: &Name, place: Option<usize>) -> bool {
     place_of(config.routing(name)) == place && place_of(config.routing_of_key(&name.key())) == place
 }
 
-/// The place of the route that serves, 9 for a denial.
+/// The serving route's place, 9 for a denial.
 fn place_of(routing: Routing) -> Option<usize> {
     match routing {
         Routing::Served(route) => Some(route.place),

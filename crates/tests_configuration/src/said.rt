@@ -1,10 +1,10 @@
-//! The text of the first fault, as a person reads it.
+//! The first fault's text, for people.
 
 use std::alloc::{AllocError, Global};
 use std::test::Fail;
 use suffix_routes::Config;
 
-/// The beginning of a text of version 1 whose second route has the fault.
+/// The beginning of a text of version 1 with a fault in the second route.
 const ROUTE: &str = r#"version = 1
 [[route]]
 suffix = "."
@@ -12,7 +12,7 @@ servers = ["192.0.2.1:53"]
 [[route]]
 "#;
 
-/// The beginning of a text of version 2 whose second route has the fault.
+/// The beginning of a text of version 2 with a fault in the second route.
 const ROUTE_2: &str = r#"version = 2
 [[route]]
 suffix = "."
@@ -20,11 +20,10 @@ servers = ["192.0.2.1:53"]
 [[route]]
 "#;
 
-/// The beginning of a text, its rest, and the text of its first fault.
+/// A text's beginning, its rest, and the first fault's text.
 const SAID: [(&str, &str, &str); 43] = [
-    // The place where the TOML reader stopped: after the end where more is expected, otherwise at
-    // the character that can't be there, or at a key that is already there. A column counts
-    // characters.
+    // The place at which the TOML reader stopped: past the end if more is expected, otherwise at
+    // the wrong character or the repeated key. Columns count characters.
     (
         "version =",
         "",
@@ -118,8 +117,8 @@ const SAID: [(&str, &str, &str); 43] = [
         "\nroute = [{},{},{},{},{},{},{},{},{},{},{},{},{},{},{},{},{},{},{},{},{},{},{},{},{},{},{},{},{},{},{},{},{},{},{},{},{},{},{},{},{},{},{},{},{},{},{},{},{},{},{},{},{},{},{},{},{},{},{},{},{},{},{},{},{}]",
         "there are 65 routes, and have to be 1 to 64",
     ),
-    // The limit that version 2 has alone: in version 1 the version is what to change, at its own
-    // place and no other.
+    // A limit of version 2 alone. In version 1, the fault asks for version 2 only at the key's own
+    // place.
     (
         "version = 1",
         "\nlimits = { stale_s = 600 }",
@@ -201,7 +200,7 @@ const SAID: [(&str, &str, &str); 43] = [
         "suffix = \"a\"\nservers = [\"192.0.2.1:053\"]",
         "server 1 of route 2 is \"192.0.2.1:053\", and has to be four numbers from 0 to 255 with dots between, a colon, and a port from 1 to 65535",
     ),
-    // A route that denies.
+    // A denying route.
     (
         ROUTE,
         "suffix = \"lan\"\ndeny = true",
@@ -239,14 +238,14 @@ const SAID: [(&str, &str, &str); 43] = [
     ),
 ];
 
-/// The text that begins with `head` and goes on with `rest`.
+/// The text `head`, followed by `rest`.
 fn joined(heap: Global, head: &str, rest: &str) -> Result<String, AllocError> {
     let mut text = String::from_str(heap, head)?;
     text.push_str(rest)?;
     Ok(text)
 }
 
-/// The text of the fault of a configuration.
+/// The text of a configuration's fault.
 fn said_of(heap: Global, text: &str) -> Result<String, AllocError> {
     match Config::read(heap, heap, text) {
         Ok(_config) => Ok(String::new(heap)),

@@ -1,15 +1,15 @@
-//! The text that a fault quotes, and the texts of the faults of names.
+//! A fault's quoted text, and the texts of name faults.
 
 use dns_name::NameFault;
 use std::test::Fail;
 use suffix_routes::{ConfigFault, Excerpt};
 
-/// Texts, and how they are shown.
+/// Texts, and as shown.
 const SHOWN: [(&str, &str); 7] = [
     ("", "\"\""),
     ("a\nb\"\\\u{7}", "\"a\\nb\\\"\\\\\\u{7}\""),
     ("\u{e4}\u{20ac}", "\"\u{e4}\u{20ac}\""),
-    // 63, 64 and 65 octets; the last character of the fourth begins at octet 62 and has three
+    // 63, 64 and 65 octets; the fourth text's last character begins at octet 62 and has three.
     (
         "abcdefghiabcdefghiabcdefghiabcdefghiabcdefghiabcdefghiabcdefghi",
         "\"abcdefghiabcdefghiabcdefghiabcdefghiabcdefghiabcdefghiabcdefghi\"",

@@ -1,17 +1,17 @@
-//! Data of records: the name that it is, and data of a vector.
+//! Record data: the name in data, and data made from a vector.
 
 use dns_message::Rdata;
 use refusing_allocator::Refusing;
 use std::alloc::{AllocError, Allocator, Global};
 use std::test::Fail;
 
-/// Data, and the octets of the name that it is, without the zero octet at their end.
+/// Data, and the octets of the name in the data, without the final zero octet.
 const NAMES: [(&[u8], Option<&[u8]>); 2] = [
     (b"\x01a\x07example\x00", Some(b"\x01a\x07example")),
     (b"\xc63d\x05", None),
 ];
 
-/// Whether the name in the data is this one; for `None`, whether the data is no name.
+/// Whether the data is the wanted name; for `None`, whether the data is no name.
 fn has_name(alloc: Global, data: &[u8], wanted: Option<&[u8]>) -> Result<bool, AllocError> {
     let data = Rdata::from_octets(alloc, data)?;
     match data.name(alloc)? {
@@ -28,10 +28,10 @@ fn data_is_a_name_or_none(rt: HostRuntime) -> Result<(), Fail> {
     Ok(())
 }
 
-/// Numbers of octets of data that is made of a vector: up to 30 are kept in place.
+/// Lengths of vectors. Data up to 30 octets is kept in place.
 const LENGTHS: [u16; 4] = [3, 30, 31, 300];
 
-/// `length` octets, which count up.
+/// `length` octets, counting up.
 fn counting<A: Allocator>(alloc: A, length: u16) -> Result<Vec<u8, A>, AllocError> {
     let mut octets = Vec::new(alloc);
     for place in 0..length {
@@ -40,7 +40,8 @@ fn counting<A: Allocator>(alloc: A, length: u16) -> Result<Vec<u8, A>, AllocErro
     Ok(octets)
 }
 
-/// Whether data of a vector of `length` octets has these octets, where no allocation is granted.
+/// Whether data made from a vector of `length` octets has the vector's octets, without an
+/// allocation.
 fn is_made_in_place(heap: &Refusing<Global>, length: u16) -> Result<bool, AllocError> {
     heap.allow(u64::MAX);
     let octets = counting(heap, length)?;

@@ -1,4 +1,4 @@
-//! Values that are compared in each part, letter case included.
+//! Comparisons of values in each part, letter case included.
 
 use dns_message::{Message, Question, Record};
 use std::alloc::Allocator;

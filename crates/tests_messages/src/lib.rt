@@ -1,6 +1,6 @@
 //! Tests of `dns_message`: octets of worked replies, faults in their order, refused allocations,
-//! and a sweep over changed messages. There judging without allocation agrees with reading, and
-//! each message that can be read is written and read again.
+//! and a sweep over changed messages. In the sweep, judging without allocation agrees with reading,
+//! and each readable message is written and read again.
 #![tactic(auto)]
 
 #[cfg(test)]

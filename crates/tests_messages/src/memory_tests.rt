@@ -1,5 +1,5 @@
-//! Each allocation of a call is refused in turn, alone and with each one after it, until the call
-//! returns the right value: copies are compared with what they copy.
+//! Each allocation of a call is refused in turn, alone and with all later allocations, until the
+//! call returns the right value. Copies are compared with their originals.
 
 use crate::equal::{is_equal_question, is_equal_record};
 use crate::messages::{LONG_REPLY, LONG_TEXT, REPLY};
@@ -20,12 +20,12 @@ enum Call {
     Write,
 }
 
-/// Each call, the message that it is over, and the least and the most allocations that it makes.
+/// Each call, its message, and the least and the most allocations.
 ///
-/// Octets in place need none. Of others a copy needs one for each list of octets; a message that is
-/// read one for the name of its question, one for an owner, one for the data, and, as each message,
-/// one for each of the two lists; one that is written one for its octets, and one for the names in
-/// it where they are more than 16.
+/// Octets in place take no allocation. A copy takes an allocation for each other list of octets.
+/// Reading takes an allocation for the question's name, for an owner, for the data, and for each of
+/// the message's two lists. Writing takes an allocation for the octets, and another for the table
+/// of more than 16 names.
 const CALLS: [(Call, &[u8], u64, u64); 17] = [
     (Call::Question, REPLY, 0, 0),
     (Call::Question, LONG_REPLY, 1, 1),
@@ -46,14 +46,14 @@ const CALLS: [(Call, &[u8], u64, u64); 17] = [
     (Call::Write, LONG_REPLY, 2, 60),
 ];
 
-/// The allocation that is refused, counted from 0, and whether it is alone.
+/// The number of the refused allocation, from 0, and whether only this allocation is refused.
 #[derive(Clone, Copy)]
 struct Refused {
     growth: u64,
     is_alone: bool,
 }
 
-/// From now on this allocation is refused.
+/// Refuses this allocation from now on.
 fn refuse(heap: &Refusing<Global>, refused: Refused) {
     if refused.is_alone {
         heap.refuse_one(refused.growth);
@@ -76,8 +76,8 @@ fn copy_question(heap: &Refusing<Global>, octets: &[u8], refused: Refused) -> Re
     Ok(is_equal_question(&question, &copy))
 }
 
-/// Copies a record, or its data, or takes the name out of its data. Data that are a name end with a
-/// zero octet.
+/// Copies a record or its data, or reads the name in the data. A name in data ends with a zero
+/// octet.
 fn copy_record<'a>(
     heap: &'a Refusing<Global>,
     call: Call,
@@ -93,7 +93,7 @@ fn copy_record<'a>(
     }
 }
 
-/// Copies the only answer of the message, or its data, or takes the name out of its data.
+/// Copies the message's only answer or its data, or reads the name in the data.
 fn copy_answer(
     heap: &Refusing<Global>,
     call: Call,
@@ -121,8 +121,8 @@ fn write_message(heap: &Refusing<Global>, octets: &[u8], refused: Refused) -> Re
     Ok(write(heap, &message, 512)?.as_slice() == octets)
 }
 
-/// Makes a call, with ample memory for its arguments; returns whether its value is right. `Memory`
-/// where an allocation was refused.
+/// Makes a call with ample memory for the arguments, and returns whether the value is right.
+/// `Memory` if an allocation was refused.
 fn make(
     heap: &Refusing<Global>,
     call: Call,
@@ -141,8 +141,8 @@ fn make(
     }
 }
 
-/// The number of allocations of a call that are refused one after another until it is made right;
-/// 64 where it is not, or on any fault but out of memory.
+/// The number of allocations of a call, refused in turn until the value is right. 64 if the value
+/// stays wrong, or for any fault but out of memory.
 fn growths_of(heap: &Refusing<Global>, call: Call, octets: &[u8], is_alone: bool) -> u64 {
     for growth in 0..64u64 {
         match make(heap, call, octets, Refused { growth, is_alone }) {
@@ -167,7 +167,7 @@ fn each_refused_growth_is_want_of_memory(rt: HostRuntime) {
     }
 }
 
-/// A reply with `answers` answers, and a name more, no two of which are equal: `a` is asked for.
+/// A reply with `answers` answers to a question for `a`. No two names are equal.
 fn with_answers(alloc: Global, answers: u8) -> Result<Vec<u8>, AllocError> {
     let mut octets = Vec::from_slice(alloc, b"\x12\x34\x85\x00\x00\x01\x00")?;
     octets.push(answers)?;
@@ -179,7 +179,7 @@ fn with_answers(alloc: Global, answers: u8) -> Result<Vec<u8>, AllocError> {
     Ok(octets)
 }
 
-/// Nine and sixteen names in one text, and those past them.
+/// Numbers of answers, for 9, 16, 17 and 25 names in a text.
 const ANSWERS: [u8; 4] = [8, 15, 16, 24];
 
 #[test]

@@ -1,16 +1,16 @@
-//! Messages of worked examples: questions, replies and answers of every shape that they have.
+//! Messages of worked examples: questions, replies and answers of every shape.
 
 /// A reply: a.example, A, IN has the address 198.51.100.5 for 300 seconds.
 pub const REPLY: &[u8] =
     b"\x00\x08\x85\x00\x00\x01\x00\x01\x00\x00\x00\x00\x01a\x07example\x00\x00\x01\x00\x01\xc0\x0c\x00\x01\x00\x01\x00\x00\x01\x2c\x00\x04\xc63d\x05";
 
-/// A reply with names that are not kept in place: a question for a name of 20 labels, and its alias
-/// to another one of 20, which differs from it in the first.
+/// A reply with names too long to be kept in place: a question for a name of 20 labels, and an
+/// alias to a name with another first label.
 pub const LONG_REPLY: &[u8] =
     b"\x00\x08\x85\x00\x00\x01\x00\x01\x00\x00\x00\x00\x01a\x01a\x01a\x01a\x01a\x01a\x01a\x01a\
 \x01a\x01a\x01a\x01a\x01a\x01a\x01a\x01a\x01a\x01a\x01a\x01a\x00\x00\x01\x00\x01\xc0\x0c\x00\x05\x00\x01\x00\x00\x01\x2c\x00\x04\x01b\xc0\x0e";
 
-/// A reply whose data has 300 octets: a.example has a text of two strings, 254 and 44 times the
+/// A reply with 300 octets of data: a.example has a text of two strings, 254 and 44 times the
 /// letter `a`.
 pub const LONG_TEXT: &[u8] =
     b"\x00\x08\x85\x00\x00\x01\x00\x01\x00\x00\x00\x00\x01a\x07example\x00\x00\x10\x00\x01\xc0\x0c\x00\x10\x00\x01\
@@ -20,7 +20,7 @@ aaaaaaaaaaaaaaaaaaaaaaaaaaaaaaaaaaaaaaaaaaaaaaaaaaaaaaaaaaaaaaaaaaaaaaaaaaaaaaaa
 aaaaaaaaaaaaaaaaaaaaaaaaaaaaaaaaaaaaaaaaaaaaaaaaaaaaaa\
 \x2caaaaaaaaaaaaaaaaaaaaaaaaaaaaaaaaaaaaaaaaaaaa";
 
-/// In hexadecimal digits, the shorter ones first.
+/// Messages in hexadecimal digits, the shorter first.
 pub const MESSAGES: [&str; 128] = [
     "1234010000010000000000",
     "123401000000000000000000",

@@ -1,19 +1,19 @@
-//! Messages that are read, and their faults.
+//! Messages, as read, and their faults.
 
 use dns_message::{Fault, MessageRef};
 use std::alloc::Global;
 use std::test::Fail;
 
-/// Octets that are no message, and the first fault from the front.
+/// Octets of no message, and the first fault from the front.
 const FAULTS: [(&str, Fault); 12] = [
     ("0008850000010001000000", Fault::Short),
     (
         "000885000000000100000000c00c000100010000012c0004c6336405",
         Fault::NoQuestion,
     ),
-    // A question's name that points to itself.
+    // A question's name, pointing to itself.
     ("000885000001000000000000c00c00010001", Fault::Pointer),
-    // An owner that points to itself, and one that points to a place after itself.
+    // An owner pointing to itself, and an owner pointing to a later place.
     (
         "0008850000010001000000000161076578616d706c650000010001c01b000100010000012c0004c6336405",
         Fault::Pointer,
@@ -26,8 +26,7 @@ const FAULTS: [(&str, Fault); 12] = [
         "0008850000010001000000000161076578616d706c6500000100014061000100010000012c0004c6336405",
         Fault::LabelForm,
     ),
-    // Aliases: an octet left over, an octet too few, twice, an octet that is not there, a pointer
-    // to itself.
+    // Aliases: an octet left over, an octet too few, twice, a missing octet, a pointer to itself.
     (
         "0008850000010001000000000161076578616d706c650000010001c00c000500010000003c0003c00c00",
         Fault::Rdata,
@@ -48,7 +47,7 @@ const FAULTS: [(&str, Fault); 12] = [
         "0008850000010001000000000161076578616d706c650000010001c00c000500010000003c0002c027",
         Fault::Pointer,
     ),
-    // More answers are counted than there are.
+    // A count above the number of answers.
     (
         "000885000001ffff000000000161076578616d706c650000010001c00c000100010000012c0004c6336405",
         Fault::Short,
@@ -59,7 +58,7 @@ fn decoded(alloc: Global, digits: &str) -> Result<Vec<u8>, Fail> {
     Ok(hex::decode(alloc, digits)?)
 }
 
-/// The fault with which `view`, and then `read_whole`, refuses octets.
+/// The fault of `view`, or otherwise of `read_whole`.
 fn fault_of(alloc: Global, octets: &[u8]) -> Option<Fault> {
     match MessageRef::view(octets) {
         Err(fault) => Some(fault),
@@ -76,15 +75,16 @@ fn the_first_fault_is_reported(rt: HostRuntime) -> Result<(), Fail> {
     Ok(())
 }
 
-/// Owners that end with a name of 127 labels, at the offset 12, or with its last 126, at 14; and
-/// the number of their labels, or the fault: one has 255 octets, the others 257 and 256.
+/// Owners, ending with a pointer to a name of 127 labels (offset 12) or to its last 126 labels
+/// (offset 14), each with the number of labels or the fault. The names have 255, 257 and 256
+/// octets.
 const LONG_OWNERS: [(&[u8], Result<usize, Fault>); 3] = [
     (b"\x01a\xc0\x0e", Ok(127)),
     (b"\x01a\xc0\x0c", Err(Fault::NameLong)),
     (b"\x02aa\xc0\x0e", Err(Fault::NameLong)),
 ];
 
-/// A message whose question has 127 labels of one octet, and an address with this owner.
+/// A message with a question of 127 labels of an octet each, and an address of the given owner.
 fn under_127_labels(alloc: Global, owner: &[u8]) -> Result<Vec<u8>, Fail> {
     let mut octets = decoded(alloc, "000885000001000100000000")?;
     for _ in 0..127u8 {
@@ -96,7 +96,7 @@ fn under_127_labels(alloc: Global, owner: &[u8]) -> Result<Vec<u8>, Fail> {
     Ok(octets)
 }
 
-/// The number of labels of the owner of the only answer.
+/// The number of labels of the only answer's owner.
 fn labels_of_owner(alloc: Global, octets: &[u8]) -> Result<usize, Fault> {
     let message = MessageRef::view(octets)?.read_whole(alloc)?;
     match message.answers.as_slice() {

@@ -1,14 +1,14 @@
-//! The data of each type that has names in it, as it is read and written again.
+//! The data of each type with names, as read and as written again.
 
 use dns_message::{Fault, MessageRef, write};
 use std::alloc::Global;
 use std::test::Fail;
 
-/// A type; its data in a message, where a.example is at 12 and example at 14; the data written out
-/// in full; and the data as it is written again: with pointers where RFC 1035 3.3 has the type, in
-/// full where a later document has it (RFC 3597 4), and unchanged where the type has no name. After
-/// a number comes a label of two octets, which with its length is no number of 16 bits: so data
-/// with a number more is distinguished.
+/// A type, and its data in a message with a.example at 12 and example at 14; then the data in full,
+/// and the data as written again. Types of RFC 1035 3.3 are written with pointers, types of later
+/// documents in full (RFC 3597 4), types without names unchanged. After a number comes a label of
+/// two octets. With its length octet the label is no 16-bit number, so a shape with a further
+/// number is noticed.
 const WORKED: [(u16, &str, &str, &str); 22] = [
     // NS, MD, MF, CNAME, MB, MG, MR, PTR: a name (RFC 1035 3.3).
     (2, "0162c00e", "0162076578616d706c6500", "0162c00e"),
@@ -47,7 +47,7 @@ const WORKED: [(u16, &str, &str, &str); 22] = [
         "0162076578616d706c65000161076578616d706c6500",
         "0162076578616d706c65000161076578616d706c6500",
     ),
-    // AFSDB: a number of 16 bits and a name (RFC 1183 1); RT the same (3.3).
+    // AFSDB and RT: a number of 16 bits and a name (RFC 1183 1, 3.3).
     (
         18,
         "0001026e73c00e",
@@ -81,7 +81,7 @@ const WORKED: [(u16, &str, &str, &str); 22] = [
         "0064000a0173075349502b44325500076578616d706c6500",
         "0064000a0173075349502b44325500076578616d706c6500",
     ),
-    // A, NULL, TXT, AAAA and a type of nobody's: octets, whatever they look like.
+    // A, NULL, TXT, AAAA and an unassigned type: any octets.
     (1, "c00cc00e", "c00cc00e", "c00cc00e"),
     (10, "0162c00e", "0162c00e", "0162c00e"),
     (16, "02c00e", "02c00e", "02c00e"),
@@ -94,7 +94,7 @@ const WORKED: [(u16, &str, &str, &str); 22] = [
     (65280, "0162c00e", "0162c00e", "0162c00e"),
 ];
 
-/// A reply with one answer, which is of a.example and of this type and data.
+/// A reply with a single answer, of a.example, with this type and data.
 fn with_data(alloc: Global, kind: u16, digits: &str) -> Result<Vec<u8>, Fail> {
     let mut octets: Vec<u8> = hex::decode(
         alloc,
@@ -109,7 +109,7 @@ fn with_data(alloc: Global, kind: u16, digits: &str) -> Result<Vec<u8>, Fail> {
     Ok(octets)
 }
 
-/// The data of the only answer of a message, as it is held.
+/// The data of a message's only answer, as held.
 fn held_data(alloc: Global, octets: &[u8]) -> Result<Vec<u8>, Fault> {
     let message = MessageRef::view(octets)?.read_whole(alloc)?;
     let mut held = Vec::new(alloc);
@@ -119,14 +119,14 @@ fn held_data(alloc: Global, octets: &[u8]) -> Result<Vec<u8>, Fault> {
     Ok(held)
 }
 
-/// Whether the data of the only answer is held as these digits say.
+/// Whether the only answer's held data is the data in these digits.
 fn is_held(alloc: Global, octets: &[u8], digits: &str) -> Result<bool, Fail> {
     let held = held_data(alloc, octets)?;
     let wanted: Vec<u8> = hex::decode(alloc, digits)?;
     Ok(held.as_slice() == wanted.as_slice())
 }
 
-/// Whether the message is written again as these octets.
+/// Whether the message is written again as the wanted octets.
 fn is_written(alloc: Global, octets: &[u8], wanted: &[u8]) -> Result<bool, Fault> {
     let message = MessageRef::view(octets)?.read_whole(alloc)?;
     Ok(write(alloc, &message, 65535)?.as_slice() == wanted)

@@ -1,4 +1,4 @@
-//! Many messages, cut ones and changed ones.
+//! Many messages, whole, cut and changed.
 
 use crate::messages::MESSAGES;
 use crate::shapes::SHAPES;
@@ -9,10 +9,10 @@ use rand_pcg::Pcg32;
 use std::alloc::{AllocError, Global};
 use std::test::Fail;
 
-/// The number of changed messages that are tried.
+/// The number of changed messages.
 const CHANGED: u32 = 20_000;
 
-/// Octets that mean something in a message: root, lengths, pointers, types.
+/// Octets with a meaning in a message: root, lengths, pointers, types.
 const TELLING: [u8; 12] = [0, 1, 2, 5, 6, 12, 14, 33, 63, 64, 192, 255];
 
 fn octets_of(alloc: Global, digits: &str) -> Result<Vec<u8>, Fail> {
@@ -31,7 +31,7 @@ fn judging_agrees(alloc: Global, octets: &[u8]) -> Result<bool, AllocError> {
     }
 }
 
-/// Whether each beginning of the octets, all of them too, is judged as it is read.
+/// Whether judging agrees with reading for each beginning of the octets, and for all octets.
 fn beginnings_agree(alloc: Global, octets: &[u8]) -> Result<bool, AllocError> {
     for end in 0..octets.len() {
         if !judging_agrees(alloc, &octets[..end])? {
@@ -41,8 +41,8 @@ fn beginnings_agree(alloc: Global, octets: &[u8]) -> Result<bool, AllocError> {
     judging_agrees(alloc, octets)
 }
 
-/// Whether each beginning of the written text of a message is judged as it is read, if these octets
-/// are a whole message.
+/// Whether judging agrees with reading for each beginning of a message's written text, if the
+/// octets are a whole message.
 fn written_beginnings_agree(alloc: Global, octets: &[u8]) -> Result<bool, Fail> {
     if !is_whole(octets) {
         return Ok(true);
@@ -51,7 +51,7 @@ fn written_beginnings_agree(alloc: Global, octets: &[u8]) -> Result<bool, Fail> 
     Ok(beginnings_agree(alloc, written.as_slice())?)
 }
 
-/// Whether this is so of each message, and of its written text.
+/// Whether [`beginnings_agree`] and [`written_beginnings_agree`] hold for each message.
 fn all_beginnings_agree(alloc: Global, messages: &[&str]) -> Result<bool, Fail> {
     for digits in messages {
         let octets = octets_of(alloc, digits)?;
@@ -69,13 +69,13 @@ fn every_beginning_is_judged_as_it_is_read(rt: HostRuntime) -> Result<(), Fail> 
     Ok(())
 }
 
-/// The text that is written of the message that these octets spell.
+/// The written text of the message in these octets.
 fn rewritten(alloc: Global, octets: &[u8]) -> Result<Octets<Global>, Fault> {
     let message = MessageRef::view(octets)?.read_whole(alloc)?;
     write(alloc, &message, 65535)
 }
 
-/// Whether what is written of the message that these octets spell is written so again.
+/// Whether the written text, read and written again, is unchanged.
 fn is_settled(alloc: Global, octets: &[u8]) -> Result<bool, Fault> {
     let written = rewritten(alloc, octets)?;
     let again = rewritten(alloc, written.as_slice())?;
@@ -87,7 +87,7 @@ fn is_whole(octets: &[u8]) -> bool {
     MessageRef::view(octets).is_ok_and(|view| view.is_whole())
 }
 
-/// A right message with up to three octets changed.
+/// A right message with up to three changed octets.
 fn changed(alloc: Global, words: &mut Pcg32, turn: u32) -> Result<Vec<u8>, Fail> {
     let at = turn as usize % (MESSAGES.len() + SHAPES.len());
     let digits = match MESSAGES.get(at) {
@@ -120,7 +120,7 @@ fn changed_messages_are_read_and_written_again(rt: HostRuntime) -> Result<(), Fa
             assert!(rt; is_settled(rt.alloc(), &octets)?, "turn {turn}");
         }
     }
-    // Both outcomes were met often.
+    // Both outcomes are frequent.
     assert!(rt; whole > CHANGED / 4);
     assert!(rt; whole < CHANGED);
     Ok(())

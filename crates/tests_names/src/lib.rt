@@ -1,5 +1,5 @@
 //! Tests of `dns_name`: a name's octets, the first fault, and allocations that succeed if there is
-//! memory. And tests of `refusing_allocator`, which refuses allocations in all such tests.
+//! memory. Tests of `refusing_allocator`, which refuses allocations in all such tests.
 #![tactic(auto)]
 
 #[cfg(test)]

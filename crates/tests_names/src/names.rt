@@ -1,5 +1,5 @@
-//! Names in concrete octets (RFC 1035 2.3.4, 3.1), and what no contract can say: that allocations
-//! succeed where there is memory.
+//! Names in concrete octets (RFC 1035 2.3.4, 3.1), and a fact that no contract can state:
+//! allocations succeed if there is memory.
 
 use dns_name::{Name, NameFault, NameKey};
 use refusing_allocator::Refusing;
@@ -7,12 +7,12 @@ use std::alloc::{AllocError, Allocator, Global};
 use std::hash::{BuildHasher, BuildHasherDefault, FoldHasher};
 use std::test::Fail;
 
-/// The number of labels of the name of a text, or its fault.
+/// The number of labels of a text's name, or the fault.
 fn label_count(heap: Global, text: &str) -> Result<usize, NameFault> {
     Ok(Name::from_text(heap, text)?.labels().count())
 }
 
-/// Texts, and the number of labels of their names, or the first fault.
+/// Texts, each with the number of labels or the first fault.
 const TEXTS: [(&str, Result<usize, NameFault>); 20] = [
     (".", Ok(0)),
     ("a.example", Ok(2)),
@@ -43,7 +43,7 @@ fn texts_and_their_first_fault(rt: HostRuntime) {
     }
 }
 
-/// A text of `labels` labels, each of `letters` letters and followed by a dot.
+/// A text of `labels` labels of `letters` letters, each followed by a dot.
 fn text_of(heap: Global, labels: usize, letters: usize) -> Result<String, AllocError> {
     let mut text = String::new(heap);
     for _ in 0..labels {
@@ -55,8 +55,8 @@ fn text_of(heap: Global, labels: usize, letters: usize) -> Result<String, AllocE
     Ok(text)
 }
 
-/// Numbers of labels and of letters in each, and the number of labels of the name, or the first
-/// fault.
+/// The number of labels, the letters of each label, and the result: the number of labels or the
+/// first fault.
 const LONGEST: [(usize, usize, Result<usize, NameFault>); 5] = [
     (127, 1, Ok(127)),
     (128, 1, Err(NameFault::NameLong)),
@@ -112,7 +112,7 @@ fn hash_of(key: &NameKey) -> u64 {
     hasher.hash_one(key)
 }
 
-/// Whether the names are the same, their keys are equal, and the hashes of these.
+/// Whether the names are the same, their keys equal, and the hashes of the keys equal.
 fn sameness(heap: Global, one: &str, other: &str) -> Result<[bool; 3], NameFault> {
     let one = Name::from_text(heap, one)?;
     let other = Name::from_text(heap, other)?;
@@ -123,7 +123,7 @@ fn sameness(heap: Global, one: &str, other: &str) -> Result<[bool; 3], NameFault
     ])
 }
 
-/// Names, and whether they are the same.
+/// Pairs of names, and whether they are the same.
 const SAME: [(&str, &str, bool); 2] = [
     ("a.example", "A.EXAMPLE.", true),
     ("a.example", "b.example", false),
@@ -138,14 +138,14 @@ fn names_that_are_the_same(rt: HostRuntime) -> Result<(), Fail> {
     Ok(())
 }
 
-/// Whether the first name is at or under the second one, and its key is.
+/// Whether the first name is at or under the second, for the names and for their keys.
 fn is_under(heap: Global, name: &str, suffix: &str) -> Result<[bool; 2], NameFault> {
     let name = Name::from_text(heap, name)?;
     let suffix = Name::from_text(heap, suffix)?;
     Ok([name.is_under(&suffix), name.key().is_under(&suffix)])
 }
 
-/// A name, another one, and whether the first is at or under it.
+/// Two names, and whether the first is at or under the second.
 const UNDER: [(&str, &str, bool); 4] = [
     ("A.EXAMPLE.", "example", true),
     ("a.example", ".", true),
@@ -162,14 +162,14 @@ fn names_under_names(rt: HostRuntime) -> Result<(), Fail> {
     Ok(())
 }
 
-/// Whether the name has these octets, and its copy too.
+/// Whether a name and its copy have these octets.
 fn has_octets(heap: Global, name: &str, octets: &[u8]) -> Result<bool, NameFault> {
     let name = Name::from_text(heap, name)?;
     let copy = name.copy(heap)?;
     Ok(name.octets() == octets && copy.octets() == octets)
 }
 
-/// Whether the parent of the first name is the second one, and that of its key is.
+/// Whether the second name is the first name's parent, for the names and for their keys.
 fn has_parent(heap: Global, name: &str, parent: &str) -> Result<bool, NameFault> {
     let name = Name::from_text(heap, name)?;
     let wanted = Name::from_text(heap, parent)?;
@@ -201,16 +201,16 @@ const SHORT: &str = "abcdefghijklmnopqrstu.example";
 /// A name of 31 octets.
 const LONGER: &str = "abcdefghijklmnopqrstuv.example";
 
-/// A name of 33 octets, whose parent has 31.
+/// A name of 33 octets with a parent of 31.
 const LONG: &str = "a.abcdefghijklmnopqrstuv.example";
 
-/// A name of as many octets as there may be, 255: four labels, of 63 octets but for the last one.
+/// A name of 255 octets, the most allowed: four labels, the first three of 63 octets.
 const WHOLE: &str = "abcdefghijklmnopqrstuvwxyz0123456789abcdefghijklmnopqrstuvwxyz0.\
 abcdefghijklmnopqrstuvwxyz0123456789abcdefghijklmnopqrstuvwxyz0.\
 abcdefghijklmnopqrstuvwxyz0123456789abcdefghijklmnopqrstuvwxyz0.\
 abcdefghijklmnopqrstuvwxyz0123456789abcdefghijklmnopqrstuvwxy";
 
-/// The number of labels of the copy and the parent of a name together.
+/// The sum of labels in a name's copy and parent.
 fn made<A: Allocator + Copy>(heap: A, text: &str) -> Result<usize, NameFault> {
     let name = Name::from_text(heap, text)?;
     let copy = name.copy(heap)?;
@@ -219,7 +219,7 @@ fn made<A: Allocator + Copy>(heap: A, text: &str) -> Result<usize, NameFault> {
     Ok(count + parent.map_or(0, |parent| parent.labels().count()))
 }
 
-/// Grants `growths` allocations and refuses the next one, alone or with each one after it.
+/// Grants `growths` allocations and refuses the next, alone or with all later allocations.
 fn refuse(heap: &Refusing<Global>, growths: u64, is_alone: bool) {
     if is_alone {
         heap.refuse_one(growths);
@@ -228,8 +228,8 @@ fn refuse(heap: &Refusing<Global>, growths: u64, is_alone: bool) {
     }
 }
 
-/// The number of allocations that are refused one after another, alone or with each one after it,
-/// until the name has `labels` labels; `None` on any fault but out of memory.
+/// The number of allocations refused in turn, alone or with all later allocations, until the result
+/// has `labels` labels. `None` for any fault but out of memory.
 fn growths_of(heap: &Refusing<Global>, text: &str, labels: usize, is_alone: bool) -> Option<u64> {
     for count in 0..100u64 {
         refuse(heap, count, is_alone);
@@ -242,9 +242,8 @@ fn growths_of(heap: &Refusing<Global>, text: &str, labels: usize, is_alone: bool
     None
 }
 
-/// A name, the number of labels of its copy and its parent together, and the number of allocations:
-/// up to 30 octets are kept in place; more of them take one allocation for the name, one for its
-/// copy and one for its parent.
+/// A name, the sum of labels in copy and parent, and the number of allocations. A name up to 30
+/// octets is kept in place. A longer name, copy or parent takes an allocation each.
 const GROWTHS: [(&str, usize, u64); 5] = [
     ("a.example", 3, 0),
     (SHORT, 3, 0),
@@ -270,17 +269,17 @@ fn each_growth_may_be_refused(rt: HostRuntime) {
     }
 }
 
-/// A label that makes a name of 31 octets.
+/// The label of a name of 31 octets.
 const LABEL: [u8; 30] = [b'a'; 30];
 
-/// This label alone.
+/// A list of [`LABEL`] alone.
 fn one_label<A: Allocator + Copy>(heap: A) -> Result<Vec<Vec<u8, A>, A>, AllocError> {
     let mut labels = Vec::new(heap);
     labels.push(Vec::from_slice(heap, &LABEL)?)?;
     Ok(labels)
 }
 
-/// The number of labels of its name, where an allocation is refused after `growths`.
+/// The number of labels of the name of [`LABEL`], with a refused allocation after `growths`.
 fn of_one_label(heap: &Refusing<Global>, growths: u64, is_alone: bool) -> Result<usize, NameFault> {
     heap.allow(u64::MAX);
     let labels = one_label(heap)?;

@@ -1,10 +1,10 @@
-//! The allocations that an allocator for tests grants and refuses.
+//! Allocations granted and refused by an allocator for tests.
 
 use refusing_allocator::Refusing;
 use std::alloc::{AllocError, Global};
 use std::test::Fail;
 
-/// Asks for three blocks of one octet each; returns the number granted.
+/// Asks for three blocks of an octet, and returns the number granted.
 fn blocks(heap: &Refusing<Global>) -> u8 {
     let first = Box::new(heap, 1u8);
     let second = Box::new(heap, 2u8);
@@ -55,7 +55,7 @@ fn one_growth_alone_is_refused(rt: HostRuntime) {
     assert_eq!(rt; blocks(&heap), 0, "none again");
 }
 
-/// Whether a block of so many octets is granted.
+/// Whether a block of `octets` octets is granted.
 fn is_granted(heap: &Refusing<Global>, octets: usize) -> bool {
     let block = Vec::<u8, &Refusing<Global>>::with_capacity(heap, octets);
     block.is_ok()
@@ -82,16 +82,16 @@ fn each_large_growth_is_refused(rt: HostRuntime) {
 /// A list of octets after pushes with allocations refused.
 #[derive(Clone, Copy)]
 struct Held {
-    /// The room of the list, and the number of its octets once pushes were refused.
+    /// The capacity, the number of octets and the number of refused pushes.
     room: usize,
     len: usize,
     refused: u8,
-    /// One more octet is pushed with one allocation granted.
+    /// A further octet is pushed, with an allocation granted.
     is_pushed: bool,
     first: Option<u8>,
 }
 
-/// Pushes one octet to the list, then octets with allocations refused, then one with one granted.
+/// Pushes an octet, then octets with allocations refused, then an octet with an allocation granted.
 fn held_in<'a>(
     heap: &'a Refusing<Global>,
     octets: &mut Vec<u8, &'a Refusing<Global>>,

@@ -1,8 +1,8 @@
-//! The commands, with arguments, input and output of a test's own.
+//! The commands, with a test's arguments, input and output.
 
 use crate::faults::{Arguments, CONFIG, COUNTED, PRINTED, SCRIPT, SERVED};
+use forwarder_commands::scripts::ReplayFault;
 use forwarder_commands::{Fault, Turns, read_turns, run};
-use replay_script::ReplayFault;
 use std::alloc::{Allocator, Global};
 use std::cell::Cell;
 use std::env::FillError;
@@ -15,8 +15,8 @@ use std::test::Fail;
 use std::time::Duration;
 use std::{fs, io, net};
 
-/// This machine's system, with arguments and input of the test's own. What is printed is kept, and
-/// the random octets that are asked for are counted.
+/// This machine's system, with the test's arguments and input. Keeps the printed octets, and counts
+/// the drawn random octets.
 #[derive(Drop)]
 struct Host<'a> {
     system: &'a HostRuntime,
@@ -135,18 +135,18 @@ impl Net for Host<'_> {
     }
 }
 
-/// The octets that have to be printed.
+/// The required output.
 #[derive(Clone, Copy)]
 enum Wanted<'a> {
     /// These octets.
     Just(&'a [u8]),
-    /// Octets that begin with these.
+    /// Octets beginning with these octets.
     Beginning(&'a [u8]),
     /// Any octets, at least one.
     Some,
 }
 
-/// Whether these octets were wanted.
+/// Whether the output is as required.
 fn is_wanted(printed: &[u8], wanted: Wanted<'_>) -> bool {
     match wanted {
         Wanted::Just(octets) => printed == octets,
@@ -155,7 +155,7 @@ fn is_wanted(printed: &[u8], wanted: Wanted<'_>) -> bool {
     }
 }
 
-/// How the program ends with these words after its name, and whether it prints what is wanted.
+/// The program's result with these arguments, and whether the output is as required.
 fn ended_by(
     rt: &HostRuntime,
     words: &[&[u8]],
@@ -168,7 +168,7 @@ fn ended_by(
     (ended, is_wanted(&printed, wanted))
 }
 
-/// Words that are no command: none, another one, too many, too few, one that is no text.
+/// Words of no command: none, an unknown word, too many, too few, a word that is no text.
 const OTHERS: [&[&[u8]]; 8] = [
     &[b"forwarder"],
     &[b"forwarder", b"checks"],
@@ -190,7 +190,8 @@ fn other_arguments_end_with_status_1(rt: HostRuntime) {
     assert_eq!(rt; Fault::Usage.status(), 1);
 }
 
-/// No numbers of turns: no digits, other signs, one past 64 bits, and one of 21 digits.
+/// Refused numbers of turns: no digits, other signs, a number past 64 bits, and a number of 21
+/// digits.
 const REFUSED_TURNS: [&[u8]; 8] = [
     b"",
     b"-1",
@@ -245,8 +246,7 @@ fn check_prints_its_routes(rt: HostRuntime) -> Result<(), Fail> {
     Ok(())
 }
 
-/// Names of files that aren't read, and the line that says why: the system's reason, where it gave
-/// one.
+/// Names of unreadable files, and the line with the reason, by the system if known.
 const UNREAD: [(&[u8], &[u8]); 3] = [
     (
         b"/no/such/file",
@@ -266,10 +266,11 @@ fn check_says_why_a_file_is_not_read(rt: HostRuntime) {
     }
 }
 
-/// The configuration of a row whose only key is none that is known, and one that is no TOML.
+/// A configuration with an unknown key, and a configuration of invalid TOML, each with the fault's
+/// number.
 const REFUSED: [(&[u8], u8); 2] = [(b"version = 1\nlost = 1\n", 11), (b"version =", 1)];
 
-/// The number of the fault of a configuration.
+/// The number of a configuration's fault.
 fn number_of(ended: Result<(), Fault>) -> Option<u8> {
     match ended {
         Err(Fault::Stopped(ReplayFault::Config(fault))) => Some(fault.number()),
@@ -302,7 +303,7 @@ fn serve_prints_what_it_counted(rt: HostRuntime) -> Result<(), Fail> {
     Ok(())
 }
 
-/// A wire's words have a seed of 32 octets, and the hasher of a forwarder a key of 128 bits.
+/// A wire's words take a seed of 32 octets, and a forwarder's hasher a key of 128 bits.
 #[test]
 fn serve_draws_a_seed_and_a_key(rt: HostRuntime) -> Result<(), Fail> {
     fs::write(&rt, "drawn", SERVED)?;
@@ -313,7 +314,7 @@ fn serve_draws_a_seed_and_a_key(rt: HostRuntime) -> Result<(), Fail> {
     Ok(())
 }
 
-/// The script, with a second event line that is none and a third that is one.
+/// The script, with an invalid second event line and a valid third.
 const STOPPED: &[u8] = b"version = 1
 [[route]]
 suffix = \".\"
@@ -324,7 +325,7 @@ servers = [\"192.0.2.1:53\"]
 1030 tick
 ";
 
-/// The second line is none; the first is printed.
+/// The second line is invalid; the first line's action is printed.
 #[test]
 fn replay_runs_its_input(rt: HostRuntime) {
     let words = [b"forwarder".as_slice(), b"replay"];

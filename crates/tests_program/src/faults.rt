@@ -1,9 +1,9 @@
-//! Tests of what no script can express: readers, writers and files that fail, refused allocations,
-//! statuses and texts.
+//! Tests beyond scripts: readers, writers and files that fail, refused allocations, statuses and
+//! texts.
 
+use forwarder_commands::scripts::{ReplayFault, read_config, replay_run};
 use forwarder_commands::{Fault, LONGEST, argument, count, load, read_turns, serve_config, text};
 use refusing_allocator::Refusing;
-use replay_script::{ReplayFault, read_config, replay_run};
 use std::alloc::{AllocError, Allocator, Global};
 use std::env::FillError;
 use std::io::{ErrorKind, Read, Write};
@@ -18,7 +18,7 @@ suffix = \".\"
 servers = [\"192.0.2.1:53\"]
 ";
 
-/// A configuration that is served on this machine.
+/// A configuration, served on this machine.
 pub const SERVED: &[u8] = b"version = 1
 listen = \"127.0.0.1:15371\"
 [[route]]
@@ -26,7 +26,7 @@ suffix = \".\"
 servers = [\"127.0.0.1:15372\"]
 ";
 
-/// The configuration, and a question for the address of a.example.
+/// The configuration, and a question for a.example's address.
 pub const SCRIPT: &[u8] = b"version = 1
 [[route]]
 suffix = \".\"
@@ -38,10 +38,10 @@ servers = [\"192.0.2.1:53\"]
 pub const PRINTED: &[u8] =
     b"1 ask-udp 1032 192.0.2.1:53 0008010000010000000000000161076578616d706c650000010001\n";
 
-/// The line that is printed if no turn is served.
+/// The printed line of a service without turns.
 pub const COUNTED: &[u8] = b"turns 0 lost 0\n";
 
-/// A reader that fails.
+/// A failing reader.
 #[derive(Drop)]
 struct Broken;
 
@@ -51,11 +51,11 @@ impl Read for Broken {
     }
 }
 
-/// A reader or a writer. A signal interrupts each call of it once, and it is made again.
+/// A reader or writer. A signal interrupts each call once, and the call is made again.
 #[derive(Drop)]
 struct Interrupted<T: Drop> {
     inner: T,
-    /// The last call was interrupted.
+    /// Whether the last call was interrupted.
     was_interrupted: bool,
 }
 
@@ -67,7 +67,7 @@ impl<T: Drop> Interrupted<T> {
         }
     }
 
-    /// The error of a call that is interrupted.
+    /// The error of an interrupted call.
     fn interrupted(&mut self) -> io::Result<()> {
         self.was_interrupted = !self.was_interrupted;
         if self.was_interrupted {
@@ -96,7 +96,7 @@ impl<T: Write + Drop> Write for Interrupted<T> {
     }
 }
 
-/// The part of the wanted line that a replay printed.
+/// The printed part of the required line.
 #[derive(Clone, Copy, PartialEq, Eq, Debug)]
 enum Printed {
     Nothing,
@@ -118,8 +118,8 @@ fn printed_of(octets: &[u8]) -> Printed {
     }
 }
 
-/// How a replay of this input ends, with this memory for its forwarder, and what the replay
-/// printed.
+/// The result of a replay of this input, with this memory for the forwarder, and the replay's
+/// output.
 fn replayed<A: Allocator + Copy, R: Read>(
     alloc: Global,
     heap: A,
@@ -130,8 +130,8 @@ fn replayed<A: Allocator + Copy, R: Read>(
     (ended, printed_of(&printed))
 }
 
-/// How a replay of the first `end` octets of the script ends, and what the replay printed. After
-/// these octets the reader fails.
+/// The result and the output of a replay of the script's first `end` octets, with a reader that
+/// fails afterwards.
 fn replayed_up_to(alloc: Global, end: usize) -> (Result<(), ReplayFault>, Printed) {
     let mut input = SCRIPT.get(..end).unwrap_or(SCRIPT).chain(Broken);
     replayed(alloc, alloc, &mut input)
@@ -146,7 +146,7 @@ fn readers_that_fail(rt: HostRuntime) {
     }
 }
 
-/// The replay goes on, and prints what it prints without signals.
+/// The replay goes on, and prints as without signals.
 #[test]
 fn signals_interrupt_reader_and_writer(rt: HostRuntime) {
     let mut input = Interrupted::new(SCRIPT);
@@ -165,15 +165,15 @@ fn writers_that_fail(rt: HostRuntime) {
     assert_eq!(rt; ended, Err(ReplayFault::Device));
 }
 
-/// How many routes the file with this name has.
+/// The number of routes in the named file.
 fn routes_in(rt: &HostRuntime, name: &[u8]) -> Result<usize, ReplayFault> {
     Ok(load(rt, name)?.routes().len())
 }
 
-/// Names of no file that can be read whole.
+/// Names of files that cannot be read whole.
 const UNREADABLE: [&str; 4] = [".", "/no/such/file", "/dev/zero", ""];
 
-/// A name that is no UTF-8 is one like any other.
+/// A name outside UTF-8 is like any other.
 #[test]
 fn files_are_loaded(rt: HostRuntime) -> Result<(), Fail> {
     fs::write(&rt, "one_route", CONFIG)?;
@@ -192,7 +192,7 @@ fn files_are_loaded(rt: HostRuntime) -> Result<(), Fail> {
     Ok(())
 }
 
-/// Arguments after the program's own name, which is none here.
+/// A test's arguments, with the program's name first.
 #[derive(Drop)]
 pub struct Arguments<'a>(pub &'a [&'a [u8]]);
 
@@ -243,20 +243,20 @@ fn arguments_are_octets(rt: HostRuntime) {
     }
 }
 
-/// The allocations of a replay, refused in turn.
+/// A replay's allocations, refused in turn.
 #[derive(Clone, Copy)]
 struct Refused {
-    /// The fewest that are granted with which memory doesn't run out.
+    /// The fewest granted allocations with enough memory.
     granted: u64,
-    /// The number of replays that ran out of memory and printed the whole line.
+    /// The number of replays with the whole line printed before memory ran out.
     kept: u64,
-    /// How the last replay ended, and what it printed.
+    /// The last replay's result and output.
     ended: Result<(), ReplayFault>,
     printed: Printed,
 }
 
-/// Refuses the allocations of a replay of this script in turn, up to one that does not run out of
-/// memory, or prints anything but a beginning.
+/// Refuses the allocations of this script's replay in turn, until a replay has enough memory, or
+/// prints anything but a beginning.
 fn refused_in_turn(alloc: Global, script: &[u8]) -> Refused {
     let heap = Refusing::new(alloc);
     let mut kept = 0u64;
@@ -300,8 +300,8 @@ fn a_last_line_without_a_line_feed_prints(rt: HostRuntime) {
     assert_eq!(rt; printed, Printed::Whole);
 }
 
-/// The script with the same question of another client, which waits for the ask of the first and
-/// prints nothing.
+/// The script, and the question again from another client: it waits for the first client's ask, and
+/// nothing is printed.
 const TWO_CLIENTS: &[u8] = b"version = 1
 [[route]]
 suffix = \".\"
@@ -311,7 +311,7 @@ servers = [\"192.0.2.1:53\"]
 1000 client udp 10.0.0.8:40000 1234010000010000000000000161076578616d706c650000010001
 ";
 
-/// The lines of the first event stay, where the second finds no memory.
+/// The first event's lines stay if the second event runs out of memory.
 #[test]
 fn an_event_that_finds_no_memory(rt: HostRuntime) {
     let refused = refused_in_turn(rt.alloc(), TWO_CLIENTS);
@@ -321,12 +321,12 @@ fn an_event_that_finds_no_memory(rt: HostRuntime) {
     assert!(rt; 0 < refused.kept);
 }
 
-/// How a service of no turns ends.
+/// The result of a service without turns.
 #[derive(Clone, Copy, PartialEq, Eq)]
 enum Served {
     /// Memory ran out.
     Memory,
-    /// The service ends well, and printed its counts.
+    /// The service ended well, and printed the counts.
     Whole,
     Other,
 }
@@ -339,7 +339,7 @@ fn served_of(ended: &Result<(), Fault>, is_counted: bool) -> Served {
     }
 }
 
-/// How the service ends with `granted` allocations after its configuration was read.
+/// The service's result with `granted` allocations after reading the configuration.
 fn served_with(rt: &HostRuntime, heap: &Refusing<Global>, granted: u64) -> Served {
     let mut input = SERVED;
     let Ok(config) = read_config(rt.alloc(), heap, &mut input) else {
@@ -356,7 +356,7 @@ fn served_with(rt: &HostRuntime, heap: &Refusing<Global>, granted: u64) -> Serve
     served_of(&ended, printed.as_slice() == COUNTED)
 }
 
-/// The fewest allocations with which it doesn't run out of memory, and how it ends then.
+/// The fewest allocations with enough memory, and the service's result then.
 fn served_at_last(rt: &HostRuntime) -> (u64, Served) {
     let heap = Refusing::new(rt.alloc());
     for granted in 0..100u64 {
@@ -375,7 +375,7 @@ fn a_service_that_finds_no_memory(rt: HostRuntime) {
     assert!(rt; 0 < granted);
 }
 
-/// Each fault, its status, and what is said of it.
+/// Each fault, with its status and text.
 const SAID: [(Fault, u8, &str); 5] = [
     (
         Fault::Usage,
@@ -392,7 +392,7 @@ const SAID: [(Fault, u8, &str); 5] = [
     (Fault::Stopped(ReplayFault::Device), 5, "device"),
 ];
 
-/// Whether this is said of a fault.
+/// Whether this is the fault's text.
 fn is_said(alloc: Global, fault: Fault, text: &str) -> Result<bool, AllocError> {
     let report = format!(in alloc; "{fault}")?;
     Ok(report.as_str() == text)

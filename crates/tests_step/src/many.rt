@@ -1,9 +1,9 @@
-//! A thousand queries under way: with ample memory each is sent, and a step computes no more hashes
-//! than with one. So nothing is looked up for a question that a step does not serve.
+//! A thousand queries under way. With ample memory each is sent, and a step computes no more hashes
+//! than with a single query. So nothing is looked up for a question that a step does not serve.
 
 use crate::worked::{SERVER, delivers, sends};
-use forwarder_core::Forwarder;
 use lru::DefaultHasher;
+use network_model::Forwarder;
 use std::alloc::{AllocError, Allocator, Global};
 use std::cell::Cell;
 use std::hash::BuildHasher;
@@ -12,7 +12,7 @@ use std::test::Fail;
 use step_values::{Event, Outcome, Path};
 use suffix_routes::Config;
 
-/// Counts the hashers that it makes: one for each hash.
+/// Counts the hashers made, a hasher for each hash.
 #[derive(Drop)]
 struct Counting<'a, S> {
     begun: &'a Cell<u64>,
@@ -32,7 +32,7 @@ impl<'a, S: BuildHasher> BuildHasher for Counting<'a, S> {
 
 type Counted<'a> = Forwarder<Counting<'a, DefaultHasher>>;
 
-/// All names on one route, and as many queries as there may be.
+/// All names on a single route, and the highest limit of queries.
 const CONFIG: &str = r#"version = 1
 [limits]
 inquiries = 1024
@@ -44,7 +44,7 @@ servers = ["192.0.2.1:53"]
 /// The head of a client's question, with RD.
 const ASKS: &[u8] = b"\x12\x34\x01\x00\x00\x01\x00\x00\x00\x00\x00\x00";
 
-/// The head of a reply with one answer, after its identifier.
+/// The head of a reply with an answer, after the identifier.
 const ANSWERS: &[u8] = b"\x85\x00\x00\x01\x00\x01\x00\x00\x00\x00";
 
 /// An address of the question's name: 198.51.100.5, for 300 seconds.
@@ -55,7 +55,7 @@ fn digit(number: u16) -> u8 {
     b'0' + (number % 10) as u8
 }
 
-/// The question for the address of the name with this number: a label of its four digits, and
+/// The question for the address of the numbered name: a label of the number's four digits, and
 /// `example`.
 fn question(number: u16) -> [u8; 18] {
     let mut octets = *b"\x040000\x07example\x00\x00\x01\x00\x01";
@@ -66,14 +66,14 @@ fn question(number: u16) -> [u8; 18] {
     octets
 }
 
-/// The client asks for the name with this number.
+/// The client asks for the numbered name.
 fn asks(alloc: Global, number: u16) -> Result<Event, AllocError> {
     let mut octets = Vec::from_slice(alloc, ASKS)?;
     octets.extend_from_slice(&question(number))?;
     sends(alloc, &octets)
 }
 
-/// The server answers the query with this number, which is its identifier; its port is 1,024 above.
+/// The server answers the query with this number as identifier. The query's port is 1,024 above.
 fn answers(alloc: Global, number: u16) -> Result<Event, AllocError> {
     let mut octets = Vec::from_slice(alloc, &number.to_be_bytes())?;
     octets.extend_from_slice(ANSWERS)?;
@@ -87,12 +87,12 @@ fn answers(alloc: Global, number: u16) -> Result<Event, AllocError> {
     )
 }
 
-/// The words that give a query this identifier, and the port 1,024 above.
+/// Random words for a query with this identifier, and the port 1,024 above.
 fn words(number: u16) -> [u32; 8] {
     [u32::from(number) * 65_537; 8]
 }
 
-/// Whether a step was made that has so many actions.
+/// Whether a step succeeded with `actions` actions.
 fn has_actions<A: Allocator + Copy>(
     outcome: &Result<Outcome<A>, AllocError>,
     actions: usize,
@@ -103,7 +103,7 @@ fn has_actions<A: Allocator + Copy>(
     }
 }
 
-/// The hashes of the step of this event; `None` unless it is made with so many actions.
+/// The hashes of this event's step; `None` unless the step succeeds with `actions` actions.
 fn hashes_of(
     begun: &Cell<u64>,
     forwarder: &mut Counted<'_>,
@@ -120,8 +120,8 @@ fn hashes_of(
     }
 }
 
-/// The most hashes of one of `count` steps, each of which sends a query for another name; `None` if
-/// a step does anything else.
+/// The most hashes of any of `count` steps, each sending a query for another name; `None` if a step
+/// does anything else.
 fn most_of_queries(
     alloc: Global,
     begun: &Cell<u64>,
@@ -139,10 +139,9 @@ fn most_of_queries(
     Ok(Some(most))
 }
 
-/// The most hashes of one of `count` steps, each of which sends a query for another name. Then,
-/// with these queries under way, the hashes of a question that joins the first query, of the reply
-/// to the first query, which answers both questions, and of a tick. `None` if a step does anything
-/// else.
+/// The most hashes of any of `count` steps, each sending a query for another name. Then, with these
+/// queries under way, the hashes of a question joining the first query, of the first query's reply,
+/// which answers both questions, and of a tick. `None` if a step does anything else.
 fn hashes_with(
     alloc: Global,
     begun: &Cell<u64>,
@@ -161,7 +160,7 @@ fn hashes_with(
     }
 }
 
-/// The result of [`hashes_with`] for a new forwarder, which is forgotten.
+/// The result of [`hashes_with`] for a new forwarder. The forwarder is forgotten.
 fn hashes(alloc: Global, count: u16) -> Result<Option<[u64; 4]>, Fail> {
     let config = Config::read(alloc, alloc, CONFIG)?;
     let begun = Cell::new(0);

@@ -1,10 +1,10 @@
-//! An event that calls for nothing does not allocate: of one allocation that is allowed, one is
-//! left after the step. So a body that copies a stranger's octets is found even where it ignores
-//! the refusal.
+//! An event without consequences does not allocate: of one allowed allocation, one is left after
+//! the step. So a body that copies a stranger's octets fails here, even if the body ignores the
+//! refusal.
 
 use crate::worked::{PATH, REPLY, SECOND, SERVER, WORDS, ask, delivers, new, sends};
-use forwarder_core::Forwarder;
 use lru::DefaultHasher;
+use network_model::Forwarder;
 use refusing_allocator::Refusing;
 use std::alloc::{AllocError, Allocator, Global};
 use std::mem::forget;
@@ -12,14 +12,14 @@ use std::test::Fail;
 use step_values::{Event, Outcome, Path};
 use suffix_routes::Peer;
 
-/// Whether one allocation that is allowed is left. Then all are.
+/// Whether a single allowed allocation is left. Then allows all allocations.
 fn is_left(heap: &Refusing<Global>) -> bool {
     let is_left = Box::new(heap, 0u8).is_ok();
     heap.allow(u64::MAX);
     is_left
 }
 
-/// Whether a step was made that has no action.
+/// Whether a step succeeded without an action.
 fn is_empty<A: Allocator + Copy>(outcome: &Result<Outcome<A>, AllocError>) -> bool {
     match outcome {
         Ok(outcome) => outcome.actions.is_empty(),
@@ -27,7 +27,7 @@ fn is_empty<A: Allocator + Copy>(outcome: &Result<Outcome<A>, AllocError>) -> bo
     }
 }
 
-/// Whether the step of this event has no action and does not allocate.
+/// Whether this event's step has no action and does not allocate.
 fn is_quiet<'a>(
     heap: &'a Refusing<Global>,
     forwarder: &mut Forwarder<DefaultHasher, &'a Refusing<Global>>,
@@ -39,7 +39,7 @@ fn is_quiet<'a>(
     is_left(heap) && is_empty(&outcome)
 }
 
-/// An event whose octets are in the table.
+/// An event with octets from the table.
 #[derive(Clone, Copy)]
 enum Row {
     Sends(&'static [u8]),
@@ -62,8 +62,8 @@ const OTHER_PORT: Peer = Peer {
     port: 5353,
 };
 
-/// The events after the query was sent at 1000, each with its moment. The query may be answered for
-/// 1,500 milliseconds, and an earlier moment counts as the latest one.
+/// The events after sending the query at 1000, each with a moment. The query may be answered for
+/// 1,500 milliseconds. An earlier moment counts as the latest.
 const ROWS: [(u64, Row); 16] = [
     (1001, Row::Sends(REPLY)),
     (
@@ -86,7 +86,7 @@ const ROWS: [(u64, Row); 16] = [
     (9000, Row::Tick),
 ];
 
-/// The event of a row.
+/// A row's event.
 fn event<A: Allocator + Copy>(alloc: A, row: Row) -> Result<Event<A>, AllocError> {
     match row {
         Row::Sends(bytes) => sends(alloc, bytes),
@@ -97,7 +97,7 @@ fn event<A: Allocator + Copy>(alloc: A, row: Row) -> Result<Event<A>, AllocError
     }
 }
 
-/// Whether the step of a row has no action and does not allocate.
+/// Whether a row's step has no action and does not allocate.
 fn is_quiet_row<'a>(
     heap: &'a Refusing<Global>,
     forwarder: &mut Forwarder<DefaultHasher, &'a Refusing<Global>>,
@@ -108,29 +108,29 @@ fn is_quiet_row<'a>(
     Ok(is_quiet(heap, forwarder, now, &event))
 }
 
-/// The calls of a forwarder.
+/// Calls of a forwarder.
 #[derive(Clone, Copy, PartialEq, Eq)]
 enum Calls {
-    /// After the query was sent, the step of each row.
+    /// After sending the query, the step of each row.
     Rows,
-    /// After the query was sent, a restart.
+    /// After sending the query, a restart.
     Restart,
-    /// A restart of a new forwarder.
+    /// A new forwarder's restart.
     RestartOfNew,
-    /// After the query was sent, what is due next.
+    /// After sending the query, a look at the next due moment.
     NextDue,
 }
 
 /// The result of these calls.
 #[derive(Clone, Copy, PartialEq, Eq, Debug)]
 enum Came {
-    /// No call allocates, no step has an action, and this is due next if it was asked for.
+    /// No call allocates, no step has an action, and this is the next due moment if asked for.
     Quiet(Option<u64>),
     /// The first call, from 0, that allocates or has an action.
     Loud(usize),
 }
 
-/// The result of a call that returned this.
+/// The result after a call that returned `due`.
 fn came_if_left(heap: &Refusing<Global>, due: Option<u64>) -> Came {
     if is_left(heap) {
         Came::Quiet(due)
@@ -152,7 +152,7 @@ fn came_of_rows<'a>(
     Ok(Came::Quiet(None))
 }
 
-/// The result of these calls of this forwarder, which is new.
+/// The result of these calls for this new forwarder.
 fn came_of<'a>(
     heap: &'a Refusing<Global>,
     forwarder: &mut Forwarder<DefaultHasher, &'a Refusing<Global>>,
@@ -176,8 +176,8 @@ fn came_of<'a>(
     }
 }
 
-/// Makes a forwarder, and returns the result of these calls of it. The forwarder is forgotten:
-/// dropping it would have to be proved here.
+/// The result of these calls for a new forwarder. The forwarder is forgotten: dropping it would
+/// need a proof here.
 fn came_of_new(alloc: Global, calls: Calls) -> Result<Came, AllocError> {
     let heap = Refusing::new(alloc);
     let mut forwarder = new(&heap)?;
@@ -207,7 +207,7 @@ fn a_restart_of_a_new_forwarder_takes_no_memory(rt: HostRuntime) -> Result<(), F
     Ok(())
 }
 
-/// The next moment that is due is 1,500 milliseconds after the query was sent.
+/// The next due moment is 1,500 milliseconds after sending the query.
 #[test]
 fn what_is_due_next_takes_no_memory(rt: HostRuntime) -> Result<(), Fail> {
     assert_eq!(rt;

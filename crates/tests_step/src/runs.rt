@@ -4,9 +4,8 @@
 use crate::worked::{
     QUERY, QUESTION, WORDS, answer_whole, config, new, replies, send_alone, sends,
 };
-use forwarder_core::Forwarder;
 use lru::DefaultHasher;
-use network_model::{Recorded, run_list};
+use network_model::{Forwarder, Recorded, run_list};
 use refusing_allocator::Refusing;
 use std::alloc::{AllocError, Allocator, Global};
 use std::mem::forget;
@@ -32,7 +31,7 @@ fn second<A: Allocator + Copy>(alloc: A) -> Result<StepInput<A>, AllocError> {
 }
 
 /// Whether these are the two steps: the query goes out, and the answer comes back, with `unkept`
-/// pieces for which memory ran out.
+/// pieces lost for lack of memory.
 fn are_worked<A: Allocator + Copy>(steps: &[Step<A>], unkept: u32) -> bool {
     match steps {
         [asks, answers] => {
@@ -55,7 +54,7 @@ fn is_done<A: Allocator>(outcome: &Outcome<A>, unkept: u32) -> bool {
     outcome.unkept == unkept && !outcome.more
 }
 
-/// Whether the step of this forwarder asks the query.
+/// Whether the forwarder's step sends the query.
 fn is_asked(
     alloc: Global,
     forwarder: &mut Forwarder<DefaultHasher, Global>,
@@ -65,7 +64,7 @@ fn is_asked(
     Ok(send_alone(&outcome.actions, &QUERY) && is_done(&outcome, 0))
 }
 
-/// Whether the next step of this forwarder answers.
+/// Whether the forwarder's next step answers.
 fn is_answered(
     alloc: Global,
     forwarder: &mut Forwarder<DefaultHasher, Global>,
@@ -75,8 +74,8 @@ fn is_answered(
     Ok(answer_whole(&outcome.actions) && is_done(&outcome, 0))
 }
 
-/// The two steps by calls of a forwarder of its own: whether the first step asks, and whether the
-/// second answers. The forwarder is forgotten: dropping it would have to be proved here.
+/// Whether the first of two calls of a new forwarder sends the query, and whether the second
+/// answers. The forwarder is forgotten: dropping it would need a proof here.
 fn worked_by_calls(alloc: Global) -> Result<(bool, bool), AllocError> {
     let mut forwarder = new(alloc)?;
     let asked = is_asked(alloc, &mut forwarder);
@@ -91,17 +90,17 @@ fn the_steps_by_calls(rt: HostRuntime) -> Result<(), Fail> {
     Ok(())
 }
 
-/// The allocations that are refused.
+/// The refused allocations.
 #[derive(Clone, Copy)]
 pub(crate) enum Refused {
-    /// One allocation alone.
+    /// A single allocation.
     One,
-    /// One allocation, and each one after it.
+    /// An allocation, and all later allocations.
     Rest,
 }
 
 impl Refused {
-    /// From now on `granted` allocations are granted before one is refused.
+    /// Grants `granted` allocations from now on, and then refuses.
     pub(crate) fn begin(self, heap: &Refusing<Global>, granted: u64) {
         match self {
             Refused::One => heap.refuse_one(granted),
@@ -110,19 +109,19 @@ impl Refused {
     }
 }
 
-/// The result of a run in which allocations are refused.
+/// The result of a run with refused allocations.
 #[derive(Clone, Copy)]
 enum Fate {
     /// A step was refused.
     Lost,
-    /// Each step was made, but a piece was not kept.
+    /// Each step succeeded, but a piece was not kept.
     Unkept,
-    /// Each step was made whole.
+    /// Each step succeeded whole.
     Whole,
     Other,
 }
 
-/// The result of a run that made these steps.
+/// The result of a run with these steps.
 fn fate_of_steps<A: Allocator + Copy>(steps: &[Step<A>]) -> Fate {
     if are_worked(steps, 0) {
         Fate::Whole
@@ -150,7 +149,8 @@ fn fate_of_list(
     }
 }
 
-/// The second step, with an allocation refused after `granted`; whether it was made.
+/// Takes the second step, with an allocation refused after `granted`; returns whether the step
+/// succeeded.
 fn made_with<'a>(
     heap: &'a Refusing<Global>,
     recorded: &mut Recorded<DefaultHasher, &'a Refusing<Global>>,
@@ -164,8 +164,8 @@ fn made_with<'a>(
     Ok(outcome.is_ok())
 }
 
-/// The second step was refused and changed nothing: made again with memory, it and the first are
-/// the worked ones.
+/// Whether a refused second step changed nothing: with memory, the first step and the repeated
+/// second step are the worked steps.
 fn is_made_again<'a>(
     heap: &'a Refusing<Global>,
     recorded: &mut Recorded<DefaultHasher, &'a Refusing<Global>>,
@@ -175,8 +175,8 @@ fn is_made_again<'a>(
     Ok(was_first_alone && are_worked(recorded.steps(), 0))
 }
 
-/// The result of the second step of a recorded run, with an allocation refused after `granted`. A
-/// step that is refused has to be made again.
+/// The result of a recorded run's second step, with an allocation refused after `granted`. A
+/// refused step has to succeed when repeated.
 fn fate_of_second<'a>(
     heap: &'a Refusing<Global>,
     recorded: &mut Recorded<DefaultHasher, &'a Refusing<Global>>,
@@ -209,12 +209,12 @@ fn fate_of_recorded(
 enum Run {
     /// Over a list.
     List,
-    /// Recorded. The run has ample memory up to its second step.
+    /// Recorded, with ample memory up to the second step.
     Recorded,
 }
 
-/// Each allocation of a run is refused in turn: the number with which a step is refused, and the
-/// number with which a piece is not kept. `None` if the run does anything else.
+/// Refuses each allocation of a run in turn, and counts the runs with a refused step and the runs
+/// with an unkept piece. `None` if a run does anything else.
 fn refusals_of(
     heap: &Refusing<Global>,
     run: Run,
@@ -236,7 +236,7 @@ fn refusals_of(
     Ok(None)
 }
 
-/// The result of [`refusals_of`], with one allocation alone refused, and with each one after it.
+/// The result of [`refusals_of`], with a single allocation refused, and with all later allocations.
 fn refusals(alloc: Global, run: Run) -> Result<[Option<(u64, u64)>; 2], AllocError> {
     let heap = Refusing::new(alloc);
     let one = refusals_of(&heap, run, Refused::One)?;
@@ -244,10 +244,10 @@ fn refusals(alloc: Global, run: Run) -> Result<[Option<(u64, u64)>; 2], AllocErr
     Ok([one, rest])
 }
 
-/// The configuration makes 2 allocations and a new forwarder 7, all but one for its cache; a step
-/// makes one more for the copy of its input, and the first for the list. Of the 11 of the first
-/// step, whose one action makes none, 5 are for the ask and 4 for the question that waits: a slab
-/// and lists of keys. With the last allocation refused, the set is not kept.
+/// The configuration makes 2 allocations. A new forwarder makes 7, all but one for the cache. A
+/// step makes one more for the copy of its input, and the first step another for the list. Of the
+/// first step's 11, none is for its only action, 5 are for the ask, and 4 for the waiting question:
+/// a slab and lists of keys. With the last allocation refused, the set is not kept.
 #[test]
 fn a_run_over_a_list(rt: HostRuntime) -> Result<(), Fail> {
     let [one, rest] = refusals(rt.alloc(), Run::List)?;
@@ -256,7 +256,7 @@ fn a_run_over_a_list(rt: HostRuntime) -> Result<(), Fail> {
     Ok(())
 }
 
-/// The allocations of the second step alone: the run keeps the input of the step without a copy.
+/// The second step's allocations alone: the run keeps the step's input without a copy.
 #[test]
 fn a_recorded_run(rt: HostRuntime) -> Result<(), Fail> {
     let [one, rest] = refusals(rt.alloc(), Run::Recorded)?;
@@ -265,7 +265,7 @@ fn a_recorded_run(rt: HostRuntime) -> Result<(), Fail> {
     Ok(())
 }
 
-/// Whether a new forwarder is made with an allocation refused after `granted`. Its configuration
+/// Whether a new forwarder is made with an allocation refused after `granted`. The configuration
 /// has ample memory.
 fn is_forwarder_with(
     heap: &Refusing<Global>,
@@ -281,7 +281,7 @@ fn is_forwarder_with(
     Ok(is_made)
 }
 
-/// Whether a new recorded run is made with an allocation refused after `granted`. Its configuration
+/// Whether a new recorded run is made with an allocation refused after `granted`. The configuration
 /// has ample memory.
 fn is_recorded_with(
     heap: &Refusing<Global>,
@@ -297,8 +297,8 @@ fn is_recorded_with(
     Ok(is_made)
 }
 
-/// The fewest allocations granted before one is refused with which both a forwarder and a run are
-/// made; `None` if one of the two is made with fewer than the other.
+/// The fewest granted allocations with which a forwarder and a run are made; `None` if the numbers
+/// differ.
 fn growths_of_new(heap: &Refusing<Global>, refused: Refused) -> Result<Option<u64>, AllocError> {
     for granted in 0..64 {
         let is_forwarder = is_forwarder_with(heap, refused, granted)?;
@@ -313,7 +313,8 @@ fn growths_of_new(heap: &Refusing<Global>, refused: Refused) -> Result<Option<u6
     Ok(None)
 }
 
-/// The result of [`growths_of_new`], with one allocation alone refused, and with each one after it.
+/// The result of [`growths_of_new`], with a single allocation refused, and with all later
+/// allocations.
 fn growths(alloc: Global) -> Result<[Option<u64>; 2], AllocError> {
     let heap = Refusing::new(alloc);
     let one = growths_of_new(&heap, Refused::One)?;
@@ -328,8 +329,8 @@ fn each_growth_of_a_new_forwarder_is_refused(rt: HostRuntime) -> Result<(), Fail
     Ok(())
 }
 
-/// The number of steps of a run once it has made the first one, and whether they are seen without
-/// allocating: of one allocation that is allowed, one is left.
+/// The number of a run's steps after the first step, and whether looking at the steps does not
+/// allocate: a single allowed allocation is left.
 fn seen_after_first<'a>(
     heap: &'a Refusing<Global>,
     recorded: &mut Recorded<DefaultHasher, &'a Refusing<Global>>,
@@ -342,8 +343,8 @@ fn seen_after_first<'a>(
     Ok((count, is_left))
 }
 
-/// The number of steps of a new run once it has made the first step, and whether steps are seen
-/// without allocating. The run is forgotten.
+/// The number of a new run's steps after the first step, and whether looking at the steps does not
+/// allocate. The run is forgotten.
 fn seen(alloc: Global) -> Result<(usize, bool), AllocError> {
     let heap = Refusing::new(alloc);
     let mut recorded = Recorded::new(&heap, config(&heap)?, DefaultHasher::default())?;

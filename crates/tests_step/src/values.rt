@@ -1,4 +1,4 @@
-//! Events, actions and what a step takes are copied whole, and each refused allocation is reported.
+//! Events, actions and step inputs are copied whole, and each refused allocation is reported.
 
 use plain_values::PlainList;
 use refusing_allocator::Refusing;
@@ -16,7 +16,7 @@ const PEER: Peer = Peer {
 
 const OCTETS: &[u8] = b"\x00\x08";
 
-/// The places of the events that `event` makes, and whether each has octets.
+/// The numbers of `event`'s events, and whether each has octets.
 const EVENTS: [(u8, bool); 8] = [
     (0, true),
     (1, true),
@@ -28,7 +28,7 @@ const EVENTS: [(u8, bool); 8] = [
     (7, false),
 ];
 
-/// The places of the actions that `action` makes, and whether each has octets.
+/// The numbers of `action`'s actions, and whether each has octets.
 const ACTIONS: [(u8, bool); 6] = [
     (0, true),
     (1, true),
@@ -38,7 +38,7 @@ const ACTIONS: [(u8, bool); 6] = [
     (5, true),
 ];
 
-/// The event at a place: one of each kind, by UDP and over TCP.
+/// The event with this number: an event of each kind, by UDP and over TCP.
 fn event<A: Allocator + Copy>(alloc: A, place: u8) -> Result<Event<A>, AllocError> {
     match place {
         0 => client_event(alloc, Client::Udp(PEER)),
@@ -69,7 +69,7 @@ fn delivery<A: Allocator>(alloc: A, path: Path) -> Result<Event<A>, AllocError> 
     })
 }
 
-/// The action at a place: one of each kind, a reply by UDP and over TCP.
+/// The action with this number: an action of each kind, a reply by UDP and over TCP.
 fn action<A: Allocator + Copy>(alloc: A, place: u8) -> Result<Action<A>, AllocError> {
     match place {
         0 => Ok(Action::AskUdp {
@@ -162,7 +162,7 @@ fn is_equal_action<A: Allocator>(one: &Action<A>, other: &Action<A>) -> bool {
     }
 }
 
-/// Refuses the next allocation: alone, or with each one after it.
+/// Refuses the next allocation, alone or with all later allocations.
 fn refuse(heap: &Refusing<Global>, is_alone: bool) {
     if is_alone {
         heap.refuse_one(0);
@@ -171,7 +171,7 @@ fn refuse(heap: &Refusing<Global>, is_alone: bool) {
     }
 }
 
-/// Whether the copy of this event is equal to it, and is refused out of memory if it has octets.
+/// Whether the event's copy is equal, and is refused without memory if the event has octets.
 fn is_event_copied<'a>(
     heap: Heap<'a>,
     event: &Event<Heap<'a>>,
@@ -185,7 +185,7 @@ fn is_event_copied<'a>(
     Ok(is_refused == has_octets && is_equal_event(event, &copy))
 }
 
-/// Whether the copy of this action is equal to it, and is refused out of memory if it has octets.
+/// Whether the action's copy is equal, and is refused without memory if the action has octets.
 fn is_action_copied<'a>(
     heap: Heap<'a>,
     action: &Action<Heap<'a>>,
@@ -199,14 +199,14 @@ fn is_action_copied<'a>(
     Ok(is_refused == has_octets && is_equal_action(action, &copy))
 }
 
-/// The kind of the value that is copied.
+/// The kind of the copied value.
 #[derive(Clone, Copy)]
 enum Kind {
     Event,
     Action,
 }
 
-/// Whether the value at a place is copied right, with one allocation refused alone or with all.
+/// Whether the numbered value is copied right, with a single allocation refused and with all.
 fn is_copied(
     heap: Heap<'_>,
     kind: Kind,
@@ -227,7 +227,7 @@ fn is_copied(
     }
 }
 
-/// The first of these places that is not copied right, if any.
+/// The first number not copied right, if any.
 fn first_uncopied(
     alloc: Global,
     kind: Kind,
@@ -269,7 +269,7 @@ fn copies_of_actions_are_equal(rt: HostRuntime) -> Result<(), Fail> {
     Ok(())
 }
 
-/// Whether a refused allocation of a copy of this input is reported, and whether the copy is whole.
+/// Whether copying this input reports a refused allocation, and whether the copy is whole.
 fn is_input_copied<'a>(
     heap: Heap<'a>,
     input: &StepInput<Heap<'a>>,
@@ -285,8 +285,8 @@ fn is_input_copied<'a>(
     ))
 }
 
-/// Whether a refused allocation of a copy of an input with a delivery is reported, and whether the
-/// copy is whole.
+/// Whether copying an input with a delivery reports a refused allocation, and whether the copy is
+/// whole.
 fn is_delivery_copied(alloc: Global) -> Result<(bool, bool), AllocError> {
     let heap = Refusing::new(alloc);
     let input = StepInput {
@@ -303,7 +303,7 @@ fn copies_of_inputs_are_equal(rt: HostRuntime) -> Result<(), Fail> {
     Ok(())
 }
 
-/// Whether the list has one action, which closes this path.
+/// Whether the list has a single action, closing this path.
 fn closes_alone<A: Allocator + Copy>(actions: &Actions<A>, path: Path) -> bool {
     actions.len() == 1 && closes(actions.get(0), path) && actions.get(1).is_none()
 }
@@ -317,15 +317,15 @@ fn closes<A: Allocator>(action: Option<&Action<A>>, path: Path) -> bool {
     }
 }
 
-/// Whether a list of one action is made without an allocation.
+/// Whether a list of a single action is made without an allocation.
 fn is_only(heap: Heap<'_>) -> bool {
     heap.allow(0);
     let only = Actions::one(heap, Action::CloseTcp { conn: 7 });
     closes_alone(&only, Path::Tcp(7))
 }
 
-/// Whether this list, which is empty, gets its first action without an allocation, and a refused
-/// allocation for the second changes nothing; then whether both are listed in their order.
+/// Whether this empty list takes a first action without an allocation, and a refused allocation for
+/// the second changes nothing. Then whether both are listed in order.
 fn are_listed<'a>(
     heap: Heap<'a>,
     actions: &mut Actions<Heap<'a>>,
@@ -344,7 +344,7 @@ fn are_listed<'a>(
     Ok((is_empty && is_refused && is_left, are_both))
 }
 
-/// Both, of a list of one action and of a new list.
+/// The results of [`is_only`] and [`are_listed`].
 fn lists(alloc: Global) -> Result<(bool, bool, bool), AllocError> {
     let heap = Refusing::new(alloc);
     let mut actions = Actions::new(&heap);

@@ -1,8 +1,8 @@
-//! A worked question with its query, reply and answer, and the events and actions that have them.
+//! A worked question with its query, reply and answer, and with their events and actions.
 
 use dns_name::Name;
-use forwarder_core::Forwarder;
 use lru::DefaultHasher;
+use network_model::Forwarder;
 use plain_values::PlainList;
 use std::alloc::{AllocError, Allocator};
 use step_values::{Action, Actions, Client, Event, Path, Why};
@@ -18,26 +18,26 @@ pub(crate) const SERVER: Peer = Peer {
     port: 53,
 };
 
-/// The second server of the group.
+/// The route's second server.
 pub(crate) const SECOND: Peer = Peer {
     ip: [192, 0, 2, 2],
     port: 53,
 };
 
-/// The first word gives identifier 8 and port 1032, each further one the next identifier and the
+/// The first word gives identifier 8 and port 1032, each further word the next identifier and the
 /// next port.
 pub(crate) const WORDS: [u32; 8] = [
     524_296, 589_833, 655_370, 720_907, 786_444, 851_981, 917_518, 983_055,
 ];
 
-/// The path of the query, by the first word.
+/// The query's path, by the first word.
 pub(crate) const PATH: Path = Path::Udp(1032);
 
-/// A question for the address of a.example. The last four octets are its type and its class.
+/// A question for the address of a.example. The last four octets are type and class.
 pub(crate) const QUESTION: [u8; 27] =
     *b"\x12\x34\x01\x00\x00\x01\x00\x00\x00\x00\x00\x00\x01a\x07example\x00\x00\x01\x00\x01";
 
-/// The query that asks a server the question.
+/// The query to a server for the question.
 pub(crate) const QUERY: [u8; 27] =
     *b"\x00\x08\x01\x00\x00\x01\x00\x00\x00\x00\x00\x00\x01a\x07example\x00\x00\x01\x00\x01";
 
@@ -49,7 +49,7 @@ pub(crate) const REPLY: &[u8] =
 pub(crate) const ANSWER: &[u8] =
     b"\x12\x34\x81\x80\x00\x01\x00\x01\x00\x00\x00\x00\x01a\x07example\x00\x00\x01\x00\x01\xc0\x0c\x00\x01\x00\x01\x00\x00\x01\x2c\x00\x04\xc6\x33\x64\x05";
 
-/// One route, for every name, with two servers.
+/// A single route for all names, with two servers.
 pub(crate) fn config<A: Allocator + Copy>(alloc: A) -> Result<Config<A>, AllocError> {
     let route = Route {
         suffix: Name::root(),
@@ -118,7 +118,7 @@ pub(crate) fn asked<A: Allocator + Copy>(
     Ok(forwarder)
 }
 
-/// Whether the actions send these octets to the server, from the query's port, and nothing else.
+/// Whether the actions only send these octets to the server from the query's port.
 pub(crate) fn send_alone<A: Allocator + Copy>(actions: &Actions<A>, text: &[u8]) -> bool {
     match (actions.get(0), actions.get(1)) {
         (
@@ -145,7 +145,7 @@ pub(crate) fn is_reply<A: Allocator>(action: &Action<A>, text: &[u8], reason: Wh
     }
 }
 
-/// Whether the actions close the query's port and give the client its answer, and nothing else.
+/// Whether the actions only close the query's port and answer the client.
 pub(crate) fn answer_whole<A: Allocator + Copy>(actions: &Actions<A>) -> bool {
     match (actions.get(0), actions.get(1), actions.get(2)) {
         (Some(Action::CloseUdp { port }), Some(reply), None) => {

@@ -1,5 +1,5 @@
-//! Moments and random words at each age of a wire, and what comes of a stall. Ports 15388 to 15393,
-//! 15397 and 15401 have to be free. A wire is forgotten, as in `sockets`.
+//! Moments and random words at each age of a wire, and the consequences of a stall. Ports 15388 to
+//! 15393, 15397 and 15401 have to be free. A wire is forgotten, as in `sockets`.
 
 use crate::came::{Came, came_next, clients_that_came, here, is_sent, reply_to, settle};
 use crate::system::{System, TURNS, expected, local, moment_in_turn, send};
@@ -16,8 +16,8 @@ use std::time::Duration;
 use step_values::Action;
 use suffix_routes::Limits;
 
-/// Times of the clock, in seconds and nanoseconds since the wire was made, and the moment at each:
-/// whole milliseconds, at most 2^64 - 1. Where the clock goes back, the last moment stays.
+/// Times of the clock, in seconds and nanoseconds since the wire was made, each with the moment:
+/// whole milliseconds, at most 2^64 - 1. If the clock goes back, the last moment stays.
 const TIMES: [(u64, u32, u64); 9] = [
     (0, 250_000_000, 250),
     (11, 0, 11_000),
@@ -30,7 +30,7 @@ const TIMES: [(u64, u32, u64); 9] = [
     (u64::MAX, 0, u64::MAX),
 ];
 
-/// How many of these moments come, one after the other.
+/// The number of right moments before the first wrong one.
 fn moments_that_come(system: &System<'_>, wire: &mut MioWire<'_, System<'_>>) -> usize {
     for (place, (seconds, nanos, moment)) in TIMES.iter().enumerate() {
         let whole = Duration::from_secs(*seconds);
@@ -54,7 +54,7 @@ fn moments_are_those_of_the_clock(rt: HostRuntime) -> Result<(), Fail> {
     Ok(())
 }
 
-/// The moment of the next datagram. A second passes between its arrival and its step.
+/// The next datagram's moment. A second passes between the datagram's arrival and its step.
 fn moment_of_datagram(system: &System<'_>, wire: &mut MioWire<'_, System<'_>>) -> Option<u64> {
     for _ in 0..TURNS {
         let came = wire.arrival();
@@ -66,8 +66,8 @@ fn moment_of_datagram(system: &System<'_>, wire: &mut MioWire<'_, System<'_>>) -
     None
 }
 
-/// The moments of three turns: nothing arrives in the first, and the clock comes to this age then;
-/// a datagram arrives in the second, and another one in the third, a second later.
+/// The moments of three turns. In the first nothing arrives, and the clock reaches this age. In the
+/// second a datagram arrives, and a second later, in the third, another.
 fn moments_of_turns(
     system: &System<'_>,
     wire: &mut MioWire<'_, System<'_>>,
@@ -85,8 +85,8 @@ fn moments_of_turns(
     Some([after_nothing, first, second])
 }
 
-/// The number of ages at which each of these turns has its own moment, one after the other. That of
-/// the ticks, where nothing arrives, comes once the wire has waited.
+/// The number of ages, before the first failure, at which each of these turns has its own moment. A
+/// tick's moment, with nothing arriving, is read after the wait.
 fn ages_with_moments(
     system: &System<'_>,
     wire: &mut MioWire<'_, System<'_>>,
@@ -113,8 +113,8 @@ fn an_arrival_has_the_moment_of_its_turn(rt: HostRuntime) -> Result<(), Fail> {
     Ok(())
 }
 
-/// The moment of a datagram that a wire of this age finds once it has waited. The clock moves on by
-/// 1 ms at each reading, so no socket is tried before.
+/// The moment of a datagram, found by a wire of this age after the wait. Each reading moves the
+/// clock on by 1 ms, so no socket is tried before.
 fn moment_after_wait(
     system: &System<'_>,
     wire: &mut MioWire<'_, System<'_>>,
@@ -130,8 +130,8 @@ fn moment_after_wait(
     moment
 }
 
-/// The number of ages at which this moment is that of the second reading in the turn, one after the
-/// other.
+/// The number of ages, before the first failure, at which this moment is from the turn's second
+/// reading.
 fn ages_with_moment_after_wait(
     system: &System<'_>,
     wire: &mut MioWire<'_, System<'_>>,
@@ -158,7 +158,7 @@ fn an_arrival_in_a_wait_has_the_moment_after_it(rt: HostRuntime) -> Result<(), F
     Ok(())
 }
 
-/// The octets 0 to 31, and the same with another one last.
+/// The octets 0 to 31, then the octets 0 to 30 and another last octet.
 const SEED: [u8; 32] = [
     0, 1, 2, 3, 4, 5, 6, 7, 8, 9, 10, 11, 12, 13, 14, 15, 16, 17, 18, 19, 20, 21, 22, 23, 24, 25,
     26, 27, 28, 29, 30, 31,
@@ -169,8 +169,7 @@ const OTHER_SEED: [u8; 32] = [
     26, 27, 28, 29, 30, 32,
 ];
 
-/// The words of ChaCha with 12 rounds that the first seed gives, eight for each age, by another
-/// program.
+/// The words of ChaCha with 12 rounds for the first seed, eight for each age, by another program.
 const WORDS: [[u32; 8]; 5] = [
     [
         4294521330, 1590065873, 636683588, 2856380887, 526390089, 3158752962, 3284845545, 907680473,
@@ -192,13 +191,13 @@ const WORDS: [[u32; 8]; 5] = [
     ],
 ];
 
-/// The first words that the other seed gives.
+/// The first words for the other seed.
 const OTHER_WORDS: [u32; 8] = [
     4250031675, 3836005965, 1153169596, 539325315, 3738562017, 26829547, 77443900, 3866314460,
 ];
 
-/// At how many ages the words are these, one age after the other: the same twice, and the next ones
-/// after a query, whatever becomes of it.
+/// The number of ages, before the first failure, with these words: unchanged at a second call, and
+/// the next words after a query, whatever becomes of the query.
 fn ages_with_words(
     system: &System<'_>,
     wire: &mut MioWire<'_, System<'_>>,
@@ -243,7 +242,7 @@ fn another_seed_gives_other_words(rt: HostRuntime) -> Result<(), Fail> {
     Ok(())
 }
 
-/// The number of clients whose end comes in the next turns.
+/// The number of clients reported as ended in the next turns.
 fn ends(wire: &mut MioWire<'_, System<'_>>) -> u32 {
     let mut count = 0u32;
     for _ in 0..8u8 {
@@ -255,7 +254,7 @@ fn ends(wire: &mut MioWire<'_, System<'_>>) -> u32 {
     count
 }
 
-/// Three clients that begin a question. Two of them send the rest, which is not read yet.
+/// Three clients, each beginning a question. Two send the rest, still unread.
 fn three_clients(
     system: &System<'_>,
     wire: &mut MioWire<'_, System<'_>>,
@@ -269,7 +268,7 @@ fn three_clients(
     Ok(clients)
 }
 
-/// Puts a reply to the client with this number.
+/// Puts a reply to the numbered client.
 fn is_replied(
     system: &System<'_>,
     wire: &mut MioWire<'_, System<'_>>,
@@ -279,8 +278,7 @@ fn is_replied(
     Ok(wire.put(&reply).is_ok())
 }
 
-/// Whether these two questions get their replies, and only one client is closed, once sockets were
-/// tried that no event reported.
+/// Whether these two questions get replies, and only one client is closed, after a sweep.
 fn are_replied(
     system: &System<'_>,
     wire: &mut MioWire<'_, System<'_>>,
@@ -300,8 +298,8 @@ fn are_replied(
     Ok(ended == 1 && replied)
 }
 
-/// Whether the two questions come after a stall of an hour and get their replies, and only the
-/// third client, which said nothing in that time, is closed.
+/// Whether the two questions arrive after a stall of an hour and get replies, and only the third
+/// client, silent in that time, is closed.
 fn outlives_a_stall(system: &System<'_>, wire: &mut MioWire<'_, System<'_>>) -> Result<bool, Fail> {
     let mut clients = three_clients(system, wire)?;
     system.time.set(Duration::from_millis(3_600_000));
@@ -315,7 +313,7 @@ fn outlives_a_stall(system: &System<'_>, wire: &mut MioWire<'_, System<'_>>) -> 
     }
 }
 
-/// Octets that a client sent before the end of a stall are read before the client is judged silent.
+/// Octets sent before the end of a stall are read before the client is judged silent.
 #[test]
 fn questions_that_came_in_a_stall_are_answered(rt: HostRuntime) -> Result<(), Fail> {
     let system = System::new(&rt);

@@ -10,23 +10,23 @@ use std::net::{Ipv4Addr, SocketAddr};
 use std::test::Fail;
 use step_values::{Action, Client, Path, Why};
 
-/// The turns after which no socket is noted as ready.
+/// The number of turns after which no socket is noted as ready.
 const SETTLED: u32 = 4;
 
 /// An arrival, in plain values.
 #[derive(Clone, Copy, PartialEq, Eq, Debug)]
 pub(crate) enum Came {
-    /// Nothing, or the end of a client.
+    /// Nothing, or a client's end.
     Nothing,
-    /// A client's datagram: the number of its octets.
+    /// A client's datagram: the number of octets.
     Datagram(usize),
-    /// A piece of the stream of the client with this number: the number of its octets.
+    /// A piece of the numbered client's stream: the number of octets.
     Piece(u64, usize),
-    /// A datagram at the port of a query: the number of its octets.
+    /// A datagram at a query's port: the number of octets.
     Reply(u16, usize),
-    /// A piece of the stream of a server on this connection: the number of its octets.
+    /// A piece of a server's stream on this connection: the number of octets.
     Stream(u64, usize),
-    /// The end of a path.
+    /// A path's end.
     Gone(Path),
     /// The wire refused.
     Refused,
@@ -43,7 +43,7 @@ fn came_in(arrival: &Arrival) -> Came {
     }
 }
 
-/// The arrival of a turn.
+/// A turn's arrival.
 pub(crate) fn came_now(wire: &mut MioWire<'_, System<'_>>) -> Came {
     let came = match wire.arrival() {
         Ok(arrival) => came_in(&arrival),
@@ -53,7 +53,7 @@ pub(crate) fn came_now(wire: &mut MioWire<'_, System<'_>>) -> Came {
     came
 }
 
-/// The next arrival; `Nothing` if nothing has come in many turns.
+/// The next arrival; `Nothing` if nothing arrives in many turns.
 pub(crate) fn came_next(wire: &mut MioWire<'_, System<'_>>) -> Came {
     for _ in 0..TURNS {
         let came = came_now(wire);
@@ -64,24 +64,24 @@ pub(crate) fn came_next(wire: &mut MioWire<'_, System<'_>>) -> Came {
     Came::Nothing
 }
 
-/// Makes so many turns, whatever comes in them.
+/// Takes `count` turns with any arrivals.
 pub(crate) fn make_turns(wire: &mut MioWire<'_, System<'_>>, count: u32) {
     for _ in 0..count {
         let _came = came_now(wire);
     }
 }
 
-/// Makes turns until nothing is noted as ready any more.
+/// Takes turns until nothing is noted as ready.
 pub(crate) fn settle(wire: &mut MioWire<'_, System<'_>>) {
     make_turns(wire, SETTLED);
 }
 
-/// This port of this machine.
+/// This port on this machine.
 pub(crate) fn here(port: u16) -> SocketAddr {
     address(Ipv4Addr::LOCALHOST, port)
 }
 
-/// A new client at this port that sends these octets.
+/// A new client at this port, after sending these octets.
 pub(crate) fn client_that_sends(
     system: &System<'_>,
     port: u16,
@@ -92,7 +92,7 @@ pub(crate) fn client_that_sends(
     Ok(client)
 }
 
-/// So many new clients at this port. The octets that each one sends have come.
+/// `count` new clients at this port, after the arrival of each client's octets.
 pub(crate) fn clients_that_came(
     system: &System<'_>,
     wire: &mut MioWire<'_, System<'_>>,
@@ -113,7 +113,7 @@ pub(crate) fn clients_that_came(
     Ok(clients)
 }
 
-/// A reply with this number of octets to the client with this number.
+/// A reply of `count` octets to the numbered client.
 pub(crate) fn reply_to(alloc: Global, conn: u64, count: usize) -> Result<Action, Fail> {
     Ok(Action::Reply {
         client: Client::Tcp(conn),
@@ -122,7 +122,7 @@ pub(crate) fn reply_to(alloc: Global, conn: u64, count: usize) -> Result<Action,
     })
 }
 
-/// Whether all of these octets are sent to the port.
+/// Whether all these octets are sent to the port.
 pub(crate) fn is_sent(socket: &UdpSocket, octets: &[u8], port: u16) -> bool {
     socket.send_to(octets, here(port)).ok() == Some(octets.len())
 }

@@ -1,4 +1,4 @@
-//! What comes from clients, and to them, without a sweep: cases of `watched`.
+//! Arrivals from clients, and replies to clients, without a sweep: cases of `watched`.
 
 use crate::came::{
     Came, came_next, came_now, client_that_sends, clients_that_came, here, is_sent, make_turns,
@@ -18,13 +18,13 @@ const LARGE: usize = 60_000;
 
 const FRAMED: usize = LARGE + 2;
 
-/// The clients of which each sends a piece before one turn: as many as a poll takes events. Each of
-/// them ends in two turns.
+/// The clients sending a piece each before a single turn: as many as a poll's events. Each ends
+/// within two turns.
 const CROWD: u32 = 64;
 
 const ENDS: u32 = 2 * CROWD;
 
-/// The most turns in which a client takes all replies that wait for it.
+/// The most turns in which a client takes all waiting replies.
 const MANY_TURNS: u32 = 2_000;
 
 pub(crate) fn datagram_comes(
@@ -68,8 +68,8 @@ pub(crate) fn question_comes_again(
     Ok(is_replied && came_next(wire) == Came::Piece(conn, 3))
 }
 
-/// The number of large replies that a new client is sent, or owed, before it is closed since too
-/// many are left for it. It takes none.
+/// The number of large replies sent or owed to a new client before too many are left and the client
+/// is closed. The client takes none.
 fn most_replies(
     system: &System<'_>,
     wire: &mut MioWire<'_, System<'_>>,
@@ -106,8 +106,8 @@ fn gets(
     false
 }
 
-/// Of 17 replies that may wait for a client, some nine do: the system takes more or fewer of them
-/// at another time.
+/// Puts eight replies fewer than the most for a client, some nine of 17: the system takes more or
+/// fewer at another time.
 pub(crate) fn rest_comes(
     system: &System<'_>,
     wire: &mut MioWire<'_, System<'_>>,
@@ -127,7 +127,7 @@ pub(crate) fn rest_comes(
     Ok(count > 0 && gets(wire, &mut client, &mut room, count.saturating_mul(FRAMED)))
 }
 
-/// Whether so many arrivals of clients come next.
+/// Whether the next `count` arrivals are clients'.
 fn clients_come(wire: &mut MioWire<'_, System<'_>>, count: u32) -> bool {
     for _ in 0..count {
         if !matches!(came_next(wire), Came::Datagram(27) | Came::Piece(_, 1)) {
@@ -150,7 +150,7 @@ pub(crate) fn many_come(
     Ok(is_sent && clients_come(wire, 4))
 }
 
-/// Afterwards the turns are made in which these clients end.
+/// Afterwards takes the turns in which these clients end.
 pub(crate) fn crowd_comes(
     system: &System<'_>,
     wire: &mut MioWire<'_, System<'_>>,

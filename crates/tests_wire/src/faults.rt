@@ -1,12 +1,11 @@
-//! Turns over a wire that refuses calls, and turns without memory.
+//! Turns over a wire with refused calls, and turns without memory.
 
 use crate::puts::{Puts, puts_of};
 use crate::scripts::{Comes, Run, Turn, counted, ran_anew, wire_of};
 use crate::turns::TWO_PIECES;
 use crate::worked::{CLIENT, QUESTION, REPLY, SECOND, forwarder};
-use forwarder_core::Forwarder;
 use lru::DefaultHasher;
-use network_model::{ScriptWire, Served, serve};
+use network_model::{Forwarder, ScriptWire, Served, serve};
 use refusing_allocator::Refusing;
 use std::alloc::{AllocError, Global};
 use std::mem::forget;
@@ -18,8 +17,8 @@ const BY_SECOND: [Turn; 2] = [
     (1020, Comes::Reply(1032, SECOND, REPLY)),
 ];
 
-/// The first call is the arrival of the question, the second one the ask. A refused ask is no
-/// refused put: its path has failed.
+/// The first call is the question's arrival, the second the ask. A refused ask is no refused put:
+/// the ask's path has failed.
 #[test]
 fn after_a_refused_ask_the_next_server_is_asked(rt: HostRuntime) -> Result<(), Fail> {
     let run = Run {
@@ -38,7 +37,7 @@ fn after_a_refused_ask_the_next_server_is_asked(rt: HostRuntime) -> Result<(), F
 /// The question, and nothing else.
 const QUESTION_ALONE: [Turn; 1] = [(1000, Comes::Question(CLIENT, &QUESTION))];
 
-/// No ask counts as a refused put: those are the four closes and the reply.
+/// A refused ask is no refused put. The refused puts are the four closes and the reply.
 #[test]
 fn every_put_is_refused(rt: HostRuntime) -> Result<(), Fail> {
     let run = Run {
@@ -56,8 +55,8 @@ fn every_put_is_refused(rt: HostRuntime) -> Result<(), Fail> {
 
 type Heap<'a> = &'a Refusing<Global>;
 
-/// The memory of a forwarder, of its wire, and of the readers of pieces; and the one of these that
-/// grants a number of allocations, and then none.
+/// The memory of a forwarder, of its wire, and of the readers of pieces. The limited one of the
+/// three grants a number of allocations, and then none.
 #[derive(Clone, Copy)]
 struct Memory<'a> {
     forwarder: Heap<'a>,
@@ -67,8 +66,8 @@ struct Memory<'a> {
     granted: u64,
 }
 
-/// Serves `turns` turns with this memory. Returns what was counted and put; `None` if the call
-/// ended without memory.
+/// Serves `turns` turns with this memory. Returns the counts and the puts; `None` if the call ended
+/// for lack of memory.
 fn served_by<'a>(
     memory: Memory<'a>,
     wire: &mut ScriptWire<Heap<'a>>,
@@ -84,8 +83,8 @@ fn served_by<'a>(
     }
 }
 
-/// Serves all turns of this script with this memory, over a wire with these turns. Returns what
-/// [`served_by`] returns. The wire is forgotten.
+/// Serves all turns of this script with this memory, over a wire with these turns. Returns the
+/// result of [`served_by`]. The wire is forgotten.
 fn served_over<'a>(
     memory: Memory<'a>,
     script: &[Turn],
@@ -97,7 +96,8 @@ fn served_over<'a>(
     Ok(served)
 }
 
-/// Serves all turns of this script with this memory and a new forwarder, which is forgotten, too.
+/// Serves all turns of this script with this memory and a new forwarder. The forwarder is
+/// forgotten, too.
 fn served_with(memory: Memory<'_>, script: &[Turn]) -> Result<Option<(Served, Puts)>, AllocError> {
     let mut forwarder = forwarder(memory.forwarder)?;
     let served = served_over(memory, script, &mut forwarder);
@@ -105,8 +105,8 @@ fn served_with(memory: Memory<'_>, script: &[Turn]) -> Result<Option<(Served, Pu
     served
 }
 
-/// The fewest allocations granted to the readers of pieces with which the call does not end without
-/// memory, and what is put then. The question comes in two pieces.
+/// The fewest allocations for the readers of pieces with which the call does not end for lack of
+/// memory, and the puts then. The question comes in two pieces.
 fn first_granted(alloc: Global) -> Result<Option<(u64, Puts)>, AllocError> {
     let ample = Refusing::new(alloc);
     let heap = Refusing::new(alloc);
@@ -133,7 +133,7 @@ fn a_reader_without_memory_ends_the_call(rt: HostRuntime) -> Result<(), Fail> {
     Ok(())
 }
 
-/// The counts and puts if a forwarder has no memory, and if a wire has none.
+/// The counts and puts without memory for the forwarder, and without memory for the wire.
 fn served_without(alloc: Global) -> Result<[Option<(Served, Puts)>; 2], AllocError> {
     let ample = Refusing::new(alloc);
     let heap = Refusing::new(alloc);

@@ -1,5 +1,5 @@
-//! A wire without a reported event: each of its turns waits, a reply leaves at once, and no memory
-//! of it is kept. Ports 15398 to 15400 have to be free. A wire is forgotten, as in `sockets`.
+//! A wire without a reported event: each turn waits, a reply leaves at once, and no memory of the
+//! reply is kept. Ports 15398 to 15400 have to be free. A wire is forgotten, as in `sockets`.
 
 use crate::came::{Came, came_now, client_that_sends, reply_to, settle};
 use crate::system::{System, client_that_came, expected, local};
@@ -16,16 +16,15 @@ use std::time::Duration;
 use step_values::{Action, Client, Why};
 use suffix_routes::Limits;
 
-/// The turns that are made, and the ms that pass in each by the wire's clock: in every second turn
-/// sockets are tried that no event reported.
+/// The number of turns, and the ms of each by the wire's clock: every second turn sweeps.
 const IDLE_TURNS: u32 = 20;
 
 const PASSING: u64 = 3;
 
-/// The least time, in ms, that these turns take by this machine's clock. Each of them waits for 5.
+/// The least time, in ms, of these turns by this machine's clock. Each turn waits for 5.
 const LEAST: u64 = 90;
 
-/// The time that idle turns take by this machine's clock.
+/// The time of idle turns by this machine's clock.
 fn time_of_idle_turns(
     system: &System<'_>,
     wire: &mut MioWire<'_, System<'_>>,
@@ -38,8 +37,7 @@ fn time_of_idle_turns(
     Ok(system.host.monotonic()?.saturating_sub(before))
 }
 
-/// The number of ages at which each idle turn waits, one after the other up to the first at which
-/// one doesn't.
+/// The number of ages, before the first failure, at which each idle turn waits.
 fn ages_that_wait(system: &System<'_>, wire: &mut MioWire<'_, System<'_>>) -> Result<usize, Fail> {
     for (place, age) in AGES.iter().enumerate() {
         system.time.set(Duration::from_millis(*age));
@@ -62,11 +60,11 @@ fn an_idle_turn_waits(rt: HostRuntime) -> Result<(), Fail> {
     Ok(())
 }
 
-/// The octets of replies to a client, which its system takes whole.
+/// The octets of replies to a client, each taken whole by the client's system.
 const REPLIES: [usize; 4] = [12, 1_501, 6_000, 30_000];
 
-/// How many of these replies a new client has got after the call that puts each, one after the
-/// other.
+/// The number of these replies, before the first failure, that a new client gets right after the
+/// put.
 fn replies_that_left(
     system: &System<'_>,
     wire: &mut MioWire<'_, System<'_>>,
@@ -105,8 +103,8 @@ const OCTETS: usize = 1_000;
 /// A heap that counts the octets in use.
 type Heap<'a> = &'a LocalHeap;
 
-/// The octets of this heap that are in use before a reply to a new client, and after the reply. The
-/// client's system takes it whole.
+/// The octets in use in this heap before a reply to a new client, and afterwards. The client's
+/// system takes the reply whole.
 fn used_around_a_reply<'a>(
     system: &System<'_>,
     heap: Heap<'a>,
@@ -124,7 +122,7 @@ fn used_around_a_reply<'a>(
     Ok([before, heap.used()])
 }
 
-/// What `used_around_a_reply` returns over a new wire with this heap. The wire is forgotten.
+/// The result of [`used_around_a_reply`] over a new wire with this heap. The wire is forgotten.
 fn used_anew(rt: &HostRuntime, heap: &LocalHeap) -> Result<[usize; 2], Fail> {
     let system = System::new(rt);
     let mut wire = MioWire::new(&system, heap, local(15399), &Limits::defaults())?;

@@ -5,16 +5,16 @@ use std::alloc::Allocator;
 use step_values::{Action, Client, Path, Why};
 use suffix_routes::Peer;
 
-/// The answer to the client where every try failed.
+/// The answer to the client after all tries failed.
 const FAILED: [u8; 27] =
     *b"\x12\x34\x81\x82\x00\x01\x00\x00\x00\x00\x00\x00\x01a\x07example\x00\x00\x01\x00\x01";
 
-/// The query goes to the server from its port.
+/// The query goes to the server from the query's port.
 fn asks<A: Allocator>(put: &(Action<A>, bool)) -> bool {
     asks_at(put, SERVER, true)
 }
 
-/// The query goes to this server from its port, and was or wasn't refused.
+/// The query goes to this server from the query's port, and is taken or refused.
 fn asks_at<A: Allocator>(put: &(Action<A>, bool), at: Peer, taken: bool) -> bool {
     match put {
         (
@@ -32,12 +32,12 @@ fn asks_at<A: Allocator>(put: &(Action<A>, bool), at: Peer, taken: bool) -> bool
     }
 }
 
-/// The port of the query is given up.
+/// The query's port is given up.
 fn closes<A: Allocator>(put: &(Action<A>, bool)) -> bool {
     gives_up(put, true)
 }
 
-/// The port of the query is given up, or would have been.
+/// The query's port is given up; the put is taken or refused.
 fn gives_up<A: Allocator>(put: &(Action<A>, bool), taken: bool) -> bool {
     match put {
         (Action::CloseUdp { port }, sent) => *port == 1032 && *sent == taken,
@@ -45,17 +45,17 @@ fn gives_up<A: Allocator>(put: &(Action<A>, bool), taken: bool) -> bool {
     }
 }
 
-/// The client gets its answer.
+/// The client gets the answer.
 fn answers<A: Allocator>(put: &(Action<A>, bool)) -> bool {
     replies(put, ANSWER, Why::Answered, true)
 }
 
-/// The client would have got that every try failed: SERVFAIL, with its question.
+/// A refused put: SERVFAIL for the client after all tries failed, with the question.
 fn fails<A: Allocator>(put: &(Action<A>, bool)) -> bool {
     replies(put, &FAILED, Why::Exhausted, false)
 }
 
-/// The client gets this reply, or would have.
+/// A reply to the client; the put is taken or refused.
 fn replies<A: Allocator>(put: &(Action<A>, bool), text: &[u8], reason: Why, taken: bool) -> bool {
     match put {
         (Action::Reply { client, bytes, why }, sent) => {
@@ -68,24 +68,23 @@ fn replies<A: Allocator>(put: &(Action<A>, bool), text: &[u8], reason: Why, take
     }
 }
 
-/// The kinds of puts on a wire that tests tell apart.
+/// The kinds of puts on a wire that tests distinguish.
 #[derive(Clone, Copy, PartialEq, Eq, Debug)]
 pub(crate) enum Puts {
     Nothing,
     /// The query.
     Asked,
-    /// The query, the end of its path, and the answer.
+    /// The query, the path's end, and the answer.
     Answered,
-    /// The query, which was refused, the end of its path, the query to the second server, the end
-    /// of its path, and the answer.
+    /// The refused query, the path's end, the query to the second server, the path's end, and the
+    /// answer.
     AnsweredBySecond,
-    /// All puts were refused: of each try the query and the end of its path, in turn to both
-    /// servers, and the reply.
+    /// All puts refused: each try's query and path's end, in turn to both servers, and the reply.
     Refused,
     Other,
 }
 
-/// Whether the put at this place is one of [`Puts::Refused`].
+/// Whether the put at this place is as in [`Puts::Refused`].
 fn is_refused_at<A: Allocator>(place: usize, put: &(Action<A>, bool)) -> bool {
     match place {
         0 | 4 => asks_at(put, SERVER, false),
@@ -119,7 +118,7 @@ fn are_by_second<A: Allocator>(puts: &[(Action<A>, bool)]) -> bool {
     }
 }
 
-/// The kind of these puts.
+/// The kind of puts.
 pub(crate) fn puts_of<A: Allocator>(puts: &[(Action<A>, bool)]) -> Puts {
     match puts {
         [] => Puts::Nothing,
@@ -131,7 +130,7 @@ pub(crate) fn puts_of<A: Allocator>(puts: &[(Action<A>, bool)]) -> Puts {
     }
 }
 
-/// The path of an ask.
+/// An ask's path.
 fn asked_on<A: Allocator>(action: &Action<A>) -> Option<Path> {
     match action {
         Action::AskUdp { port, .. } => Some(Path::Udp(*port)),
@@ -140,7 +139,7 @@ fn asked_on<A: Allocator>(action: &Action<A>) -> Option<Path> {
     }
 }
 
-/// The path that is given up.
+/// The given-up path.
 fn closed<A: Allocator>(action: &Action<A>) -> Option<Path> {
     match action {
         Action::CloseUdp { port } => Some(Path::Udp(*port)),
@@ -149,7 +148,7 @@ fn closed<A: Allocator>(action: &Action<A>) -> Option<Path> {
     }
 }
 
-/// After each ask that was not sent the next put closes its path.
+/// Whether after each unsent ask the next put closes the ask's path.
 pub(crate) fn are_given_up<A: Allocator>(puts: &[(Action<A>, bool)]) -> bool {
     let mut failed = None;
     for (action, sent) in puts {
@@ -161,7 +160,7 @@ pub(crate) fn are_given_up<A: Allocator>(puts: &[(Action<A>, bool)]) -> bool {
     failed.is_none()
 }
 
-/// Returns the number of puts that were not sent, and of the asks among them.
+/// The number of unsent puts, and of unsent asks.
 pub(crate) fn unsent<A: Allocator>(puts: &[(Action<A>, bool)]) -> (u64, u64) {
     let (mut all, mut asks) = (0u64, 0u64);
     for (action, sent) in puts {

@@ -1,5 +1,5 @@
-//! Runs in which each call of a wire is refused in turn: as many turns are made, nothing is lost,
-//! and what was refused is counted. They have actions of every kind.
+//! Runs with actions of every kind, in which each call of a wire is refused in turn. All turns are
+//! made, nothing is lost, and refusals are counted.
 
 use crate::scripts::{Comes, FIRST, Ran, Run, Turn, ran_anew};
 use crate::worked::{CLIENT, QUESTION, REPLY, SECOND, SERVER};
@@ -8,15 +8,15 @@ use std::test::Fail;
 use step_values::Path;
 use suffix_routes::Peer;
 
-/// The reply to the ask of the third turn.
+/// The reply to the third turn's ask.
 const THIRD_REPLY: &[u8] =
     b"\x00\x18\x85\x00\x00\x01\x00\x01\x00\x00\x00\x00\x01a\x07example\x00\x00\x01\x00\x01\xc0\x0c\x00\x01\x00\x01\x00\x00\x01\x2c\x00\x04\xc6\x33\x64\x05";
 
-/// The reply with TC (RFC 1035 4.1.1), cut after the type of its record.
+/// A truncated reply (TC, RFC 1035 4.1.1), cut after the record's type.
 const CUT_REPLY: &[u8] =
     b"\x00\x08\x87\x00\x00\x01\x00\x01\x00\x00\x00\x00\x01a\x07example\x00\x00\x01\x00\x01\xc0\x0c\x00\x01";
 
-/// The reply to the ask of the second turn, after its length.
+/// The framed reply to the second turn's ask.
 const FRAME: &[u8] =
     b"\x00\x2b\x00\x10\x85\x00\x00\x01\x00\x01\x00\x00\x00\x00\x01a\x07example\x00\x00\x01\x00\x01\xc0\x0c\x00\x01\x00\x01\x00\x00\x01\x2c\x00\x04\xc6\x33\x64\x05";
 
@@ -24,12 +24,12 @@ const FRAME: &[u8] =
 const FAILURE: &[u8] =
     b"\x00\x08\x81\x82\x00\x01\x00\x00\x00\x00\x00\x00\x01a\x07example\x00\x00\x01\x00\x01";
 
-/// A referral to the ask of the second turn: AA is clear, no answer, and a name server of example
-/// (RFC 1034 4.3.1).
+/// A referral for the second turn's ask: AA is clear, no answer, and a name server of example (RFC
+/// 1034 4.3.1).
 const REFERRAL: &[u8] =
     b"\x00\x10\x81\x00\x00\x01\x00\x00\x00\x01\x00\x00\x01a\x07example\x00\x00\x01\x00\x01\xc0\x0e\x00\x02\x00\x01\x00\x00\x0e\x10\x00\x05\x02ns\xc0\x0e";
 
-/// Five questions that are the same, letter case aside.
+/// Five questions, equal but for letter case.
 const QUESTIONS: [&[u8]; 5] = [
     b"\x00\x01\x01\x00\x00\x01\x00\x00\x00\x00\x00\x00\x01a\x07example\x00\x00\x01\x00\x01",
     b"\x00\x02\x01\x00\x00\x01\x00\x00\x00\x00\x00\x00\x01A\x07example\x00\x00\x01\x00\x01",
@@ -38,7 +38,7 @@ const QUESTIONS: [&[u8]; 5] = [
     b"\x00\x05\x01\x00\x00\x01\x00\x00\x00\x00\x00\x00\x01a\x07example\x00\x00\x01\x00\x01",
 ];
 
-/// The first ask gets its reply when its time is up, and the second one answers.
+/// The first ask's reply comes when the time is up, and the second ask's reply answers.
 const TIMEOUT: [Turn; 5] = [
     (1000, Comes::Question(CLIENT, &QUESTION)),
     (2499, Comes::Nothing),
@@ -47,14 +47,14 @@ const TIMEOUT: [Turn; 5] = [
     (2700, Comes::Reply(1048, SECOND, THIRD_REPLY)),
 ];
 
-/// The reply is cut, so the server is asked again over TCP.
+/// The reply is truncated, so the server is asked again over TCP.
 const CUT: [Turn; 3] = [
     (1000, Comes::Question(CLIENT, &QUESTION)),
     (1020, Comes::Reply(1032, SERVER, CUT_REPLY)),
     (1040, Comes::Stream(0, SERVER, FRAME)),
 ];
 
-/// Each of four asks fails in another way.
+/// Four asks, each with another failure.
 const ALL_TRIES: [Turn; 5] = [
     (1000, Comes::Question(CLIENT, &QUESTION)),
     (1000, Comes::Reply(1032, SERVER, FAILURE)),
@@ -63,7 +63,7 @@ const ALL_TRIES: [Turn; 5] = [
     (2500, Comes::Nothing),
 ];
 
-/// A client's question. It has the last octet of its address.
+/// A question from the client with this last octet of the address.
 fn asked_by(last: u8, question: &'static [u8]) -> Comes {
     let from = Peer {
         ip: [10, 0, 0, last],
@@ -72,7 +72,7 @@ fn asked_by(last: u8, question: &'static [u8]) -> Comes {
     Comes::Question(from, question)
 }
 
-/// One reply answers five questions.
+/// A single reply answers five questions.
 fn joined() -> [Turn; 6] {
     let [first, second, third, fourth, fifth] = QUESTIONS;
     [
@@ -85,17 +85,17 @@ fn joined() -> [Turn; 6] {
     ]
 }
 
-/// The result of a run.
+/// A run's result.
 #[derive(Clone, Copy, PartialEq, Eq, Debug)]
 enum Fate {
-    /// The run has no call with the number.
+    /// The run has fewer calls.
     NoCall,
-    /// The call was refused, and the counts are those of one that is refused.
+    /// The call was refused, and counted as a single refusal.
     Counted,
     Other,
 }
 
-/// The fate of a run of `turns` turns that came to this.
+/// The fate of a run of `turns` turns with this result.
 fn fate_of(ran: &Ran, turns: u64) -> Fate {
     if ran.faults == 0 {
         return Fate::NoCall;
@@ -118,9 +118,8 @@ fn fate_of(ran: &Ran, turns: u64) -> Fate {
     }
 }
 
-/// Returns the first call that is not counted where it is refused, and the fate of the run then.
-/// Where all is as it has to be, there is no such call, and the number is that of the calls that
-/// were made.
+/// The number of the first refused call that is not counted, and the run's fate. Without such a
+/// call: the number of calls, and `NoCall`.
 fn first_uncounted(
     alloc: Global,
     has_second: bool,
@@ -142,7 +141,7 @@ fn first_uncounted(
     Ok((64, Fate::Counted))
 }
 
-/// Two arrivals, and the ask, its end and the answer.
+/// Two arrivals, and the ask, its path's end and the answer.
 #[test]
 fn each_call_of_an_answer(rt: HostRuntime) -> Result<(), Fail> {
     assert_eq!(rt;

@@ -1,17 +1,16 @@
-//! Wires in memory on which a script's turns arrive, and runs of a new forwarder over them.
+//! Wires in memory with a script's turns, and a new forwarder's runs over them.
 
 use crate::puts::{Puts, are_given_up, puts_of, unsent};
 use crate::worked::{CLIENT, QUESTION, REPLY, SECOND, SERVER, forwarder, forwarder_to};
-use forwarder_core::Forwarder;
 use lru::DefaultHasher;
-use network_model::{Arrival, ScriptTurn, ScriptWire, Served, Wire, serve};
+use network_model::{Arrival, Forwarder, ScriptTurn, ScriptWire, Served, Wire, serve};
 use plain_values::PlainList;
 use std::alloc::{AllocError, Allocator};
 use std::mem::forget;
 use step_values::Path;
 use suffix_routes::Peer;
 
-/// The arrival of a turn.
+/// A turn's arrival.
 #[derive(Clone, Copy)]
 pub(crate) enum Comes {
     Nothing,
@@ -26,7 +25,7 @@ pub(crate) enum Comes {
     Gone(Path),
 }
 
-/// The moment of a turn, in ms, and its arrival.
+/// A turn's moment, in ms, and arrival.
 pub(crate) type Turn = (u64, Comes);
 
 /// The reply answers the question.
@@ -60,13 +59,13 @@ fn arrival<A: Allocator + Copy>(alloc: A, comes: Comes) -> Result<Arrival<A>, Al
     }
 }
 
-/// The word that gives this identifier, and the port 1,024 above.
+/// The word for this identifier, and the port 1,024 above.
 fn word(number: u16) -> u32 {
     u32::from(number) * 65_537
 }
 
-/// The words of the turn with this number, from 1: its first identifier is 8 times the number, and
-/// each further one the next.
+/// The words of the numbered turn, from 1: the first identifier is 8 times the number, each further
+/// identifier the next.
 fn words_of(turn: u8) -> [u32; 8] {
     let first = 8 * u16::from(turn);
     [
@@ -81,8 +80,8 @@ fn words_of(turn: u8) -> [u32; 8] {
     ]
 }
 
-/// The words of a turn. A question in pieces is asked with those of the first turn, whichever piece
-/// ends it.
+/// A turn's words. A question in pieces is asked with the first turn's words, whichever piece ends
+/// the question.
 fn words_in(turn: u8, comes: Comes) -> [u32; 8] {
     match comes {
         Comes::Piece(..) => words_of(1),
@@ -90,7 +89,7 @@ fn words_in(turn: u8, comes: Comes) -> [u32; 8] {
     }
 }
 
-/// Adds the turns of a script.
+/// Adds a script's turns.
 fn add_turns<A: Allocator + Copy>(
     alloc: A,
     script_turns: &mut Vec<ScriptTurn<A>, A>,
@@ -108,7 +107,7 @@ fn add_turns<A: Allocator + Copy>(
     Ok(())
 }
 
-/// The turns of a script.
+/// A script's turns.
 pub(crate) fn script_turns_of<A: Allocator + Copy>(
     alloc: A,
     turns: &[Turn],
@@ -120,7 +119,7 @@ pub(crate) fn script_turns_of<A: Allocator + Copy>(
     }
 }
 
-/// A wire of these turns that refuses the calls with these numbers.
+/// A wire of these turns, refusing the calls with these numbers.
 pub(crate) fn wire_of<A: Allocator + Copy>(
     alloc: A,
     turns: &[Turn],
@@ -134,30 +133,30 @@ pub(crate) fn wire_of<A: Allocator + Copy>(
 /// A run of a new forwarder over a wire in memory.
 #[derive(Clone, Copy)]
 pub(crate) struct Run<'a> {
-    /// The turns of the wire.
+    /// The wire's turns.
     pub script: &'a [Turn],
-    /// The numbers of the calls that the wire refuses.
+    /// The numbers of the refused calls.
     pub refuse: &'a [u64],
-    /// Whether the group has a second server.
+    /// Whether the route has a second server.
     pub has_second: bool,
-    /// The number of turns that are made.
+    /// The number of turns.
     pub turns: u64,
 }
 
-/// The result of a run.
+/// A run's result.
 #[derive(Clone, Copy, PartialEq, Eq, Debug)]
 pub(crate) struct Ran {
     pub served: Served,
-    /// The number of calls of the wire that were refused.
+    /// The number of refused calls of the wire.
     pub faults: u64,
     pub puts: Puts,
-    /// The number of puts that were not sent, and of the asks among them.
+    /// The number of unsent puts, and of unsent asks.
     pub unsent: (u64, u64),
-    /// After each ask that was not sent the next put closes its path.
+    /// Whether after each unsent ask the next put closes the ask's path.
     pub are_given_up: bool,
 }
 
-/// A new forwarder with one route, for every name, to one server or to two.
+/// A new forwarder with a single route for all names, with a server or two.
 fn forwarder_of<A: Allocator + Copy>(
     alloc: A,
     has_second: bool,
@@ -170,7 +169,7 @@ fn forwarder_of<A: Allocator + Copy>(
 }
 
 /// Serves `turns` turns over this wire with a new forwarder. The forwarder is forgotten: dropping
-/// it would have to be proved here.
+/// it would need a proof here.
 pub(crate) fn serve_anew<A: Allocator + Copy>(
     alloc: A,
     wire: &mut ScriptWire<A>,
@@ -199,7 +198,7 @@ fn ran_over<A: Allocator + Copy>(
     })
 }
 
-/// The result of a run over a new wire, which is forgotten, too.
+/// The result of a run over a new wire. The wire is forgotten, too.
 pub(crate) fn ran_anew<A: Allocator + Copy>(alloc: A, run: &Run<'_>) -> Result<Ran, AllocError> {
     let mut wire = wire_of(alloc, run.script, run.refuse)?;
     let ran = ran_over(alloc, &mut wire, run);
@@ -207,7 +206,7 @@ pub(crate) fn ran_anew<A: Allocator + Copy>(alloc: A, run: &Run<'_>) -> Result<R
     ran
 }
 
-/// The counts of `turns` turns, in which `refused_puts` puts were refused and nothing was lost.
+/// The counts of `turns` turns with `refused_puts` refused puts and nothing lost.
 pub(crate) fn counted(turns: u64, refused_puts: u64) -> Served {
     Served {
         turns,

@@ -1,4 +1,4 @@
-//! What comes from servers, and to them, without a sweep: cases of `watched`.
+//! Arrivals from servers, and queries to servers, without a sweep: cases of `watched`.
 
 use crate::came::{Came, came_next, came_now, here, is_sent, make_turns, settle};
 use crate::system::{System, TURNS, expected, local};
@@ -13,15 +13,15 @@ use std::net::{Net, SocketAddr};
 use std::test::Fail;
 use step_values::Action;
 
-/// Numbers of connections: the first, two of more than 16 and 32 bits, and the last one that has a
-/// token of its own.
+/// Numbers of connections: the first, two past 16 and 32 bits, and the last with a token of its
+/// own.
 const CONNECTIONS: [u64; 4] = [0, 65_536, 1 << 40, (1 << 61) - 1];
 
-/// The connections that the system opens before the server accepts one: 128 and one more. Another
-/// opens once there is room, and it is tried again, a second later.
+/// The connections that the system opens before the server accepts any: 128 and one more. A further
+/// connection opens once there is room, at the system's next try, a second later.
 const UNACCEPTED: u32 = 129;
 
-/// The datagrams that come without a pause, and the arrivals among which another comes.
+/// The datagrams arriving without a pause, and the arrivals within which the reply comes.
 const WITHOUT_PAUSE: u32 = 100;
 
 const SOON: u32 = 10;
@@ -35,7 +35,7 @@ fn query_by_udp(alloc: Global, server: u16) -> Result<Action, Fail> {
     })
 }
 
-/// Puts a query, once the server has it. Returns the address that it came from.
+/// Puts a query. Returns the sender's address once the server has the query.
 fn asked_by_udp(
     system: &System<'_>,
     wire: &mut MioWire<'_, System<'_>>,
@@ -65,7 +65,7 @@ pub(crate) fn reply_comes_by_udp(
     Ok(came == Came::Reply(own, 43) && is_closed)
 }
 
-/// A query over TCP to the server at this port, on the connection with this number.
+/// A query over TCP to the server at this port, on the numbered connection.
 fn query_over_tcp(alloc: Global, conn: u64, server: u16) -> Result<Action, Fail> {
     Ok(Action::AskTcp {
         conn,
@@ -74,7 +74,7 @@ fn query_over_tcp(alloc: Global, conn: u64, server: u16) -> Result<Action, Fail>
     })
 }
 
-/// Whether the query is there, after its length, and gets its reply.
+/// Whether the framed query is there. Sends the reply.
 fn is_replied(stream: &mut TcpStream) -> Result<bool, Fail> {
     let mut room = [0u8; 64];
     let count = stream.read(&mut room)?;
@@ -82,7 +82,7 @@ fn is_replied(stream: &mut TcpStream) -> Result<bool, Fail> {
     Ok(is_query && stream.write(&[0, 43])? == 2 && stream.write(REPLY)? == 43)
 }
 
-/// Whether the reply to a query comes on the connection with this number.
+/// Whether the reply to a query comes on the numbered connection.
 fn reply_comes_on(
     system: &System<'_>,
     wire: &mut MioWire<'_, System<'_>>,
@@ -116,7 +116,7 @@ pub(crate) fn replies_come_over_tcp(
     Ok(true)
 }
 
-/// The next connection that the server accepts.
+/// The next connection accepted by the server.
 fn accepted_next(wire: &mut MioWire<'_, System<'_>>, listener: &TcpListener) -> Option<TcpStream> {
     for _ in 0..TURNS {
         let _came = came_now(wire);
@@ -127,7 +127,7 @@ fn accepted_next(wire: &mut MioWire<'_, System<'_>>, listener: &TcpListener) -> 
     None
 }
 
-/// Whether the query comes over this connection, after its length.
+/// Whether the framed query comes over this connection.
 fn gets_query(wire: &mut MioWire<'_, System<'_>>, stream: &mut TcpStream) -> bool {
     let mut room = [0u8; 64];
     for _ in 0..TURNS {
@@ -165,7 +165,7 @@ pub(crate) fn query_comes_later(
     Ok(has_come && is_closed)
 }
 
-/// Whether this comes among the next ten.
+/// Whether this is among the next ten arrivals.
 fn comes_soon(wire: &mut MioWire<'_, System<'_>>, wanted: Came) -> bool {
     for _ in 0..SOON {
         if came_next(wire) == wanted {

@@ -1,15 +1,14 @@
-//! A question and its answer over sockets of this machine, by UDP and over TCP. The server and the
-//! client are the test's own, and turns are made one after another, so there is one thread. Ports
-//! 15353 to 15356 have to be free.
+//! A question and its answer over sockets of this machine, by UDP and over TCP. The test plays
+//! server and client, and takes turns one after another, so there is a single thread. Ports 15353
+//! to 15356 have to be free.
 //!
 //! Wire and forwarder are forgotten, since each test has a process of its own: dropping them would
-//! have to be proved here.
+//! need a proof here.
 
 use crate::worked::{ANSWER, QUERY, QUESTION, REPLY};
-use forwarder_core::Forwarder;
 use lru::DefaultHasher;
 use mio::net::{TcpStream, UdpSocket};
-use network_model::serve;
+use network_model::{Forwarder, serve};
 use socket_wire::MioWire;
 use std::alloc::Global;
 use std::io::{Read, Write};
@@ -18,11 +17,11 @@ use std::net::{Ipv4Addr, SocketAddr, SocketAddrV4};
 use std::test::Fail;
 use suffix_routes::{Config, Limits, Peer};
 
-/// The most calls of `serve` until a packet has come.
+/// The most calls of `serve` until a packet arrives.
 const CALLS: u32 = 400;
 
-/// The configuration for a question that comes by UDP. On a slow machine too nothing times out: an
-/// ask and a question wait as long as a configuration can say.
+/// The configuration for a question by UDP. Nothing times out, even on a slow machine: an ask and a
+/// question wait as long as a configuration allows.
 const BY_UDP: &str = "version = 1
 listen = \"127.0.0.1:15353\"
 [limits]
@@ -33,7 +32,7 @@ suffix = \".\"
 servers = [\"127.0.0.1:15354\"]
 ";
 
-/// The configuration for a question that comes over TCP.
+/// The configuration for a question over TCP.
 const OVER_TCP: &str = "version = 1
 listen = \"127.0.0.1:15355\"
 [limits]
@@ -44,13 +43,13 @@ suffix = \".\"
 servers = [\"127.0.0.1:15356\"]
 ";
 
-/// A forwarder with the configuration of this text.
+/// A forwarder with this configuration.
 fn forwarder_of(alloc: Global, text: &str) -> Result<Forwarder<DefaultHasher>, Fail> {
     let config = Config::read(alloc, alloc, text)?;
     Ok(Forwarder::new(alloc, config, DefaultHasher::default())?)
 }
 
-/// This port of this machine.
+/// This port on this machine.
 const fn local(port: u16) -> Peer {
     Peer {
         ip: [127, 0, 0, 1],
@@ -62,14 +61,14 @@ fn address(port: u16) -> SocketAddr {
     SocketAddr::V4(SocketAddrV4::new(Ipv4Addr::LOCALHOST, port))
 }
 
-/// The limits of both configurations, as far as a wire knows them.
+/// The limits of both configurations that a wire knows.
 fn limits() -> Limits {
     let mut limits = Limits::defaults();
     limits.deadline_ms = 30_000;
     limits
 }
 
-/// Fails unless what came or went is as it should be.
+/// Fails unless the traffic is as expected.
 fn expected(is_so: bool) -> Result<(), Fail> {
     if is_so {
         Ok(())
@@ -78,8 +77,8 @@ fn expected(is_so: bool) -> Result<(), Fail> {
     }
 }
 
-/// Replies where the query has come: under its identifier, to whom it came from. Returns whether
-/// it has come.
+/// Replies to an arrived query, under the query's identifier, to the sender. Returns whether a
+/// query arrived.
 fn is_query_replied(server: &UdpSocket) -> Result<bool, Fail> {
     let mut query = [0u8; 64];
     let Ok((count, from)) = server.recv_from(&mut query) else {
@@ -93,7 +92,7 @@ fn is_query_replied(server: &UdpSocket) -> Result<bool, Fail> {
     Ok(true)
 }
 
-/// Calls of `turns` turns until the query has come, which gets its reply.
+/// Calls of `turns` turns until the query arrives and gets a reply.
 fn reply_to_query(
     alloc: Global,
     wire: &mut MioWire<'_, HostRuntime>,
@@ -110,7 +109,7 @@ fn reply_to_query(
     Err(Fail::from("no query came"))
 }
 
-/// Turns until the answer has come by UDP.
+/// Turns until the answer arrives by UDP.
 fn answer_by_udp(
     alloc: Global,
     wire: &mut MioWire<'_, HostRuntime>,
@@ -127,8 +126,8 @@ fn answer_by_udp(
     Err(Fail::from("no answer came"))
 }
 
-/// Reads what has come over TCP into the answer, after its first `count` octets. Returns how many
-/// octets came.
+/// Reads octets from TCP into the answer, after the first `count` octets. Returns the number of
+/// read octets.
 fn received(client: &mut TcpStream, answer: &mut [u8], count: usize) -> usize {
     match answer.get_mut(count..) {
         Some(room) => client.read(room).unwrap_or(0),
@@ -136,7 +135,7 @@ fn received(client: &mut TcpStream, answer: &mut [u8], count: usize) -> usize {
     }
 }
 
-/// Turns until the answer has come over TCP.
+/// Turns until the answer arrives over TCP.
 fn answer_over_tcp(
     alloc: Global,
     wire: &mut MioWire<'_, HostRuntime>,
@@ -162,7 +161,7 @@ fn send_in_two_pieces(client: &mut TcpStream) -> Result<(), Fail> {
     expected(client.write(&QUESTION[1..])? == 26)
 }
 
-/// How the question comes.
+/// The question's transport.
 #[derive(Clone, Copy)]
 enum By {
     Udp,
@@ -177,7 +176,7 @@ impl By {
         }
     }
 
-    /// The port at which the wire listens.
+    /// The wire's listening port.
     fn listen(self) -> u16 {
         match self {
             By::Udp => 15353,
@@ -185,7 +184,7 @@ impl By {
         }
     }
 
-    /// The port of the server.
+    /// The server's port.
     fn server(self) -> u16 {
         match self {
             By::Udp => 15354,
@@ -220,7 +219,7 @@ fn ask_over_tcp(
     answer_over_tcp(rt.alloc(), wire, forwarder, client)
 }
 
-/// The question of a new client.
+/// A new client's question.
 fn ask_anew(
     rt: &HostRuntime,
     by: By,
@@ -240,7 +239,7 @@ fn ask_anew(
     }
 }
 
-/// The question of a new client over a new wire, which is forgotten.
+/// A new client's question over a new wire. The wire is forgotten.
 fn ask_over_wire(
     rt: &HostRuntime,
     by: By,
@@ -253,8 +252,7 @@ fn ask_over_wire(
     asked
 }
 
-/// The question of a new client to a new forwarder with a new server. The forwarder is forgotten,
-/// too.
+/// A new client's question to a new forwarder with a new server. The forwarder is forgotten, too.
 fn ask(rt: &HostRuntime, by: By) -> Result<(), Fail> {
     let server = UdpSocket::bind(rt, address(by.server()))?;
     let mut forwarder = forwarder_of(rt.alloc(), by.config())?;

@@ -1,12 +1,11 @@
-//! A wire over sockets of this machine, with a system that is the test's own where a call goes
-//! through the runtime: its random octets, its clock, and the sockets for datagrams. Ports 15357 to
-//! 15369 have to be free. A wire is forgotten, as in `sockets`.
+//! A wire over sockets of this machine. Calls through the runtime are the test's own: random
+//! octets, clock, and sockets for datagrams. Ports 15357 to 15369 have to be free. A wire is
+//! forgotten, as in `sockets`.
 
 use crate::worked::{QUERY, forwarder};
-use forwarder_core::Forwarder;
 use lru::DefaultHasher;
 use mio::net::TcpStream;
-use network_model::{Arrival, Wire, serve};
+use network_model::{Arrival, Forwarder, Wire, serve};
 use plain_values::PlainList;
 use refusing_allocator::Refusing;
 use socket_wire::MioWire;
@@ -23,41 +22,41 @@ use std::{io, net};
 use step_values::Action;
 use suffix_routes::{Limits, Peer};
 
-/// The most turns that are made until something has come.
+/// The most turns until an arrival.
 pub(crate) const TURNS: u32 = 400;
 
-/// The number of the error that says that no descriptor is left (EMFILE).
+/// The error number for a lack of descriptors (EMFILE).
 const NO_DESCRIPTOR: i32 = 24;
 
-/// The number of the error that says that a port is taken (EADDRINUSE).
+/// The error number for a taken port (EADDRINUSE).
 const TAKEN_PORT: i32 = 98;
 
-/// The number of the error that says that a network can't be reached (ENETUNREACH).
+/// The error number for an unreachable network (ENETUNREACH).
 const NO_NETWORK: i32 = 101;
 
-/// Calls of this machine's system. Each can be made to answer otherwise.
+/// Calls of this machine's system, each with an answer that a test can replace.
 #[derive(Drop)]
 pub(crate) struct System<'a> {
     pub(crate) host: &'a HostRuntime,
-    /// The number of random octets that were asked for, in all calls.
+    /// The number of random octets asked for, in all calls.
     octets: Cell<usize>,
     /// No random octets are given.
     has_no_octets: Cell<bool>,
-    /// The random octets that are given, in place of the machine's.
+    /// Random octets to give in place of the machine's.
     pub(crate) seed: Cell<Option<[u8; 32]>>,
-    /// The time of the clock, and the time that passes after each reading of it.
+    /// The clock's time, and the time that passes after each reading.
     pub(crate) time: Cell<Duration>,
     pub(crate) step: Cell<Duration>,
     /// The clock fails.
     has_no_clock: Cell<bool>,
-    /// The address at which a socket for datagrams was bound last.
+    /// The address of the last bound socket for datagrams.
     bound: Cell<Option<SocketAddr>>,
-    /// The error that the next bind of a socket for datagrams answers, if any.
+    /// The error of the next bind of a socket for datagrams, if any.
     refusal: Cell<Option<i32>>,
 }
 
 impl<'a> System<'a> {
-    /// A system that answers as the machine's does, but that its clock stands at 7 s.
+    /// A system that answers like the machine's, with the clock stopped at 7 s.
     pub(crate) fn new(host: &'a HostRuntime) -> System<'a> {
         System {
             host,
@@ -130,7 +129,7 @@ impl Net for System<'_> {
     }
 }
 
-/// This port of this machine.
+/// This port on this machine.
 pub(crate) const fn local(port: u16) -> Peer {
     Peer {
         ip: [127, 0, 0, 1],
@@ -142,7 +141,7 @@ pub(crate) fn address(ip: Ipv4Addr, port: u16) -> SocketAddr {
     SocketAddr::V4(SocketAddrV4::new(ip, port))
 }
 
-/// Fails unless it is as it should be.
+/// Fails with `what` unless `is_so`.
 pub(crate) fn expected(is_so: bool, what: &'static str) -> Result<(), Fail> {
     if is_so { Ok(()) } else { Err(Fail::from(what)) }
 }
@@ -182,8 +181,8 @@ fn without_a_clock_there_is_no_wire(rt: HostRuntime) -> Result<(), Fail> {
     }
 }
 
-/// The seed of ChaCha has 32 octets, all of them from the system. The datagrams of clients come at
-/// the address that the wire listens at, not at its port alone.
+/// The seed of ChaCha has 32 octets, all from the system. Clients' datagrams arrive at the
+/// listening address, not at its port alone.
 #[test]
 fn a_wire_asks_for_32_octets_and_binds_where_it_listens(rt: HostRuntime) -> Result<(), Fail> {
     let system = System::new(&rt);
@@ -194,13 +193,13 @@ fn a_wire_asks_for_32_octets_and_binds_where_it_listens(rt: HostRuntime) -> Resu
     Ok(())
 }
 
-/// The moments of a wire in its turns.
+/// The moment of a wire's turn.
 pub(crate) fn moment_in_turn(wire: &mut MioWire<'_, System<'_>>) -> u64 {
     let _arrived = wire.arrival();
     wire.moment()
 }
 
-/// Where the clock fails the last moment stays.
+/// If the clock fails, the last moment stays.
 #[test]
 fn a_moment_stays_where_the_clock_fails(rt: HostRuntime) -> Result<(), Fail> {
     let system = System::new(&rt);
@@ -215,7 +214,8 @@ fn a_moment_stays_where_the_clock_fails(rt: HostRuntime) -> Result<(), Fail> {
     Ok(())
 }
 
-/// The socket of an ask is bound at its port on every address. A second one at the port is refused.
+/// An ask's socket is bound at the ask's port on every address. A second socket at the port is
+/// refused.
 #[test]
 fn an_ask_is_bound_at_its_port(rt: HostRuntime) -> Result<(), Fail> {
     let system = System::new(&rt);
@@ -232,7 +232,7 @@ fn an_ask_is_bound_at_its_port(rt: HostRuntime) -> Result<(), Fail> {
     Ok(())
 }
 
-/// Turns until a piece of a client's stream has come: the number of its connection.
+/// Turns until a piece of a client's stream arrives: the connection's number.
 pub(crate) fn client_that_came<A: Allocator + Copy>(
     wire: &mut MioWire<'_, System<'_>, A>,
 ) -> Option<u64> {
@@ -246,8 +246,8 @@ pub(crate) fn client_that_came<A: Allocator + Copy>(
     None
 }
 
-/// Puts a query. The bind of its socket fails with this error. Returns whether the query was sent
-/// nevertheless, and whether a client was closed for it.
+/// Puts a query, with this error for the socket's bind. Returns whether the query was sent
+/// nevertheless, and whether a client was closed for the query.
 fn put_where_refused(
     system: &System<'_>,
     wire: &mut MioWire<'_, System<'_>>,
@@ -263,7 +263,7 @@ fn put_where_refused(
     (is_sent, is_closed)
 }
 
-/// A client sends this.
+/// A client sends these octets.
 pub(crate) fn send(client: &mut TcpStream, octets: &[u8]) -> Result<(), Fail> {
     client.set_nodelay(true)?;
     expected(
@@ -272,8 +272,8 @@ pub(crate) fn send(client: &mut TcpStream, octets: &[u8]) -> Result<(), Fail> {
     )
 }
 
-/// The results of three queries: a port is taken, a network can't be reached, and no descriptor is
-/// left. Before the queries a client has come, and its connection has been idle for a second.
+/// The results of three queries: with a taken port, an unreachable network, and a lack of
+/// descriptors. Before, a client came, and its connection has been idle for a second.
 fn puts_beside_a_client(
     system: &System<'_>,
     wire: &mut MioWire<'_, System<'_>>,
@@ -311,8 +311,8 @@ fn a_resting_client_is_closed_for_a_descriptor_alone(rt: HostRuntime) -> Result<
     Ok(())
 }
 
-/// Whether calls of a turn run out of memory for the frames of a client, while this heap has none
-/// for them.
+/// Whether calls of a turn run out of memory for a client's frames, while this heap has none for
+/// them.
 fn ends_without_memory<'a>(
     heap: &'a Refusing<Global>,
     wire: &mut MioWire<'_, HostRuntime, &'a Refusing<Global>>,
@@ -327,7 +327,7 @@ fn ends_without_memory<'a>(
     false
 }
 
-/// Whether calls of a turn run out of memory for a client that sends the beginning of a frame.
+/// Whether calls of a turn run out of memory for a client sending the beginning of a frame.
 fn ends_with_a_client<'a>(
     rt: &HostRuntime,
     heap: &'a Refusing<Global>,
@@ -364,7 +364,7 @@ fn ends(rt: &HostRuntime) -> Result<bool, Fail> {
     ended
 }
 
-/// The program ends with status 4 then, which is `forwarder_commands`'.
+/// The program then ends with status 4, by `forwarder_commands`.
 #[test]
 fn a_stream_without_memory_ends_the_service(rt: HostRuntime) -> Result<(), Fail> {
     assert!(rt; ends(&rt)?);

@@ -1,4 +1,4 @@
-//! Turns over a wire that refuses nothing.
+//! Turns over a wire without refusals.
 
 use crate::puts::{Puts, puts_of};
 use crate::scripts::{
@@ -25,17 +25,17 @@ fn a_question_is_asked_and_answered(rt: HostRuntime) -> Result<(), Fail> {
     Ok(())
 }
 
-/// The question comes over a client's connection in two pieces, one in each turn.
+/// The question comes over a client's connection in two pieces, a piece in each turn.
 pub(crate) const TWO_PIECES: [Turn; 2] = [
     (1000, Comes::Piece(3, b"\x00\x1b\x12")),
     (1020, Comes::Piece(3, REST)),
 ];
 
-/// The question without its first octet.
+/// The question without the first octet.
 const REST: &[u8] =
     b"\x34\x01\x00\x00\x01\x00\x00\x00\x00\x00\x00\x01a\x07example\x00\x00\x01\x00\x01";
 
-/// The result of `turns` turns in which the question comes in two pieces.
+/// The result of `turns` turns, with the question in two pieces.
 fn ran_in_pieces(alloc: Global, turns: u64) -> Result<Ran, AllocError> {
     let run = Run {
         script: &TWO_PIECES,
@@ -46,7 +46,7 @@ fn ran_in_pieces(alloc: Global, turns: u64) -> Result<Ran, AllocError> {
     ran_anew(alloc, &run)
 }
 
-/// The second turn asks the question. A call of one turn over an equal wire puts nothing.
+/// The second turn asks the question. A call of a single turn over an equal wire puts nothing.
 #[test]
 fn a_frame_in_two_pieces_is_one_question(rt: HostRuntime) -> Result<(), Fail> {
     let second = ran_in_pieces(rt.alloc(), 2)?;
@@ -58,14 +58,14 @@ fn a_frame_in_two_pieces_is_one_question(rt: HostRuntime) -> Result<(), Fail> {
 
 type Heap<'a> = &'a Refusing<Global>;
 
-/// The puts on the wire, and whether one allocation that was allowed is left then.
+/// The puts on the wire, and whether a single allowed allocation is left.
 fn seen<'a>(heap: Heap<'a>, wire: &ScriptWire<Heap<'a>>) -> (Puts, bool) {
     let puts = puts_of(wire.puts());
     (puts, Box::new(heap, 0u8).is_ok())
 }
 
-/// The puts on a wire that is made of turns that exist already, and whether the one allocation that
-/// was allowed is left then. The wire is forgotten.
+/// The puts on a wire made of existing turns, and whether a single allowed allocation is left. The
+/// wire is forgotten.
 fn seen_of_new(alloc: Global) -> Result<(Puts, bool), AllocError> {
     let heap = Refusing::new(alloc);
     let refuse = Vec::from_slice(&heap, &[1u64])?;
@@ -77,8 +77,8 @@ fn seen_of_new(alloc: Global) -> Result<(Puts, bool), AllocError> {
     Ok(seen)
 }
 
-/// The puts on this wire once it has served, and whether one allocation that was allowed from then
-/// on is left.
+/// The puts on this wire after serving, and whether a single allocation allowed from then on is
+/// left.
 fn seen_served<'a>(
     heap: Heap<'a>,
     wire: &mut ScriptWire<Heap<'a>>,
@@ -88,8 +88,7 @@ fn seen_served<'a>(
     Ok(seen(heap, wire))
 }
 
-/// The puts on a wire on which the question comes in two pieces, once the wire has served, and
-/// whether one allocation that was allowed from then on is left.
+/// The result of [`seen_served`] for a wire with the question in two pieces.
 fn seen_of_served(alloc: Global) -> Result<(Puts, bool), AllocError> {
     let heap = Refusing::new(alloc);
     let mut wire = wire_of(&heap, &TWO_PIECES, &[])?;

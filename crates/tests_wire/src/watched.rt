@@ -1,7 +1,7 @@
-//! Sockets that are found by their events alone: while the clock stands, no socket is tried that no
-//! event reported. So is each kind at each age of a wire, and after a million faults. `clients` and
-//! `servers` have what comes from each. Ports 15373 to 15387, 15394 to 15396 and 15402 have to be
-//! free. A wire is forgotten, as in `sockets`.
+//! Sockets found by their events alone: while the clock is stopped, no socket is tried without a
+//! reported event. Each kind is tested at each age of a wire, and after a million faults. `clients`
+//! and `servers` have the cases. Ports 15373 to 15387, 15394 to 15396 and 15402 have to be free. A
+//! wire is forgotten, as in `sockets`.
 
 use crate::came::{reply_to, settle};
 use crate::clients::{
@@ -19,15 +19,15 @@ use std::test::Fail;
 use std::time::Duration;
 use suffix_routes::Limits;
 
-/// The ages of a wire, in ms: at its start; past the time for which a silent client is kept; an
-/// hour; 50 days; a second before the last moment of 64 bits.
+/// The ages of a wire, in ms: the start; past the time for which a silent client is kept; an hour;
+/// 50 days; a second before the last moment of 64 bits.
 pub(crate) const AGES: [u64; 5] = [0, 11_000, 3_600_000, 4_320_000_000, u64::MAX - 1_000];
 
-/// The number of faults after which each case passes.
+/// The number of faults before each case.
 const FAULTS: u32 = 1_000_000;
 
-/// The port at which the wire with those faults listens. The next two are those of a server and of
-/// a query.
+/// The listening port of the wire with those faults. The next two ports are a server's and a
+/// query's.
 const BEHIND_FAULTS: u16 = 15394;
 
 /// A case of arrivals over a wire.
@@ -39,23 +39,23 @@ enum Case {
     Pieces,
     /// The reply to a query by UDP.
     ByUdp,
-    /// The reply to a query over TCP, at some numbers of its connection.
+    /// The reply to a query over TCP, for several numbers of the connection.
     OverTcp,
-    /// A query over TCP whose connection opens a second later: at the server.
+    /// A query over TCP, with a connection that opens a second later: at the server.
     Opens,
-    /// A question of a client that got the reply to another 10 ms before.
+    /// A client's question, 10 ms after the reply to an earlier question.
     Again,
-    /// For a client the rest of replies that the system did not take at once.
+    /// The rest of a client's replies that the system did not take at once.
     Rest,
-    /// A datagram and three new clients, all before one turn.
+    /// A datagram and three new clients, all before a single turn.
     Many,
-    /// A piece from each of 64 clients, all before one turn.
+    /// A piece from each of 64 clients, all before a single turn.
     Crowd,
-    /// The reply to a query by UDP, among datagrams that come without a pause.
+    /// The reply to a query by UDP, among datagrams arriving without a pause.
     Among,
 }
 
-/// All of them.
+/// All cases.
 const CASES: [Case; 10] = [
     Case::Datagram,
     Case::Pieces,
@@ -70,7 +70,7 @@ const CASES: [Case; 10] = [
 ];
 
 impl Case {
-    /// The port at which the wire listens. The next two are those of a server and of a query.
+    /// The wire's listening port. The next two ports are a server's and a query's.
     fn listen(self) -> u16 {
         match self {
             Case::Datagram => 15373,
@@ -87,7 +87,7 @@ impl Case {
     }
 }
 
-/// Whether the case passes, once nothing is noted as ready any more.
+/// Whether the case passes, once nothing is noted as ready.
 fn passes(
     system: &System<'_>,
     wire: &mut MioWire<'_, System<'_>>,
@@ -110,7 +110,7 @@ fn passes(
     }
 }
 
-/// Has the wire count a million faults: replies to a client that never came.
+/// Lets the wire count a million faults: replies to a client that never came.
 fn count_faults(alloc: Global, wire: &mut MioWire<'_, System<'_>>) -> Result<(), Fail> {
     let reply = reply_to(alloc, u64::MAX, 12)?;
     for _ in 0..FAULTS {
@@ -119,8 +119,7 @@ fn count_faults(alloc: Global, wire: &mut MioWire<'_, System<'_>>) -> Result<(),
     expected(wire.faults() >= u64::from(FAULTS), "fewer faults")
 }
 
-/// The number of ages at which the case passes, one after the other up to the first at which it
-/// doesn't.
+/// The number of ages, before the first failure, at which the case passes.
 fn ages_passed(
     system: &System<'_>,
     wire: &mut MioWire<'_, System<'_>>,
@@ -135,7 +134,7 @@ fn ages_passed(
     Ok(AGES.len())
 }
 
-/// The number of ages at which the case passes over a new wire, which is forgotten.
+/// The number of ages at which the case passes over a new wire. The wire is forgotten.
 fn ages_passed_anew(rt: &HostRuntime, case: Case) -> Result<usize, Fail> {
     let system = System::new(rt);
     system.time.set(Duration::ZERO);
@@ -150,7 +149,7 @@ fn ages_passed_anew(rt: &HostRuntime, case: Case) -> Result<usize, Fail> {
     passed
 }
 
-/// The number of cases that pass after a million faults, up to the first one that doesn't.
+/// The number of cases, before the first failure, that pass after a million faults.
 fn cases_passed(system: &System<'_>, wire: &mut MioWire<'_, System<'_>>) -> Result<usize, Fail> {
     count_faults(system.host.alloc(), wire)?;
     for (place, case) in CASES.iter().enumerate() {

@@ -1,4 +1,4 @@
--- Entries of the cache, and the answers from it, step by step.
+-- The cache's entries, and answers from cache, step by step.
 use Rattle.std.proofs.Common.{◌≡◌, ℕ, ◌+◌, ◌≤◌, List, [], ◌∷◌, ◌++◌, true, sym, ap, ◌∙◌, subst, inl, inr, arith, Some}
 use Rattle.std.specs.List.{AllByRecursion}
 use Rattle.dns_message.specs.Values.{Question}
@@ -36,7 +36,7 @@ kept_later c os m n es le all = All-weaker (IsKept c os m) (IsKept c os n) (λ h
 
 -- ---- answers from cache
 
--- where look-ups are the same, an answer is still found
+-- if look-ups are equal, an answer is still found
 found_moved : (c : Config) (t : ℕ) (es others : List Held) → ((q : Question) → looked c t es q ≡ looked c t others q) → (q : Question) (octets : List ℕ) → IsStillFound c t es q octets → IsStillFound c t others q octets
 found_moved c t es others same q octets f = record {
   end = f.end;
@@ -51,7 +51,7 @@ still_same : (c : Config) (t : ℕ) (es others : List Held) → ((q : Question) 
 still_same c t es others same [] h = tt
 still_same c t es others same (s ∷ past) h = λ run at quiet. let was = h run at quiet in ((λ q octets from. found_moved c t es others same q octets (was.0 q octets from)), still_same c t es others same past was.1)
 
--- promotions change no answer that is still found
+-- promotions change no answer still found
 promoted_same : (c : Config) (t : ℕ) (cache : Cache) (used : List Slot) → AreHeld cache → (q : Question) → looked c t cache.entries q ≡ looked c t (promoted_all used cache.entries) q
 promoted_same c t cache used held q = sym (same_look_ups c.routes t (promoted_all used cache.entries) cache.entries (promotions_keep c.routes t cache.capacity used cache.entries held).1 most_aliases [] q)
 
@@ -60,7 +60,7 @@ still_moved : (c : Config) (m n : ℕ) (es : List Held) (past : List Step) → m
 still_moved c m n es [] is h = tt
 still_moved c m n es (s ∷ past) is h = λ run at quiet. subst (λ (t : ℕ). AreStillFound c t es (s ∷ past)) (is ∙ at) h run at quiet
 
--- an answer has the sections of each earlier one to an equal question
+-- an answer has the sections of each earlier answer to an equal question
 agrees : (c : Config) (t : ℕ) (es : List Held) (q : Question) (octets : List ℕ) → IsStillFound c t es q octets → (past : List Step) → AreStillFound c t es past → SameAsEarlierFromCache c t q octets past
 agrees c t es q octets now [] h = tt
 agrees c t es q octets now (s ∷ past) h = λ run at quiet. let was = h run at quiet in ((λ q' octets' from same. both q' octets' same (was.0 q' octets' from)), agrees c t es q octets now past was.1)
@@ -86,7 +86,7 @@ quiet_steps_keep c past m n cache s was is (run, quiet) now from = record {
   found = λ r at q'. (from, still_moved c m n cache.entries past is was.found);
 }
 
--- the entries that a look-up used are promoted
+-- the entries used by a look-up are promoted
 pub promotions_keep_cached : PromotionsKeep
 promotions_keep_cached c past m cache used was = record {
   carried = was.carried;
@@ -97,7 +97,7 @@ promotions_keep_cached c past m cache used was = record {
   found = still_same c m cache.entries (promoted_all used cache.entries) (promoted_same c m cache used was.held) past was.found;
 }
 
--- facts that an offer keeps
+-- facts kept by an offer
 abbrev Keeps : Config → ℕ → ℕ → List Held → List Held → ℕ → Type 0
 Keeps c capacity n os es k = AreHeld (record { capacity = capacity; entries = es }) × AllByRecursion (IsKept c os n) es
 

@@ -47,7 +47,7 @@ servers_kept : (r : Reply) → Serves r → (ps : List Piece) → AllByRecursion
 servers_kept r serves [] fit all = tt
 servers_kept r serves (p ∷ ps) fit all = (piece_kept r serves p.owner (Some 2) p fit.0.carried all.0, servers_kept r serves ps fit.1 all.1)
 
--- those of a walk that isn't lame, by its end
+-- the pieces of a walk, unless lame, by the walk's end
 walk_kept : (r : Reply) → Serves r → (ps authority : List Piece) (e : End) → EndsSo r ps authority e → is_lame e ≡ false → AllByRecursion IsWritable ps → AllByRecursion (CanBeKept r.config) ps
 walk_kept r serves ps authority e ends fine all = by e ends fine
   where
@@ -121,7 +121,7 @@ module _ (c : Config) (asked s : Step) (before past : List Step) (os : List Held
   other_is : here other.name ≡ other
   other_is = λ j. record { name = other.name; kind = sym alike.kind j; class = sym alike.class j }
 
-  -- ---- where a piece closes
+  -- ---- if a piece closes
 
   module _ (fine : has_last (walk_of c m q route).end ≡ true) where
     closes : ClosesAt (reply_of c m q route) (walk_of c m q route).pieces (walk_of c m q route).end
@@ -144,7 +144,7 @@ module _ (c : Config) (asked s : Step) (before past : List Step) (os : List Held
       right_end = closes_ends r w.end closes.last_name led.0 closes.last fine closes.carried closes.body led.1;
     }
 
-  -- ---- where they lead elsewhere
+  -- ---- if the aliases lead elsewhere
 
   lead_on : (name : List (List ℕ)) → EndsSo r w.pieces w.authority (elsewhere name) → LeadOn look t other w.pieces name
   lead_on name h = record {

@@ -1,4 +1,4 @@
--- Look-ups of a client's question, and of one that waits.
+-- Look-ups of a client's question, and of a waiting question.
 use Rattle.std.proofs.Common.{ℕ, ◌<◌, ◌≤◌, List, [], ◌∷◌, subst, inl, inr, refl, arith}
 use Rattle.std.specs.List.{AllByRecursion}
 use Rattle.trust_rank.specs.Formed.{IsPiece}

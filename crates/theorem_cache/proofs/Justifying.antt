@@ -1,5 +1,5 @@
--- A justified piece stays so, aliases lead on after aliases, and pieces that are kept or come now
--- are justified.
+-- A justified piece stays justified, aliases lead on after aliases, and kept or newly carried
+-- pieces are justified.
 use Rattle.std.proofs.Common.{◌≡◌, ◌⊎◌, ℕ, zero, suc, ◌<◌, ◌≤◌, List, [], ◌∷◌, ◌++◌, take, false, refl, sym, ap, subst, inl, inr, ⊎_elim, arith, Some}
 use Rattle.std.specs.Prelude.{map}
 use Rattle.suffix_routes.specs.Values.{Config}
@@ -10,7 +10,7 @@ use Rattle.record_cache.specs.Ageing.{end_of}
 use Rattle.record_cache.specs.Laws.{Among}
 use Rattle.step_values.specs.Values.{Step}
 use Rattle.suffix_routes.specs.Serving.{serving_route_of}
-use Rattle.cache_laws.proofs.CallerLemmas.{serves_exactly}
+use Rattle.step_history.proofs.CacheLaws.CallerLemmas.{serves_exactly}
 use Rattle.step_history.specs.History.{is_restart, moment_at, InEra, Look, Carries}
 use Rattle.step_history.specs.Carried.{then_carried, CarriedInEra, NotReplaced, Justified}
 use Rattle.step_history.specs.Answers.{FollowsAliases}
@@ -20,7 +20,7 @@ use Rattle.alias_chains.specs.Offering.{held_at}
 use Rattle.theorem_cache.specs.Chains.{look_from, GoesOn}
 use Rattle.theorem_cache.specs.Laws.{LeadsStayLeads}
 
--- ---- one step later
+-- ---- a step later
 
 among_older : (t : ℕ) (ps : List Piece) (o : Held) (os : List Held) → Among o os → Among o (then_carried t ps os)
 among_older t [] o os h = h
@@ -86,8 +86,8 @@ moments_of_era upto (s ∷ past) (inr later) =
     let b : moment_at past ≤ moment_at (s ∷ past) = moment_later s past later.0 in
     omega (arith, a, b)
 
--- a piece that was carried, was not replaced and is alive now serves each question of the era for a
--- name on its route
+-- a carried piece, not replaced and alive now, serves each question of the era for a name on its
+-- route
 pub kept_is_justified : (c : Config) (asked : Step) (before now : List Step) (name : List (List ℕ)) (all : List Held) (o : Held)
     → InEra (asked ∷ before) now → CarriedInEra c now all → NotReplaced o all → moment_at now < end_of o → serving_route_of c name ≡ Some o.piece.route → Justified (look_from c asked before now) name o
 kept_is_justified c asked before now name all o era carried kept alive route =
@@ -103,14 +103,14 @@ kept_is_justified c asked before now name all o era carried kept alive route =
       counts = ⊎_elim (λ (a : Among o since.1). inr a) (λ (k : NotReplaced o since.0). inl (k, then)) (not_replaced_since o since.1 since.0 (subst (NotReplaced o) since.3 kept));
     }
 
--- ---- pieces that come now
+-- ---- newly carried pieces
 
 among_newest : (t : ℕ) (ps : List Piece) (o : Held) (os : List Held) → Among o (map (held_at t) ps) → Among o (then_carried t ps os)
 among_newest t [] o os h = absurd h
 among_newest t (p ∷ ps) o os (inl here) = among_older t ps o (record { piece = p; accepted = t } ∷ os) (inl here)
 among_newest t (p ∷ ps) o os (inr h) = among_newest t ps o (record { piece = p; accepted = t } ∷ os) h
 
--- a piece that the newest step carries serves each question of the era for a name on its route
+-- a piece carried by the newest step serves each question of the era for a name on its route
 pub new_is_justified : (c : Config) (asked s : Step) (before past : List Step) (ps : List Piece) (os : List Held) (name : List (List ℕ)) (o : Held)
     → InEra (asked ∷ before) past → is_restart s ≡ false → Carries c s past ps → CarriedInEra c past os → Among o (map (held_at (moment_at (s ∷ past))) ps)
     → serving_route_of c name ≡ Some o.piece.route → Justified (look_from c asked before (s ∷ past)) name o

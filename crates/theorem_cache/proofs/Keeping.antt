@@ -22,14 +22,14 @@ use Rattle.record_cache.proofs.CallerLemmas.{slots_decide, slots_are_the_same, n
 use Rattle.negative_cache.specs.Entries.{denies}
 use Rattle.negative_cache.specs.Showing.{shown}
 use Rattle.negative_cache.proofs.CallerLemmas.{shown_is_replaced}
-use Rattle.cache_laws.proofs.CallerLemmas.{keeps_place}
+use Rattle.step_history.proofs.CacheLaws.CallerLemmas.{keeps_place}
 use Rattle.alias_chains.specs.LookingUp.{promoted_all}
 use Rattle.alias_chains.specs.Offering.{shown_by, put, held_at}
 use Rattle.theorem_cache.specs.Kept.{IsKept, CanBeKept}
 use Rattle.step_table.proofs.CallerLemmas.{All-append, All-filter}
 use Rattle.theorem_cache.proofs.LookingUp.{all_among}
 
--- ---- one of a list
+-- ---- members of a list
 
 pub all_from : (P : Held → Type 0) (es : List Held) → ((e : Held) → Among e es → P e) → AllByRecursion P es
 all_from P [] each = tt
@@ -59,12 +59,12 @@ pub promotions_leave : (P : Held → Type 0) (used : List Slot) (es : List Held)
 promotions_leave P [] es all = all
 promotions_leave P (slot ∷ used) es all = promotions_leave P used (promoted slot es) (promoted_all_of P slot es all)
 
--- ---- an entry that an offer leaves is not replaced by it
+-- ---- an entry left by an offer is not replaced by the offer
 
 pub own_key : (p : Piece) → IsPiece p → lowered p.slot.key ≡ p.slot.key
 own_key p formed = ap lowered formed.key ∙ lowered_again p.owner ∙ sym formed.key
 
--- a piece of another slot, which doesn't deny what p shows, keeps its place
+-- a piece of another slot, not denying the name shown by p, keeps its place
 pub not_taken : (p : Piece) (e : Held) → IsPiece p → IsPiece e.piece → of_slot p.slot e ≡ false → (is_name_error p ≡ false → denies p.owner p.slot.class e ≡ false) → takes_place_of p e.piece ≡ false
 not_taken p e formed formed_e other shown_over = by (is_name_error e.piece) refl (is_name_error p) refl
   where
@@ -81,7 +81,7 @@ not_taken p e formed formed_e other shown_over = by (is_name_error e.piece) refl
 
 -- ---- an offer
 
--- the entries that are left where a piece shows its name
+-- the entries left after a piece shows its name
 pub record IsShown (capacity : ℕ) (p : Piece) (es left : List Held) : Type 0 where
   pub held : AreHeld (record { capacity = capacity; entries = left })
   pub was : (e : Held) → Among e left → Among e es
@@ -98,7 +98,7 @@ shown_leaves capacity p es held = by (is_name_error p) refl
       over = λ e among none. not-true _ (among_filtered (λ x. not (denies p.owner p.slot.class x)) e es among).1;
     }
 
--- the entry of a slot is the one that is among the entries
+-- the entry found for a slot is the member of this slot
 pub entry_among : (slot : Slot) (e : Held) (es : List Held) → AreApart es → Among e es → of_slot slot e ≡ true → entry_of slot es ≡ Some e
 entry_among slot e [] apart among is = absurd among
 entry_among slot e (x ∷ es) apart among is = by (λ later. entry_among slot e es apart.1 later is) (of_slot slot x) refl among
@@ -109,7 +109,7 @@ entry_among slot e (x ∷ es) apart among is = by (λ later. entry_among slot e 
     by rest false f (inl here) = absurd (true≢false (sym is ∙ sym (ap (of_slot slot) here) ∙ f))
     by rest false f (inr later) = rest later
 
--- where no entry is of a slot, this is not
+-- if no entry is of a slot, this entry is not
 none_of : (slot : Slot) (e : Held) (xs : List Held) → list_any (of_slot slot) xs ≡ false → Among e xs → of_slot slot e ≡ false
 none_of slot e [] none h = absurd h
 none_of slot e (x ∷ xs) none h = by (none_of slot e xs) (of_slot slot x) refl none h
@@ -137,7 +137,7 @@ module _ (c : Config) (capacity n : ℕ) (p : Piece) (offer : CanBeKept c p) (os
   abbrev new : Held
   new = held_at n p
 
-  -- an entry that stays, and whose place p doesn't take
+  -- a remaining entry in a place not taken by p stays kept
   still : (e : Held) → Among e left → takes_place_of p e.piece ≡ false → IsKept c (new ∷ os) n e
   still e among free =
       let was = all_among (IsKept c os n) e es all (facts.was e among) in
@@ -150,11 +150,11 @@ module _ (c : Config) (capacity n : ℕ) (p : Piece) (offer : CanBeKept c p) (os
   itself : (p.lifetime == 0) ≡ false → IsKept c (new ∷ os) n new
   itself some = record { on_route = offer.on_route; earlier = omega arith; has_lifetime = not_none p.lifetime some; not_replaced = inl refl; writable = offer.writable }
 
-  -- those of other slots
+  -- the entries of other slots
   others : (e : Held) → Among e (without p.slot left) → IsKept c (new ∷ os) n e
   others e among = let part = among_filtered (λ x. not (of_slot p.slot x)) e left among in other_slot e part.0 (not-true _ part.1)
 
-  -- a living entry of its slot is believed more
+  -- if p is outranked, the remaining entries stay kept
   outranked_stays : is_outranked n p left ≡ true → (e : Held) → Among e left → IsKept c (new ∷ os) n e
   outranked_stays t e among = by (of_slot p.slot e) refl
     where
@@ -190,7 +190,7 @@ module _ (c : Config) (capacity n : ℕ) (p : Piece) (offer : CanBeKept c p) (os
               and_false true = refl
               and_false false = refl
 
-  -- the entries that an offer leaves
+  -- the entries left by an offer
   abbrev Leaves : List Held → Type 0
   Leaves after = AreHeld (record { capacity = capacity; entries = after }) × AllByRecursion (IsKept c (new ∷ os) n) after
 

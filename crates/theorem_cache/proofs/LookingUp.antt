@@ -1,4 +1,4 @@
--- A look-up yields a chain that the history justifies, and a second look-up yields the same.
+-- A look-up yields a chain justified by the history, and a second look-up yields the same chain.
 use Rattle.std.proofs.Common.{◌≡◌, ℕ, zero, suc, ◌+◌, ◌<◌, ◌≤◌, List, [], ◌∷◌, ◌++◌, length, length-append, true, refl, sym, ap, ◌∙◌, subst, inl, inr, arith, Option, Some, None}
 use Rattle.std.specs.Prelude.{◌≢◌, ◌==◌, ◌&&◌}
 use Rattle.std.specs.List.{AllByRecursion}
@@ -31,7 +31,7 @@ use Rattle.step_history.specs.History.{Look}
 use Rattle.step_history.specs.Carried.{Justified}
 use Rattle.step_history.specs.Answers.{IsOf, FollowsAliases, EndsChain}
 use Rattle.step_history.proofs.CallerLemmas.{alias_to}
-use Rattle.cache_laws.proofs.CallerLemmas.{one_slot}
+use Rattle.step_history.proofs.CacheLaws.CallerLemmas.{one_slot}
 use Rattle.dns_message.specs.Questions.{asked_at}
 use Rattle.alias_chains.specs.LookingUp.{LookUp, look_up_on, look_up_after, one_too_many, through, look_up, promoted_all}
 use Rattle.theorem_cache.specs.Kept.{CanBeWrittenAt}
@@ -40,10 +40,10 @@ use Rattle.theorem_cache.proofs.Slots.{slot_turned}
 use Rattle.step_table.proofs.CallerLemmas.{All-append}
 use Rattle.theorem_cache.proofs.Justifying.{follows_append}
 
--- ---- a look-up at one name
+-- ---- a look-up at a name
 
--- an entry: it can be written, is well formed, within its route, and may serve each name of that
--- route while it lives
+-- an entry: can be written, is well formed, within its route, and may serve each name of the route
+-- while alive
 pub record IsUsable (l : Look) (n : ℕ) (h : Held) : Type 0 where
   pub can_write : CanBeWrittenAt n h
   pub formed : IsPiece h.piece
@@ -55,7 +55,7 @@ all_among P h [] all among = absurd among
 all_among P h (e ∷ entries) all (inl here) = subst P here all.0
 all_among P h (e ∷ entries) all (inr later) = all_among P h entries all.1 later
 
--- an alias that leads on from the question
+-- an alias leading on from the question
 abbrev IsRightAlias : Look → ℕ → Question → Held → Type 0
 IsRightAlias l n q h = CanBeWrittenAt n h × (q.kind ≢ 5) × Justified l q.name h × IsOf h.piece q.name q.class (Some 5)
 
@@ -87,7 +87,7 @@ module _ (l : Look) (n : ℕ) (entries : List Held) (usable : AllByRecursion (Is
   use_of : (h : Held) → IsLiving n entries h → IsUsable l n h × (n < end_of h)
   use_of h living = (all_among (IsUsable l n) h entries usable living.among, ltb-true n (end_of h) living.alive)
 
-  -- one of its slot serves the question
+  -- an entry of the question's slot serves the question
   typed_serves : (q : Question) (kind : ℕ) (h : Held) → IsTyped n entries q kind h → CanBeWrittenAt n h × Justified l q.name h × IsOf h.piece q.name q.class (Some kind)
   typed_serves q kind h typed =
       let asked : Slot = record { key = q.name; class = q.class; kind = Some kind } in
@@ -95,7 +95,7 @@ module _ (l : Look) (n : ℕ) (entries : List Held) (usable : AllByRecursion (Is
       let use_it = use_of h typed.living in
       (use_it.0.can_write, use_it.0.serves q.name use_it.1 (serving_respects_same l.config.routes q.name h.piece.slot.key one.name ∙ use_it.0.on_route), slot_turned asked h.piece.slot typed.slot)
 
-  -- a name error above serves it
+  -- a name error above serves the question
   denial_serves : (q : Question) (h : Held) → IsDenial l.config.routes n entries q h → IsRightEnd l n q h
   denial_serves q h denial =
       let outer = and_parts (is_name_error h.piece && (q.class == h.piece.slot.class)) (is_under q.name h.piece.slot.key) denial.denies in
@@ -119,7 +119,7 @@ module _ (l : Look) (n : ℕ) (entries : List Held) (usable : AllByRecursion (Is
 
   -- ---- a look-up
 
-  -- how it leads, and the piece that it ends at
+  -- the look-up's aliases, and the piece at their end
   pub record IsLed (q : Question) (v : LookUp) : Type 0 where
     pub can_write : AllByRecursion (CanBeWrittenAt n) v.held
     pub follows : FollowsAliases l q v.held v.wanted
@@ -153,7 +153,7 @@ module _ (l : Look) (n : ℕ) (entries : List Held) (usable : AllByRecursion (Is
       (λ h name right leads. let rest = look_up_right from more (held ++ h ∷ []) (asked_at q name) (All-append (CanBeWrittenAt n) held (h ∷ []) can_write (right.0, tt)) (one_more from q held h name follows right leads) in record { can_write = rest.can_write; follows = rest.follows; right_end = rest.right_end })
       (found_in l.config.routes n entries q) (find_right q)
 
--- ---- how many aliases it takes
+-- ---- the number of aliases taken
 
 sized_step : (held : List Held) (q : Question) (onward : Held → List (List ℕ) → LookUp) → length held ≤ 8 → ((h : Held) (name : List (List ℕ)) → IsSized (onward h name).met (length (onward h name).held))
     → (f : Found) → IsSized (look_up_after held q onward f).met (length (look_up_after held q onward f).held)
@@ -168,7 +168,7 @@ sized_step held q onward few go (found.no_data h) = few
 sized_step held q onward few go (found.denied h) = few
 sized_step held q onward few go miss = few
 
--- a look-up from aliases that are held takes no more than eight in all, or fails with nine
+-- a look-up from given aliases takes at most eight in all, or fails with nine
 pub look_up_sized : (routes : List Route) (n : ℕ) (entries : List Held) (more : ℕ) (held : List Held) (q : Question) → more + length held ≡ 8
     → IsSized (look_up routes n entries more held q).met (length (look_up routes n entries more held q).held)
 look_up_sized routes n entries zero held q is = sized_step held q (one_too_many held q) (omega (arith, is)) (λ h name. length-append held (h ∷ []) ∙ (omega (arith, is))) (found_in routes n entries q)
@@ -199,9 +199,9 @@ still_held routes n entries (suc more) held q some =
     more_held held q (λ h name. through h (look_up routes n entries more (held ++ h ∷ []) (asked_at q name))) some
     (λ h name. still_held routes n entries more (held ++ h ∷ []) (asked_at q name) (one_held held h)) (found_in routes n entries q)
 
--- ---- the same again
+-- ---- equal look-ups
 
--- where look-ups at one name agree, so do look-ups along aliases
+-- if look-ups at a name agree, so do look-ups along aliases
 pub same_look_ups : (routes : List Route) (n : ℕ) (entries others : List Held) → ((q : Question) → found_in routes n entries q ≡ found_in routes n others q)
     → (more : ℕ) (held : List Held) (q : Question) → look_up routes n entries more held q ≡ look_up routes n others more held q
 same_look_ups routes n entries others same zero held q = ap (look_up_after held q (one_too_many held q)) (same q)

@@ -1,4 +1,4 @@
--- One induction over the offers of a reply, on which each fact can ride that an offer keeps.
+-- A single induction over the offers of a reply, for each fact kept by an offer.
 use Rattle.std.proofs.Common.{◌≡◌, ℕ, ◌+◌, List, [], ◌∷◌, Bool, true, subst, arith}
 use Rattle.std.specs.List.{AllByRecursion}
 use Rattle.trust_rank.specs.Values.{Piece}
@@ -12,11 +12,11 @@ none_more k = omega arith
 one_and_more : (k first rest : ℕ) → k + first + rest ≡ k + (first + rest)
 one_and_more k first rest = omega arith
 
--- P holds of the carried pieces, of the entries, and of how many found no memory; each offer of a
--- piece that fits keeps it
+-- P holds of the carried pieces, the entries, and the number without memory; each offer of a
+-- fitting piece keeps P
 module _ (capacity n : ℕ) (Fits : Piece → Type 0) (P : List Held → List Held → ℕ → Type 0)
     (one : (room : Bool) (p : Piece) (os es : List Held) (k : ℕ) → Fits p → P os es k → P (held_at n p ∷ os) (put capacity n room p es) (k + count_of (ended_so n room p es))) where
-  -- so all of them keep it
+  -- so all offers keep P
   pub offers_keep : (rooms : List Bool) (ps : List Piece) (os es : List Held) (k : ℕ) → AllByRecursion Fits ps → P os es k → P (then_carried n ps os) (put_all capacity n rooms ps es) (k + unkept_of capacity n rooms ps es)
   offers_keep rooms [] os es k fits was = subst (P os es) (none_more k) was
   offers_keep [] (p ∷ ps) os es k fits was =

@@ -1,4 +1,4 @@
--- A message that has a question alone is short.
+-- A message with a question alone is short.
 use Rattle.std.proofs.Common.{◌≡◌, ◌≤◌, [], ◌∷◌, length, Some, sym, subst, arith}
 use Rattle.dns_name.specs.Labels.{IsName}
 use Rattle.dns_message.specs.declared.reading.header.Header.{Header}
@@ -10,7 +10,7 @@ use Rattle.dns_message.proofs.CallerLemmas.{bare_message_is_short}
 pub alone_short : (h : Header) (q : Question) → IsName q.name → length (written (record { header = h; questions = q ∷ []; answers = []; authority = []; additional = [] })) ≤ 65535
 alone_short h q name = let short = bare_message_is_short h (Some q) name in omega (arith, short)
 
--- so is each message that has a question alone
+-- each message with a question alone is short
 pub question_short : (m : Message) (q : Question) → m.questions ≡ q ∷ [] → m.answers ≡ [] → m.authority ≡ [] → m.additional ≡ [] → IsName q.name → length (written m) ≤ 65535
 question_short m q questions answers authority additional name =
     subst (λ (x : Message). length (written x) ≤ 65535)

@@ -1,4 +1,4 @@
--- Expired data that a look-up finds is justified.
+-- Expired data found by a look-up is justified.
 use Rattle.std.proofs.Common.{◌≡◌, ◌≢◌, ℕ, zero, suc, ◌+◌, ◌*◌, ◌<◌, ◌≤◌, List, [], ◌∷◌, true, false, refl, ap, ◌∙◌, inl, inr, arith, Option, Some, None}
 use Rattle.std.specs.Prelude.{option_map}
 use Rattle.std.proofs.lemmas.Bool.{ltb-true, false≢true}
@@ -26,7 +26,7 @@ use Rattle.step_history.specs.Answers.{IsOf}
 use Rattle.dns_message.specs.Questions.{asked_at}
 use Rattle.step_history.specs.Stale.{IsSet, JustifiedStale}
 use Rattle.step_history.proofs.CallerLemmas.{moment_later, alias_to}
-use Rattle.cache_laws.proofs.CallerLemmas.{one_slot, serves_exactly}
+use Rattle.step_history.proofs.CacheLaws.CallerLemmas.{one_slot, serves_exactly}
 use Rattle.alias_chains.specs.StaleLookUps.{stale_led, stale_followed, look_up_stale}
 use Rattle.theorem_cache.specs.Kept.{CanBeWrittenAt, IsKept, IsCached}
 use Rattle.theorem_cache.specs.Chains.{look_from, IsRightStale}
@@ -34,7 +34,7 @@ use Rattle.theorem_cache.specs.Laws.{StaleLookUpsAreRight}
 use Rattle.theorem_cache.proofs.Slots.{slot_turned}
 use Rattle.theorem_cache.proofs.LookingUp.{all_among}
 
--- a piece that is not replaced was carried
+-- a piece not replaced was carried
 carried_there : (o : Held) (os : List Held) → NotReplaced o os → Among o os
 carried_there o [] h = absurd h
 carried_there o (x ∷ os) (inl here) = inl here
@@ -80,7 +80,7 @@ module _ (c : Config) (asked s : Step) (before past : List Step) (m n : ℕ) (ca
     within = within_is h less;
   }
 
-  -- one of its slot serves the question
+  -- an entry of the question's slot serves the question
   record Serves (q : Question) (kind : ℕ) (h : Held) : Type 0 where
     pub can_write : CanBeWrittenAt n h
     pub justified : JustifiedStale l q.name h

@@ -32,7 +32,7 @@ record CanTell (x : PieceWithTtl) : Type 0 where
   pub writable : IsWritable x.piece
   pub seconds : x.seconds < 4294967296
 
--- the seconds that are left of a lifetime fit 32 bits
+-- the remaining seconds of a lifetime fit 32 bits
 left_can : (t : ℕ) (h : Held) → CanBeWrittenAt t h → CanTell (with_ttl t h)
 left_can t h can_write =
     let short : h.piece.lifetime ≤ 604800 = can_write.formed.lifetime in
@@ -106,7 +106,7 @@ small_code (rows each) = omega arith
 small_code (no_data soa) = omega arith
 small_code (denied soa) = omega arith
 
--- sections whose records can be written, with a response code of four bits
+-- sections of records to be written, with a response code of four bits
 record CanBeWritten (s : Sections) : Type 0 where
   pub answers : AllByRecursion Tells s.answers
   pub authority : AllByRecursion Tells s.authority
@@ -158,7 +158,7 @@ sections_spelled a q s asks can (Udp peer) fits = by (nat_le (length (full_text 
     by true few = inl (message_spelled a q false s asks can (let small = leb-true (length (full_text a s)) 512 few in omega (arith, small)))
     by false many = inr (message_spelled a q true (bare s.rcode) asks bare_can (cut_short a q s asks))
 
--- the octets that a client gets are read as the answer, or as the answer cut to the question
+-- the octets sent to a client are read as the answer, or as the answer cut to the question
 pub answers_are_spelled : AnswersAreSpelled
 answers_are_spelled a q t aliases end asks can_write client fits = sections_spelled a q (sections_of t (aliases ++ end ∷ [])) asks (sections_can t (aliases ++ end ∷ []) can_write) client fits
 
@@ -172,12 +172,12 @@ local_answers_are_spelled a q t aliases asks can_write client fits =
 
 -- ---- sections after reading
 
--- octets that are read without TC are read as the whole answer
+-- octets read without TC are read as the whole answer
 read_whole : (octets : List ℕ) (a : Asked) (chain : List Held) (t : ℕ) (m : Message) → SpellsAnswer octets a chain t → Spells octets m → m.header.tc ≡ false → m ≡ full_answer a (sections_of t chain)
 read_whole octets a chain t m (inl full) spells clear = one_message_is_spelled octets m (full_answer a (sections_of t chain)) spells full
 read_whole octets a chain t m (inr cut) spells clear = absurd (true≢false (sym (ap (λ (x : Message). x.header.tc) (one_message_is_spelled octets m (cut_answer a (sections_of t chain)) spells cut)) ∙ clear))
 
--- answers from one chain at one moment have the same sections
+-- answers from a single chain at a single moment have equal sections
 pub same_sections : (octets other : List ℕ) (a b : Asked) (chain : List Held) (t : ℕ) → SpellsAnswer octets a chain t → SpellsAnswer other b chain t → SameSections octets other
 same_sections octets other a b chain t one two m m' spells spells' clear clear' =
     let first = read_whole octets a chain t m one spells clear in

@@ -1,4 +1,4 @@
--- The walk of an accepted reply answers each question that waited for it.
+-- The walk of an accepted reply answers each question waiting for the reply.
 use Rattle.std.proofs.Common.{◌≡◌, ℕ, ◌≤◌, length, arith, List, [], ◌∷◌, true, refl, sym, ap, ◌∙◌, subst, inl, inr, Option, Some}
 use Rattle.std.specs.Prelude.{map}
 use Rattle.dns_name.specs.Labels.{lowered, IsSame, IsUnder}
@@ -24,7 +24,7 @@ use Rattle.theorem_cache.proofs.Slots.{slot_carried_over}
 
 -- ---- the pieces of an accepted walk
 
--- at the end of aliases a piece closes; the walk has no other
+-- at the aliases' end a piece closes, and the walk has no further pieces
 abbrev pub ClosesAt : Reply → List Piece → End → Type 0
 ClosesAt r pieces end = Closes r most_aliases r.question.name end pieces
 
@@ -44,24 +44,24 @@ walk_closes c m q route shapes on fine = by (walk_of c m q route).end (walk_lead
 
 -- ---- they serve an equal question
 
--- the question at a name with this type and class
+-- the question at a name, with this type and class
 abbrev pub at_name : List (List ℕ) → ℕ → ℕ → Question
 at_name name kind class = record { name = name; kind = kind; class = class }
 
--- the pieces among some that were carried now serve each name on their route
+-- the newly carried pieces among `new` serve each name on their route
 abbrev Serve : Look → ℕ → List Held → Type 0
 Serve l t new = (o : Held) (name : List (List ℕ)) → Among o new → serving_route_of l.config name ≡ Some o.piece.route → Justified l name o
 
--- the reply came on a route that serves names
+-- the reply's route serves names
 abbrev pub Serves : Reply → Type 0
 Serves r = serving r.config.routes (Some r.route) ≡ Some r.route
 
--- a name that is the same as one that a piece was carried for is on the piece's route
+-- a name equal to a piece's name is on the piece's route
 pub on_its_route : (r : Reply) → Serves r → (name other : List (List ℕ)) (kind : Option ℕ) (p : Piece) → IsCarriedFor r name kind p → IsSame other name → serving_route_of r.config other ≡ Some p.route
 on_its_route r serves name other kind p carried alike =
     ap (serving r.config.routes) (route_of_respects_same r.config.routes other name alike ∙ carried.on_route) ∙ serves ∙ ap Some (sym carried.route)
 
--- aliases that lead on in the reply are followed, from each name that is the same as the first
+-- aliases leading on in the reply are followed, from each name equal to the first
 pub lead_follows : (l : Look) (r : Reply) (t : ℕ) → Serves r → r.config ≡ l.config → (name other last : List (List ℕ)) (aliases : List Piece) → Lead r name aliases last → IsSame other name
     → Serve l t (map (held_at t) aliases)
     → (end : List (List ℕ)) × IsSame end last × FollowsAliases l (at_name other r.question.kind r.question.class) (map (held_at t) aliases) (at_name end r.question.kind r.question.class)
@@ -73,7 +73,7 @@ lead_follows l r t serves config name other last (p ∷ aliases) lead alike serv
     let route : serving_route_of l.config other ≡ Some p.route = subst (λ (c : Config). serving_route_of c other ≡ Some p.route) config (on_its_route r serves name other (Some 5) p alias.carried alike) in
     (rest.0, rest.1, (alias.follows, serve (held_at t p) other (inl refl) route, slot_carried_over p name other r.question.class (Some 5) alias.carried.slot alike, target, alias_to p target alias.leads, rest.2))
 
--- to the last name as it is spelled there, from the first as it is spelled there
+-- to the last name as spelled in the reply, from the first as spelled there
 lead_goes : (l : Look) (r : Reply) (t : ℕ) → Serves r → r.config ≡ l.config → (name last : List (List ℕ)) (aliases : List Piece) → Lead r name aliases last → Serve l t (map (held_at t) aliases)
     → FollowsAliases l (at_name name r.question.kind r.question.class) (map (held_at t) aliases) (at_name last r.question.kind r.question.class)
 lead_goes l r t serves config name last [] lead serve = λ i. at_name (sym lead i) r.question.kind r.question.class
@@ -82,7 +82,7 @@ lead_goes l r t serves config name last (p ∷ aliases) lead serve =
     let route : serving_route_of l.config name ≡ Some p.route = subst (λ (c : Config). serving_route_of c name ≡ Some p.route) config (on_its_route r serves name name (Some 5) p alias.carried refl) in
     (alias.follows, serve (held_at t p) name (inl refl) route, slot_carried_over p name name r.question.class (Some 5) alias.carried.slot refl, lead.0, alias_to p lead.0 alias.leads, lead_goes l r t serves config lead.0 last aliases lead.2 (λ o n among. serve o n (inr among)))
 
--- or, where there is an alias, from each name that is the same
+-- or, after an alias, from each equal name
 pub lead_follows_to : (l : Look) (r : Reply) (t : ℕ) → Serves r → r.config ≡ l.config → (name other last : List (List ℕ)) (aliases : List Piece) → Lead r name aliases last → IsSame other name → 1 ≤ length aliases
     → Serve l t (map (held_at t) aliases) → FollowsAliases l (at_name other r.question.kind r.question.class) (map (held_at t) aliases) (at_name last r.question.kind r.question.class)
 lead_follows_to l r t serves config name other last [] lead alike some serve = absurd (omega (arith, some))
@@ -91,7 +91,7 @@ lead_follows_to l r t serves config name other last (p ∷ aliases) lead alike s
     let route : serving_route_of l.config other ≡ Some p.route = subst (λ (c : Config). serving_route_of c other ≡ Some p.route) config (on_its_route r serves name other (Some 5) p alias.carried alike) in
     (alias.follows, serve (held_at t p) other (inl refl) route, slot_carried_over p name other r.question.class (Some 5) alias.carried.slot alike, lead.0, alias_to p lead.0 alias.leads, lead_goes l r t serves config lead.0 last aliases lead.2 (λ o n among. serve o n (inr among)))
 
--- the piece that closes ends the look-up of each question at a name that is the same
+-- the closing piece ends the look-up of each question at an equal name
 pub closes_ends : (r : Reply) (end : End) (last other : List (List ℕ)) (p : Piece) → has_last end ≡ true → IsCarriedFor r last (last_kind r end) p → IsLastBody end p.body → IsSame other last
     → EndsChain (at_name other r.question.kind r.question.class) p p.body
 closes_ends r end last other p fine carried body alike = by end fine carried p.body body

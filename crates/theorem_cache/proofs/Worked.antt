@@ -22,7 +22,7 @@ use Rattle.step_values.specs.Values.{Event, Delivered, from_client, tick, restar
 use Rattle.step_history.specs.History.{Look, NothingAccepted}
 use Rattle.step_history.specs.Carried.{Justified}
 use Rattle.step_history.proofs.CallerLemmas.{alias_to, target_is}
-use Rattle.cache_laws.proofs.CallerLemmas.{keeps_place}
+use Rattle.step_history.proofs.CacheLaws.CallerLemmas.{keeps_place}
 use Rattle.step_history.specs.Answers.{FollowsAliases}
 use Rattle.alias_chains.specs.LookingUp.{ends, too_long, missed}
 use Rattle.alias_chains.specs.Offering.{held_at}

@@ -1,4 +1,4 @@
--- An accepted reply gives each question that waited for it an answer that is right.
+-- An accepted reply gives each question waiting for the reply a right answer.
 use Rattle.std.proofs.Common.{◌≡◌, ℕ, zero, suc, ◌≤◌, List, [], ◌∷◌, ◌++◌, length, take, true, false, refl, sym, ap, ◌∙◌, subst, inr, arith, Some}
 use Rattle.std.specs.Prelude.{map, nat_le}
 use Rattle.std.specs.List.{AllByRecursion}
@@ -22,10 +22,10 @@ use Rattle.step_history.proofs.CallerLemmas.{moment_later}
 use Rattle.outstanding.specs.Values.{Ask}
 use Rattle.waiting_questions.specs.Values.{Waiting}
 use Rattle.step_table.specs.Steps.{gives_up}
-use Rattle.alias_chains.specs.LookingUp.{ends, LookUp}
+use Rattle.step_table.specs.AliasChains.LookingUp.{ends, LookUp}
 use Rattle.step_table.specs.Replies.{last_of, before_last, ends_at, unless_many, looked_by}
 use Rattle.step_table.specs.Clients.{fate_of}
-use Rattle.alias_chains.specs.Offering.{held_at}
+use Rattle.step_table.specs.AliasChains.Offering.{held_at}
 use Rattle.theorem_cache.specs.Kept.{CanBeKept, CanBeWrittenAt}
 use Rattle.theorem_cache.specs.Chains.{look_from, LeadToEnd}
 use Rattle.theorem_sound.specs.Explains.{Comes, Waits}
@@ -42,7 +42,7 @@ take_whole zero xs le = refl
 take_whole (suc k) [] le = absurd (omega (arith, le))
 take_whole (suc k) (x ∷ xs) le = ap suc (take_whole k xs (omega (arith, le)))
 
--- ---- the last piece, and the aliases before it
+-- ---- the last piece, and the aliases before the last
 
 last_is : (p : Piece) (ps aliases : List Piece) (last : Piece) → p ∷ ps ≡ aliases ++ last ∷ [] → (before_last p ps ≡ aliases) × (last_of p ps ≡ last)
 last_is p [] [] last e = (refl, cc)
@@ -55,7 +55,7 @@ last_is p (q ∷ ps) (x ∷ aliases) last e =
     let more = last_is q ps aliases last rest in
     ((λ i. head i ∷ more.0 i), more.1)
 
--- ---- the table's rule for a walk that has a last piece
+-- ---- the table's rule for a walk with a last piece
 
 ends_at_last : (n : ℕ) (held : List Held) (q : Question) (aliases : List Piece) (last : Piece)
     → ends_at n held q (aliases ++ last ∷ []) ≡ record { held = held ++ map (held_at n) aliases; wanted = q; met = ends (held_at n last); used = [] }
@@ -64,14 +64,14 @@ ends_at_last n held q (p ∷ ps) last =
     let is = last_is p (ps ++ last ∷ []) (p ∷ ps) last refl in
     λ i. record { held = held ++ map (held_at n) (is.0 i); wanted = q; met = ends (held_at n (is.1 i)); used = [] }
 
--- ---- each question that waited for it
+-- ---- each question waiting for the reply
 
--- pieces that come now can be written
+-- newly carried pieces can be written
 pub pieces_told : (c : Config) (n : ℕ) (ps : List Piece) → AllByRecursion (CanBeKept c) ps → AllByRecursion (CanBeWrittenAt n) (map (held_at n) ps)
 pieces_told c n [] all = tt
 pieces_told c n (p ∷ ps) all = (record { formed = all.0.formed; writable = all.0.writable; earlier = omega arith }, pieces_told c n ps all.1)
 
--- more than eight aliases that lead on are too many
+-- more than eight aliases in a chain are too many
 pub owns_too_many : (c : Config) (n : ℕ) (now : List Step) (y : Waiting) (i : ℕ) (comes : Comes now y.client y.asked i) (held : List Held) (last : Question)
     → FollowsAliases (look_from c comes.asked comes.before now) comes.question held last → nat_le (length held) 8 ≡ false → OwnsReply c now i (gives_up ChainLong y)
 owns_too_many c n now y i comes held last follows f =
@@ -99,8 +99,7 @@ module _ (c : Config) (past : List Step) (step : Step) (n : ℕ) (os : List Held
     abbrev look : Look
     look = look_from c was.comes.asked was.comes.before now
 
-    -- the aliases of the walk lead on from the question that is wanted, to the one that the walk
-    -- ends at
+    -- the walk's aliases lead from the wanted question to the question at the walk's end
     led : LeadToEnd look n y.wanted w.pieces
     led = subst (λ (t : ℕ). LeadToEnd look t y.wanted w.pieces) (sym is_now)
         (accepted_pieces_answer c was.comes.asked step was.comes.before past os m a.question y.wanted a.route was.comes.in_era runs carried carries shapes on fine ((same_question_decides y.wanted a.question).0 same))
@@ -146,6 +145,6 @@ module _ (c : Config) (past : List Step) (step : Step) (n : ℕ) (os : List Held
         (λ t. answer_owned c n now y i comes is_now (y.held ++ more) end (chain (leb-true (length (y.held ++ more)) 8 t)) can_write)
         (λ f. owns_too_many c n now y i comes (y.held ++ more) led.to follows f)
 
-    -- it gets its answer, or fails by its aliases
+    -- the question gets its answer, or fails by its aliases
     pub fate_accepted : (entries : List Held) → IsFated (looked_by c n entries w y w.end)
     fate_accepted entries = subst IsFated (sym (looked_at_end c n entries w y w.end fine ∙ ap unless_many looked_is)) fated_by

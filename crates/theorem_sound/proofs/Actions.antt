@@ -24,7 +24,7 @@ use Rattle.theorem_sound.proofs.Fates.{Distinct, fates_in, owner_in, owners_by, 
 
 -- ---- actions
 
--- the action is a reply, and right for the question with this number
+-- the action is a reply, right for question i
 abbrev pub OwnsReply : Config → List Step → ℕ → Action → Type 0
 OwnsReply c now i (send_reply client octets why) = (owners : List ℕ) → Owns c now owners i (record { client = client; octets = octets; why = why })
 OwnsReply c now i (ask_udp port server octets) = ⊥
@@ -35,7 +35,7 @@ OwnsReply c now i (close_tcp conn) = ⊥
 abbrev pub AreFated : Config → List Step → List (Fate × ℕ) → Type 0
 AreFated c now gs = AllByRecursion (λ g. Fated (OwnsReply c now) (Waits c now) g.0 g.1) gs
 
--- a function of actions that passes over replies
+-- the function ignores replies
 abbrev pub Passes : {Y : Type 0} → (List Action → Y) → Type 0
 Passes f = (client : Client) (octets : List ℕ) (why : Why) (more : List Action) → f (send_reply client octets why ∷ more) ≡ f more
 
@@ -56,7 +56,7 @@ past_one f over (gets (close_udp port)) h rs rest e = absurd h
 past_one f over (gets (close_tcp conn)) h rs rest e = absurd h
 past_one f over (waits y) h rs rest e = e
 
--- it passes over the replies of a step
+-- the function ignores the replies of a step
 pub past_replies : {Y : Type 0} (f : List Action → Y) → Passes f → (fates : List Fate) → AllByRecursion Speaks fates → (rest : List Action) → f (replies fates ++ rest) ≡ f rest
 past_replies f over [] h rest = refl
 past_replies f over (v ∷ fates) h rest = past_one f over v h.0 (replies fates) rest (past_replies f over fates h.1 rest)
@@ -82,7 +82,7 @@ still_free : (n : ℕ) (owners is : List ℕ) → AllByRecursion (λ j. (j == n)
 still_free n owners [] a b = tt
 still_free n owners (i ∷ is) a b = (ap (λ v. v || among i owners) (ne_eqb n i (λ e. false≢true (sym a.0 ∙ eq-eqb i n (sym e)))) ∙ b.0, still_free n owners is a.1 b.1)
 
--- each question that gets its reply owns it, and no other; the asks after the replies own nothing
+-- each question getting a reply owns this reply alone; the asks after the replies own nothing
 pub owned_replies : (c : Config) (now : List Step) (rest : List Action) → ((owners : List ℕ) → EachOwned c now rest owners []) → (gs : List (Fate × ℕ)) → AreFated c now gs
     → (owners : List ℕ) → Distinct (owners_by gs) → Free owners (owners_by gs) → EachOwned c now (replies (fates_in gs) ++ rest) owners (owners_by gs)
 owned_replies c now rest quiet [] h owners d free = quiet owners
@@ -123,7 +123,7 @@ shown_left p (a ∷ listed) = elim (not (same_path a.path p)) as (λ v. cond v (
   | false ↦ shown_left p listed
 ]
 
--- the shown asks without the one that is closed
+-- the shown asks without the closed ask
 abbrev pub shown_without : Option Ask → List ShownAsk → List ShownAsk
 shown_without None ls = ls
 shown_without (Some a) ls = unlisted a.path ls
@@ -191,7 +191,7 @@ asks_answer_none (Some a) octets f = by a.path f
     by (Tcp conn) (inl k) = k
     by (Tcp conn) (inr k) = k
 
--- the path that is given up
+-- whether p is the path given up
 abbrev pub is_given_up : Path → Option Ask → Bool
 is_given_up p None = false
 is_given_up p (Some a) = same_path p a.path
@@ -208,7 +208,7 @@ closing_closes p (Some a) more none = by a.path ∙ ap (λ b. same_path p a.path
     or_false true = refl
     or_false false = refl
 
--- the listed asks after a step that settles, and the paths that it closes
+-- the listed asks after a settling step, and the step's closed paths
 pub listed_settled : (t : ℕ) (close : Option Ask) (fates : List Fate) (next : Option Ask) (listed : List Ask) → AllByRecursion Speaks fates → AskedAt t next
     → asks_after t (closing close ++ (replies fates ++ map asks (ask_list next))) (map shown listed) ≡ map shown (without_ask close listed ++ ask_list next)
 listed_settled t close fates next listed speak asked_at =
@@ -232,7 +232,7 @@ right_closing c now past (Some a) more h = by a.path
     by (Udp port) = (tt, h)
     by (Tcp conn) = (tt, h)
 
--- the next ask is right, as its action shows it
+-- the next ask is right as shown by its action
 abbrev pub IsRightNext : Config → Step → List Step → Option Ask → Type 0
 IsRightNext c now past None = Unit {0}
 IsRightNext c now past (Some a) = AsksRight c now past (record { path = a.path; server = a.peer; octets = written (ask_message a.id a.question) })

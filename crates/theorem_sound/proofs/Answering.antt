@@ -1,4 +1,4 @@
--- The reply that a client gets is right for its question.
+-- The reply to a client is right for the client's question.
 use Rattle.std.proofs.Common.{◌≡◌, ℕ, ◌+◌, ◌<◌, ◌≤◌, List, [], ◌∷◌, ◌++◌, length, Bool, true, false, cond, refl, sym, ap, ◌∙◌, subst, inl, inr, arith, Option, Some, None}
 use Rattle.std.specs.Prelude.{nat_le, not, ◌&&◌, Result, Ok, Err}
 use Rattle.std.specs.List.{AllByRecursion}
@@ -20,7 +20,7 @@ use Rattle.step_values.specs.declared.action.Why.{Why}
 use Rattle.step_values.specs.declared.action.Why.TheVariants.{Answered, NoRoute, ChainLong, TooLarge, Stale, LocalDenied}
 use Rattle.step_values.specs.Values.{Action, send_reply, Step}
 use Rattle.suffix_routes.specs.Serving.{serving_route_of, is_local}
-use Rattle.cache_laws.proofs.CallerLemmas.{denies_names_exactly, none_serves_exactly}
+use Rattle.step_history.proofs.CacheLaws.CallerLemmas.{denies_names_exactly, none_serves_exactly}
 use Rattle.step_history.specs.History.{is_restart, is_taken_request, listed, moment_at, Look, Reads}
 use Rattle.step_history.specs.Answers.{FollowsAliases, Leads, Chain}
 use Rattle.step_history.specs.Stale.{StaleChain}
@@ -30,7 +30,7 @@ use Rattle.step_history.specs.Causes.{AllTriesFailed, Cause, TriesFailed, NoneAs
 use Rattle.step_history.specs.Sound.{unanswered, RightReply}
 use Rattle.waiting_questions.specs.Values.{Waiting}
 use Rattle.step_table.specs.Steps.{transport_of, gives_up, sends, answered, answered_stale, denied_locally}
-use Rattle.alias_chains.specs.LookingUp.{LookUpEnd, ends, too_long, missed, LookUp}
+use Rattle.step_table.specs.AliasChains.LookingUp.{LookUpEnd, ends, too_long, missed, LookUp}
 use Rattle.step_table.specs.Clients.{without_server, fate_missed, fate_at}
 use Rattle.theorem_cache.specs.Kept.{CanBeWrittenAt, CanBeRepeated, SpellsSections, SpellsAnswer}
 use Rattle.theorem_cache.specs.Chains.{look_from, EndsRight, IsSized, IsRightStale}
@@ -60,7 +60,7 @@ comes_later s past client a i run k = record {
   served = k.served;
 }
 
--- it has its header whole
+-- the message has a whole header
 long_enough : (now : List Step) (client : Client) (a : Asked) (i : ℕ) (k : Comes now client a i) → 12 ≤ length k.request
 long_enough now client a i k =
     let taken : (nat_le 12 (length k.request) && nat_le (length k.request) 65535 && not (header_in k.request).qr) ≡ true = ap is_taken_request (sym k.sent) ∙ k.taken in
@@ -94,7 +94,7 @@ owns c now client a i k why octets right = λ owners. record {
 pub failure_told : (now : List Step) (client : Client) (a : Asked) (i : ℕ) (k : Comes now client a i) (why : Why) → (q : Question) × Reads k.request q × (failure_text a why ≡ failure_text (asked_in (header_in k.request) (Some q)) why)
 failure_told now client a i k why = (k.question, k.reads, ap (λ (x : Asked). failure_text x why) k.asked_is)
 
--- an answer with these sections is sent for this reason, or is too large to be
+-- an answer with these sections is sent for this reason, or is too large to send
 sized_owned : (c : Config) (now : List Step) (x : Waiting) (i : ℕ) (k : Comes now x.client x.asked i) (why : Why) (s : Sections)
     → ((cl : Client) → x.client ≡ cl → FitsTransport cl (sized_for cl (full_text x.asked s) (short_text x.asked s))
     → (waiting : ℕ) → RightReply (look_from c k.asked k.before now) x.client k.request waiting why (sized_for cl (full_text x.asked s) (short_text x.asked s)))
@@ -162,7 +162,7 @@ answer_owned c n now x i k is aliases end chain can_write = sized_owned c now x 
       large = subst (λ (o : List ℕ). 65535 < length o) (λ j. answer_text (k.asked_is j) aliases end (is j)) many;
     })
 
--- once all tries failed, the expired data that was found is sent, or is too large to be
+-- after all tries failed, the found expired data is sent, or is too large to send
 pub stale_owned : (c : Config) (n : ℕ) (now : List Step) (x : Waiting) (i : ℕ) (k : Comes now x.client x.asked i) → n ≡ moment_at now
     → Leads (look_from c k.asked k.before now) k.question x.held x.wanted → TriesFailed c x.wanted now c.limits.tries → NoneAsks x.wanted (listed now)
     → 1 ≤ c.limits.stale_s → AllByRecursion (CanBeWrittenAt n) x.held
@@ -235,7 +235,7 @@ stale_owned c n now x i k is leads failed none window can_write most found room 
       large = subst (λ (o : List ℕ). 65535 < length o) (λ j. full_text (k.asked_is j) (stale_sections (is j) x.held past end)) many;
     }))
 
--- aliases that lead to a denied name are sent, or are too large to be
+-- aliases to a denied name are sent, or are too large to send
 local_owned : (c : Config) (n : ℕ) (now : List Step) (x : Waiting) (i : ℕ) (k : Comes now x.client x.asked i) → n ≡ moment_at now → (aliases : List Held)
     → ChainToLocal (look_from c k.asked k.before now) k.question aliases → AllByRecursion (CanBeWrittenAt n) aliases → OwnsReply c now i (denied_locally n x aliases)
 local_owned c n now x i k is aliases chain can_write = sized_owned c now x i k LocalDenied (denied_sections n aliases) right large
@@ -282,7 +282,8 @@ local_owned c n now x i k is aliases chain can_write = sized_owned c now x i k L
       large = subst (λ (o : List ℕ). 65535 < length o) (λ j. full_text (k.asked_is j) (denied_sections (is j) aliases)) many;
     }))
 
--- a name that no route serves, after aliases or not, is denied by the configuration or has no route
+-- a name without a serving route, after aliases or not, is denied by the configuration or has no
+-- route
 pub without_server_owned : (c : Config) (n : ℕ) (now : List Step) (x : Waiting) (i : ℕ) (k : Comes now x.client x.asked i) → n ≡ moment_at now → (aliases : List Held) (last : Question)
     → Leads (look_from c k.asked k.before now) k.question aliases last → serving_route_of c last.name ≡ None → (aliases ≡ [] → now ≡ k.asked ∷ k.before) → AllByRecursion (CanBeWrittenAt n) aliases
     → OwnsReply c now i (without_server c n x aliases last.name)
@@ -315,12 +316,12 @@ without_server_fails c n x aliases name client octets why =
     (λ _. sends_other LocalDenied x (local_answer_of x.asked aliases n (transport_of x.client)) client octets why (λ e. cc))
     (λ _ e success. let same : NoRoute ≡ why = cc in let bad : NoRoute ≡ Answered = same ∙ success in absurd (cc))
 
--- the octets that are sent for a chain
+-- the octets sent for a chain
 pub record IsTold (n : ℕ) (client : Client) (a : Asked) (aliases : List Held) (end : Held) (octets : List ℕ) : Type 0 where
   pub text : octets ≡ sized_for client (answer_text a aliases end n) (cut_text a aliases end n)
   pub spells : SpellsAnswer octets a (aliases ++ end ∷ []) n
 
--- a successful reply has the octets of its chain
+-- a successful reply has its chain's octets
 pub answered_told : (n : ℕ) (now : List Step) (x : Waiting) (i : ℕ) (k : Comes now x.client x.asked i) (aliases : List Held) (end : Held) → AllByRecursion (CanBeWrittenAt n) (aliases ++ end ∷ [])
     → (client : Client) (octets : List ℕ) (why : Why) → answered n x aliases end ≡ send_reply client octets why → why ≡ Answered → IsTold n x.client x.asked aliases end octets
 answered_told n now x i k aliases end can_write client octets why is success = by x.client is
@@ -348,8 +349,7 @@ answered_told n now x i k aliases end can_write client octets why is success = b
         over true fits e = sent (Tcp conn) (of_reply full Answered e).0 (leb-true (length full) 65535 fits)
         over false large e = let bad : TooLarge ≡ Answered = (of_reply (failure_text x.asked TooLarge) TooLarge e).1 ∙ success in absurd (cc)
 
--- a question is answered rightly after its look-up, or goes on waiting with aliases that it may
--- hold
+-- after its look-up a question gets a right reply, or waits on with justified aliases
 pub fate_is_right : (c : Config) (n : ℕ) (now : List Step) (x : Waiting) (i : ℕ) (l : LookUp) (m : LookUpEnd) (k : Comes now x.client x.asked i) → n ≡ moment_at now → x.taken ≡ moment_at (k.asked ∷ k.before)
     → AllByRecursion (CanBeWrittenAt n) l.held → FollowsAliases (look_from c k.asked k.before now) k.question l.held l.wanted → EndsRight (look_from c k.asked k.before now) n l.wanted m → IsSized m (length l.held)
     → (l.held ≡ [] → now ≡ k.asked ∷ k.before)

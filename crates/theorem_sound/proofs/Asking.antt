@@ -1,4 +1,4 @@
--- The listed asks after one more step.
+-- The listed asks after a further step.
 use Rattle.std.proofs.Common.{◌≡◌, ℕ, suc, zero, List, [], ◌∷◌, length, true, false, sym, ap, ◌∙◌, subst, inr, arith, Some}
 use Rattle.std.specs.Prelude.{map}
 use Rattle.std.specs.List.{AllByRecursion}
@@ -49,7 +49,7 @@ asked_more c s past asks before shown_is are tried right =
 
 -- ---- tries
 
--- a step that closes no ask of a question and sends none leaves its tries
+-- a step neither closing nor sending an ask of a question leaves the question's tries
 pub tried_on : (c : Config) (s : Step) (past : List Step) (a : Ask) → is_restart s ≡ false → LeavesAsks a.question s past → Tried c past a → Tried c (s ∷ past) a
 tried_on c s past a run left h = record {
   question = h.question;
@@ -66,7 +66,7 @@ tried_on c s past a run left h = record {
     by zero f = (run, inr (left, f))
     by (suc k) f = (run, inr (left, f))
 
--- the actions ask the question of none of these
+-- the actions send no ask for the questions of these asks
 abbrev pub AsksNone : List Action → List Ask → Type 0
 AsksNone actions asks = AllByRecursion (λ a. SendsAsk a.question actions → ⊥) asks
 
@@ -75,11 +75,11 @@ pub all_tried_on : (c : Config) (s : Step) (past : List Step) (asks : List Ask) 
 all_tried_on c s past [] run none silent all = tt
 all_tried_on c s past (a ∷ asks) run none silent all = (tried_on c s past a run (none a.question, silent.0) all.0, all_tried_on c s past asks run none silent.1 all.1)
 
--- actions that close no path close no ask
+-- actions closing no path close no ask
 pub closes_none : (s : Step) (past : List Step) → ((p : Path) → closes_path p s.outcome.actions ≡ false) → (q : Question) → ClosesAsk q s past → ⊥
 closes_none s past none q k = false≢true (sym (none k.ask.path) ∙ k.closed)
 
--- a step that closes one path closes the ask on it alone
+-- a step closing a single path closes the ask on this path alone
 pub closes_one : (c : Config) (s : Step) (past : List Step) (a : Ask) → ((p : Path) → closes_path p s.outcome.actions ≡ true → p ≡ a.path) → on_path a.path (listed past) ≡ Some (shown a)
     → Reads (written (ask_message a.id a.question)) a.question → (q : Question) → ClosesAsk q s past → same_question a.question q ≡ true
 closes_one c s past a only on reads q k =
@@ -89,14 +89,14 @@ closes_one c s past a only on reads q k =
     let asked_is : k.asked ≡ a.question = cc in
     ap (λ (x : Question). same_question x q) (sym asked_is) ∙ k.same
 
--- so it leaves the tries of all others
+-- so the step leaves the tries of the other asks
 pub others_tried_on : (c : Config) (s : Step) (past : List Step) (a : Ask) (asks : List Ask) → is_restart s ≡ false → ((q : Question) → ClosesAsk q s past → same_question q a.question ≡ true)
     → AllByRecursion (λ b. same_question b.question a.question ≡ false) asks → AsksNone s.outcome.actions asks → AllByRecursion (Tried c past) asks → AllByRecursion (Tried c (s ∷ past)) asks
 others_tried_on c s past a [] run only other silent all = tt
 others_tried_on c s past a (b ∷ asks) run only other silent all =
     (tried_on c s past b run ((λ k. false≢true (sym other.0 ∙ only b.question k)), silent.0) all.0, others_tried_on c s past a asks run only other.1 silent.1 all.1)
 
--- none of the shown asks is of a question that no listed ask has
+-- if no listed ask has a question, no shown ask is for the question
 pub none_asks : (c : Config) (now : List Step) (q : Question) (asks : List Ask) → AllByRecursion (Tried c now) asks → AllByRecursion (λ b. same_question b.question q ≡ false) asks → NoneAsks q (map shown asks)
 none_asks c now q [] tried other = tt
 none_asks c now q (b ∷ asks) tried other = (

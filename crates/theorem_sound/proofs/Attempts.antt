@@ -1,11 +1,11 @@
--- Facts about the ask that comes next.
+-- Facts about the next ask.
 use Rattle.std.proofs.Common.{◌≡◌, ℕ, refl, Option, Some, None}
 use Rattle.std.specs.Prelude.{slice_get}
 use Rattle.dns_message.specs.Values.{Question}
 use Rattle.suffix_routes.specs.declared.peer.Peer.{Peer}
 use Rattle.suffix_routes.specs.Values.{Config, Route}
 use Rattle.suffix_routes.specs.Serving.{serving_route_of}
-use Rattle.cache_laws.proofs.CallerLemmas.{serves_exactly}
+use Rattle.step_history.proofs.CacheLaws.CallerLemmas.{serves_exactly}
 use Rattle.step_history.specs.Asked.{IsServerFor}
 use Rattle.step_table.specs.Attempts.{group_of, servers_in, peer_at}
 

@@ -37,12 +37,12 @@ use Rattle.theorem_sound.proofs.Tries.{sends_next, reply_sends_none, asks_none, 
 use Rattle.theorem_sound.proofs.Numbers.{unanswered-more, are_free, numbers_left, numbers_at_once, numbers_waiting}
 use Rattle.theorem_sound.proofs.Actions.{OwnsReply, AreFated, past_replies, fated_speak, owned_replies, owned_closing, owned_asks, AskedAt, next_listed, closing_tcp, next_tcp, asks_close_none, listed_settled, right_closing, IsRightNext, right_next, right_replies}
 
--- ---- a step that is no restart
+-- ---- a step other than a restart
 
 up : (n : ℕ) (is : List ℕ) → AllByRecursion (λ i. i < n) is → AllByRecursion (λ i. i < suc n) is
 up n is h = All-weaker (λ i. i < n) (λ i. i < suc n) (λ i l. omega (arith, l)) is h
 
--- those that wait still wait, a step later
+-- a waiting question still waits a step later
 pub waits_later : (c : Config) (s : Step) (past : List Step) (x : Waiting) (i : ℕ) → GoesOn c s past → Waits c past x i → Waits c (s ∷ past) x i
 waits_later c s past x i on h = record {
   comes = comes_later s past x.client x.asked i on.0 h.comes;
@@ -67,7 +67,7 @@ step_of h actions unkept more = record { input = h; outcome = record { actions =
 
 -- ---- the cases
 
--- all facts about a step, the owners of its replies and the state after it
+-- all facts about a step, the owners of its replies and the state after the step
 pub record Parts (c : Config) (past : List Step) (w : List (List ℕ)) (s : Step) (is : List ℕ) (after : State) : Type 0 where
   pub runs : is_restart s ≡ false
   pub owned : EachOwned c (s ∷ past) s.outcome.actions (concat w) is
@@ -117,7 +117,7 @@ explained c past w before after s is x p = record {
     asks_now = p.asks ∙ sym (cond-false (is_restart s) _ _ p.runs)
 
 module _ (c : Config) (past : List Step) (w : List (List ℕ)) (s : State) (x : Explains c past w s) (h : StepInput) (unkept : ℕ) (more : Bool) (n : ℕ) where
-  -- the moment of a step that is no restart
+  -- the step is no restart, and n is its moment
   abbrev pub IsNow : List Action → Type 0
   IsNow actions = (is_restart (step_of h actions unkept more) ≡ false) × (n ≡ moment_at (step_of h actions unkept more ∷ past))
 
@@ -252,7 +252,7 @@ module _ (c : Config) (past : List Step) (w : List (List ℕ)) (s : State) (x : 
   not_yet [] b = refl
   not_yet (i ∷ is) b = ap (λ v. v || among (length past) is) (ne_eqb i (length past) (λ e. let lt : i < length past = b.0 in omega (arith, lt, e))) ∙ not_yet is b.1
 
-  -- a question that gets its reply at once
+  -- a question with a reply at once
   pub at_once_explained : (client : Client) (octets : List ℕ) (why : Why) (cache : Cache) (after : State) → after ≡ record s { cache = cache; moment = n } → IsNow (send_reply client octets why ∷ []) → takes_question h.event ≡ true
       → NothingAccepted c (step_of h (send_reply client octets why ∷ []) unkept more) past
       → Owns c (step_of h (send_reply client octets why ∷ []) unkept more ∷ past) (concat w) (length past) (record { client = client; octets = octets; why = why })
@@ -286,7 +286,7 @@ module _ (c : Config) (past : List Step) (w : List (List ℕ)) (s : State) (x : 
       step : Step
       step = step_of h (send_reply client octets why ∷ []) unkept more
 
-  -- a question that waits, with the first ask of its inquiry or for one that is listed
+  -- a question waiting for its inquiry's first ask or for a listed ask
   pub taken_explained : (y : Waiting) (next : Option Ask) (cache : Cache) (after : State)
       → after ≡ record s { cache = cache; asks = s.asks ++ ask_list next; waiting = s.waiting ++ y ∷ []; moment = n; tcp_asks = s.tcp_asks + tcp_count next }
       → IsNow (map asks (ask_list next)) → takes_question h.event ≡ true → NothingAccepted c (step_of h (map asks (ask_list next)) unkept more) past

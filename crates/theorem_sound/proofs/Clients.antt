@@ -33,7 +33,7 @@ use Rattle.step_table.specs.State.{State, start}
 use Rattle.waiting_questions.specs.Values.{Waiting}
 use Rattle.step_table.specs.Attempts.{peer_at, over_udp, preferred_on, first_ask, first_ask_on}
 use Rattle.step_table.specs.Steps.{Done, reply_step, gives_up, answered, asks, tcp_count}
-use Rattle.alias_chains.specs.LookingUp.{LookUpEnd, ends, too_long, missed, LookUp, promoted_all}
+use Rattle.step_table.specs.AliasChains.LookingUp.{LookUpEnd, ends, too_long, missed, LookUp, promoted_all}
 use Rattle.step_table.specs.Row.{is_due_at}
 use Rattle.step_table.specs.Clients.{waits_with, taken_now, without_server, fate_missed, fate_at, row_of_opening, row_of_inquiry, row_of_waiting, row_of_fate, row_of_route, row_of_question, row_of_request}
 use Rattle.record_cache.specs.Values.{Held, Cache}
@@ -75,11 +75,11 @@ module _ (c : Config) (past : List Step) (w : List (List ℕ)) (s : State) (x : 
   no_delivery : (actions : List Action) → NothingAccepted c (step actions) past
   no_delivery actions ps k = absurd (let never = k.accepts.matches.delivered in cc)
 
-  -- the cache stays explained, where nothing is answered from it
+  -- the cache stays explained, if an answer from cache is still found
   cached : (actions : List Action) (cache : Cache) → IsCached c past s.moment cache → ((q : Question) (octets : List ℕ) → FromCache (step actions) q octets → IsStillFound c n cache.entries q octets) → IsCached c (step actions ∷ past) n cache
   cached actions cache was from = quiet_steps_keep c past s.moment n cache (step actions) was x.moment (refl, no_delivery actions) moment from
 
-  -- a failure, with the cache as it is or as a look-up left it
+  -- a failure, with the cache unchanged or after a look-up
   refused : (cache : Cache) → IsCached c past s.moment cache → (text : List ℕ) (why : Why) → is_taken request ≡ true → (why ≡ Answered → ⊥)
       → RightReply (look_from c (step (send_reply client text why ∷ [])) past (step (send_reply client text why ∷ []) ∷ past)) client request (length (unanswered past (concat w))) why text
       → P (reply_step n (send_reply client text why) (record s { cache = cache }))
@@ -94,7 +94,7 @@ module _ (c : Config) (past : List Step) (w : List (List ℕ)) (s : State) (x : 
       never octets (inl f) = failure f.0
       never octets (inr f) = f
 
-  -- a reply that is no success, with the cache as it is or as a look-up left it
+  -- a reply without success, with the cache unchanged or after a look-up
   told_at_once : (cache : Cache) → IsCached c past s.moment cache → is_taken request ≡ true → (reply : Action)
       → ((a : Action) → reply ≡ a → OwnsReply c (step (a ∷ []) ∷ past) (length past) a)
       → ((cl : Client) (octets : List ℕ) (why : Why) → reply ≡ send_reply cl octets why → why ≡ Answered → ⊥)
@@ -126,7 +126,7 @@ module _ (c : Config) (past : List Step) (w : List (List ℕ)) (s : State) (x : 
     abbrev y : Waiting
     y = taken_now n client (header_in request) q
 
-    -- the message, as it comes
+    -- the message of the step, as received
     abbrev comes : (actions : List Action) → Comes (step actions ∷ past) client y.asked (length past)
     comes actions = record {
       asked = step actions;
@@ -144,19 +144,19 @@ module _ (c : Config) (past : List Step) (w : List (List ℕ)) (s : State) (x : 
       served = served;
     }
 
-    -- the question that a failure repeats
+    -- the question repeated by a failure
     can_write : (why : Why) → (z : Question) × Reads request z × (failure_text y.asked why ≡ failure_text (asked_in (header_in request) (Some z)) why)
     can_write why = (q, reads, refl)
 
     all_below_one : AllByRecursion (λ a. IsBelow (s.tcp_asks + 0) a.path) s.asks
     all_below_one = all_below s.tcp_asks 0 s.asks x.connections
 
-    -- ---- its look-up
+    -- ---- the question's look-up
 
     abbrev l : LookUp
     l = looked c n s.cache.entries q
 
-    -- the cache with the entries that the look-up used promoted
+    -- the cache with the entries used by the look-up promoted
     abbrev used : Cache
     used = record { capacity = s.cache.capacity; entries = promoted_all l.used s.cache.entries }
 
@@ -166,9 +166,9 @@ module _ (c : Config) (past : List Step) (w : List (List ℕ)) (s : State) (x : 
     right : (actions : List Action) → IsRight (look_from c (step actions) past (step actions ∷ past)) n q l
     right actions = look_ups_are_right c past s.moment n s.cache (step actions) q x.cache x.moment (refl, no_delivery actions) moment
 
-    -- a question for which the cache has no more than aliases
+    -- a question for which the cache has aliases at most
     module _ (met : l.met ≡ missed) (route : ℕ) (on : serving_route_of c l.wanted.name ≡ Some route) where
-      -- as it waits
+      -- the question as waiting
       abbrev z : Waiting
       z = waits_with y l
 
@@ -218,7 +218,7 @@ module _ (c : Config) (past : List Step) (w : List (List ℕ)) (s : State) (x : 
           after : State
           after = record s { cache = used; asks = s.asks ++ a ∷ []; waiting = s.waiting ++ z ∷ []; moment = n; tcp_asks = s.tcp_asks + tcp_count (Some a) }
 
-          -- no ask of it was listed
+          -- no ask for the wanted question was listed
           none_before : NoneAsks l.wanted (listed past)
           none_before = subst (NoneAsks l.wanted) x.asks (none_asks c past l.wanted s.asks x.tried (none_same l.wanted s.asks new))
 
@@ -284,7 +284,7 @@ module _ (c : Config) (past : List Step) (w : List (List ℕ)) (s : State) (x : 
           (λ t. refused used used_is _ QuestionsFull takes (λ e. cc) (can_write QuestionsFull, (refl, sym waiting_number ∙ is_full c.limits.questions (length s.waiting) t x.few)))
           (λ f. inquired (has_room c.limits.questions (length s.waiting) f) (of_question l.wanted s.asks) refl)
 
-    -- a question that the cache answers
+    -- a question answered by the cache
     module _ (end : Held) (met : l.met ≡ ends end) where
       right_end : (actions : List Action) → IsRightEnd (look_from c (step actions) past (step actions ∷ past)) n l.wanted end
       right_end actions = subst (EndsRight (look_from c (step actions) past (step actions ∷ past)) n l.wanted) met (right actions).right_end
@@ -303,7 +303,7 @@ module _ (c : Config) (past : List Step) (w : List (List ℕ)) (s : State) (x : 
       owned : (a : Action) → answered n y l.held end ≡ a → OwnsReply c (step (a ∷ []) ∷ past) (length past) a
       owned a is = subst (OwnsReply c (step (a ∷ []) ∷ past) (length past)) is (answer_owned c n (step (a ∷ []) ∷ past) y (length past) (comes (a ∷ [])) moment l.held end (chain (a ∷ [])) (can_be_written_at (a ∷ [])))
 
-      -- it is found now
+      -- an answer from cache is found now
       found_now : (cl : Client) (octets : List ℕ) (why : Why) → answered n y l.held end ≡ send_reply cl octets why → (z : Question) (text : List ℕ) → FromCache (step (send_reply cl octets why ∷ [])) z text → IsStillFound c n s.cache.entries z text
       found_now cl octets why is z text (asks_z, inr never) = absurd never
       found_now cl octets why is z text (asks_z, inl answer) =
@@ -340,14 +340,14 @@ module _ (c : Config) (past : List Step) (w : List (List ℕ)) (s : State) (x : 
       hit : P (reply_step n (answered n y l.held end) (record s { cache = used }))
       hit = hit_by (answered n y l.held end) refl
 
-    -- a name that no route serves is denied, or has no route
+    -- a name without a serving route is denied, or has no route
     unserved : (actions : List Action) (aliases : List Held) (last : Question) (a : Action) → Leads (look_from c (step actions) past (step actions ∷ past)) q aliases last → serving_route_of c last.name ≡ None
         → AllByRecursion (CanBeWrittenAt n) aliases → without_server c n y aliases last.name ≡ a → OwnsReply c (step actions ∷ past) (length past) a
     unserved actions aliases last a leads none told_so is =
         subst (OwnsReply c (step actions ∷ past) (length past)) is
         (without_server_owned c n (step actions ∷ past) y (length past) (comes actions) moment aliases last leads none (λ e. refl) told_so)
 
-    -- the question that its look-up missed is asked, where its name has a route
+    -- the question missed by the look-up is asked, if the name has a route
     missed_row : l.met ≡ missed → (r : Option ℕ) → serving_route_of c l.wanted.name ≡ r → P (row_of_fate (start c n words (record s { cache = used })) (fate_missed c n y l r))
     missed_row met None none = told_at_once used used_is takes (without_server c n y l.held l.wanted.name)
         (λ a is. unserved (a ∷ []) l.held l.wanted a (record { few = subst (λ (m : LookUpEnd). IsSized m (length l.held)) met (right (a ∷ [])).sized; follows = (right (a ∷ [])).follows }) none (right (a ∷ [])).can_write is)

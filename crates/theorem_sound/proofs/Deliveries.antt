@@ -37,13 +37,13 @@ use Rattle.step_history.specs.Draws.{drawn}
 use Rattle.step_history.specs.Asked.{IsDrawn}
 use Rattle.step_history.specs.Replies.{failure_text}
 use Rattle.step_history.proofs.CallerLemmas.{moment_small, accepted_fine, accepted_pieces, walk_accepted, walk_accepted-asked, walk_accepted-end}
-use Rattle.cache_laws.proofs.CallerLemmas.{serves_exactly}
+use Rattle.step_history.proofs.CacheLaws.CallerLemmas.{serves_exactly}
 use Rattle.step_table.specs.State.{State, start}
 use Rattle.waiting_questions.specs.Values.{Waiting, waits_for}
 use Rattle.step_table.specs.Steps.{Done, Fate, gets, waits, still_waiting, with_preferred_server, with_promoted, ask_list, tcp_count, closing_step, offering_step}
 use Rattle.step_table.specs.Attempts.{servers_in, peer_at, over_udp, preferred_on, first_ask, first_ask_on}
-use Rattle.alias_chains.specs.LookingUp.{promoted_all}
-use Rattle.alias_chains.specs.Offering.{put_all, unkept_of}
+use Rattle.step_table.specs.AliasChains.LookingUp.{promoted_all}
+use Rattle.step_table.specs.AliasChains.Offering.{put_all, unkept_of}
 use Rattle.step_table.specs.Replies.{looked_by, fate_by, used_by, to_be_asked, without_port, unless_no_port, timeout_of, row_of_next_name, row_of_redirected, row_of_end, row_of_acceptance, row_of_walk, row_of_message, row_of_verdict, row_of_delivery}
 use Rattle.step_table.specs.Clients.{fate_of}
 use Rattle.theorem_sound.specs.Explains.{shown, Waits, Tried, Explains}
@@ -131,7 +131,7 @@ module _ (c : Config) (past : List Step) (w : List (List ℕ)) (s : State) (x : 
       tried : Tried c past a
       tried = (ask_on-is (Tried c past) path s.asks a at.1 x.tried).1
 
-      -- the ask's text reads as one question
+      -- the ask's text is read as its question
       question_is : accepts.asked ≡ a.question
       question_is =
           let two : Some accepts.asked ≡ Some a.question = sym of_ask.ask_reads ∙ ap (λ (q : ShownAsk). one_question q.octets) (sym at.2) ∙ tried.reads in
@@ -170,7 +170,7 @@ module _ (c : Config) (past : List Step) (w : List (List ℕ)) (s : State) (x : 
           (same_peer-is from a.peer (ap (λ (d : Delivered). d.from) delivered_is ∙ ap (λ (q : ShownAsk). q.server) (sym at.2))))
           (ap (asks_this a.question) (ap one_question octets_is ∙ of_ask.reads) ∙ subst (λ (q : Question). same_question of_ask.question q ≡ true) question_is of_ask.same_question_as_ask)
 
-  -- its pieces are those that were carried
+  -- the reply's pieces are the carried pieces
   pub heard_carried : (actions : List Action) (ps : List Piece) (k : Carries c (can_write actions) past ps) → (heard actions ps k).carried ≡ ps
   unfolding heard
   heard_carried actions ps k = refl
@@ -197,7 +197,7 @@ module _ (c : Config) (past : List Step) (w : List (List ℕ)) (s : State) (x : 
     shown_on : on_path a.path (listed past) ≡ Some (shown a)
     shown_on = ap (on_path a.path) (sym x.asks) ∙ on_path-shown a.path s.asks ∙ ap (option_map shown) on_own
 
-    -- a reply that is no stranger's matches the ask
+    -- a reply with a verdict other than `Stranger` matches the ask
     matches_it : nat_lt n (timeout_of c a) ≡ true → matches a from octets ≡ true → (actions : List Action) → Matches c (can_write actions) past (shown a) octets a.question
     matches_it live matched actions =
         let facts = match_facts a from octets matched in
@@ -221,7 +221,8 @@ module _ (c : Config) (past : List Step) (w : List (List ℕ)) (s : State) (x : 
     failed live matched none f = failures.failure_row c past w s x now words unkept more (delivery path from octets) refl refl a on_own (quiet none)
         (λ actions. inl (octets, matches_it live matched actions)) f
 
-    -- an accepted reply: all that wait for it are answered or sent on, and its pieces are offered
+    -- an accepted reply: all questions waiting for the reply are answered or sent on, and the
+    -- reply's pieces are offered
     module _ (m : Message) (live : nat_lt n (timeout_of c a) ≡ true) (whole : judge a from octets ≡ Whole) (read : message_of octets ≡ Ok m) (fine : is_lame (walk_of c m a.question a.route).end ≡ false) where
       abbrev walk : Walk
       walk = walk_of c m a.question a.route
@@ -257,7 +258,7 @@ module _ (c : Config) (past : List Step) (w : List (List ℕ)) (s : State) (x : 
       pub carries : (actions : List Action) → Carries c (can_write actions) past (walk.pieces ++ walk.authority)
       carries actions = record { pieces = walk.pieces; servers = walk.authority; accepts = accepts actions; are = refl }
 
-      -- its question is the ask's, and its end the walk's
+      -- the accepted question is the ask's, and the accepted end the walk's
       pub carries_asked : (actions : List Action) → (carries actions).accepts.asked ≡ a.question
       unfolding carries
       carries_asked actions = accepts_asked actions
@@ -274,7 +275,7 @@ module _ (c : Config) (past : List Step) (w : List (List ℕ)) (s : State) (x : 
       pub offered : AllByRecursion (CanBeKept c) (walk.pieces ++ walk.authority)
       offered = accepted_pieces_can_be_kept c m a.question a.route (spelled_message_is_message octets m are_octets spelled) shapes tried_a.question tried_a.on_route fine
 
-      -- a question that waited for the reply, by the end of its walk
+      -- a question waiting for the reply, by the walk's end
       fate_at_end : (actions : List Action) (y : Waiting) (i : ℕ) → Waits c past y i → waits_for a.question y ≡ true → (e : End) → walk.end ≡ e → is_lame e ≡ false
           → Fated (OwnsReply c (can_write actions ∷ past)) (Waits c (can_write actions ∷ past)) (fate_of c n y (looked_by c n s.cache.entries walk y walk.end)) i
       fate_at_end actions y i was t e is not_lame = by e is not_lame
@@ -289,7 +290,7 @@ module _ (c : Config) (past : List Step) (w : List (List ℕ)) (s : State) (x : 
           by (elsewhere name) is not_lame = fate_led c past (can_write actions) s.moment n s.cache x.cache x.moment a m name refl (moment_now actions) tried_a.on_route shapes is offered (carries actions) y i was t
           by lame is not_lame = absurd (false≢true (sym not_lame))
 
-      -- those that waited for others wait on
+      -- questions waiting for another ask wait on
       on_later : (actions : List Action) (y : Waiting) (i : ℕ) → Waits c past y i → Waits c (can_write actions ∷ past) y i
       on_later actions y i was = waits_later c (can_write actions) past y i (refl, inr (walk.pieces ++ walk.authority, carries actions)) was
 
@@ -305,8 +306,7 @@ module _ (c : Config) (past : List Step) (w : List (List ℕ)) (s : State) (x : 
       preferred : ArePreferred c.routes (slice_set s.preferred a.route a.server)
       preferred = preferred_put c.routes s.preferred a.route a.server x.preferred (λ r there. subst (λ (o : Option Route). a.server < length (servers_in o)) there (peer_within c a.route a.server a.peer tried_a.server))
 
-      -- the cache with the entries that the look-ups used promoted, and then the pieces offered to
-      -- it
+      -- the cache with the entries used by the look-ups promoted, before the pieces are offered
       abbrev promoted : List Slot → Cache
       promoted used = record { capacity = s.cache.capacity; entries = promoted_all used s.cache.entries }
 
@@ -347,11 +347,11 @@ module _ (c : Config) (past : List Step) (w : List (List ℕ)) (s : State) (x : 
         abbrev draw : Option (ℕ × ℕ)
         draw = udp_draw words (without_path a.path s.asks) None
 
-        -- the words give the draw that the history says
+        -- the words give the draw in the history
         drawn_is : (fate' : Waiting → Fate) (next : Option Ask) → AllByRecursion Speaks (map fate' s.waiting) → drawn words (listed past) (done fate' next) ≡ draw
         drawn_is fate' next speak = failures.udp_drawn c past w s x now words unkept more (delivery path from octets) refl refl a on_own (map fate' s.waiting) next speak ∙ sym (draws_left words a.path s.asks)
 
-        -- without a port those that would wait on for it fail
+        -- without a free port the questions sent on fail
         no_port : first_ask (start c n words listed_then) q new.route ≡ None → D (offering_step n rooms (walk.pieces ++ walk.authority) (closing_step n a (unless_no_port fate a.question) None (after used)))
         no_port none = closed used (unless_no_port fate a.question) None each tt tt tt tt tt
           where
@@ -373,7 +373,7 @@ module _ (c : Config) (past : List Step) (w : List (List ℕ)) (s : State) (x : 
                 (λ _. one (fate y) i (fates (done (unless_no_port fate a.question) None) y i was))
                 (λ _. on_later (done (unless_no_port fate a.question) None) y i was)
 
-        -- otherwise one ask goes out for all of them
+        -- otherwise a single ask goes out for all questions sent on
         asked_next : (next : Ask) → first_ask (start c n words listed_then) q new.route ≡ Some next → D (offering_step n rooms (walk.pieces ++ walk.authority) (closing_step n a fate (Some next) (after used)))
         asked_next next is = closed used fate (Some next) (fates (done fate (Some next))) facts.asked
             (record { path = free; question = ap (λ (z : Question). of_question z (without_path a.path s.asks)) facts.question ∙ new.new; later = later; in_time = in_time }, room)
@@ -391,7 +391,7 @@ module _ (c : Config) (past : List Step) (w : List (List ℕ)) (s : State) (x : 
             fresh : IsFresh (without_path a.path s.asks) None next.id drawn_path.0
             fresh = drawn_fresh words (without_path a.path s.asks) None next.id drawn_path.0 drawn_path.2
 
-            -- no ask of it was listed, but for one that got its reply now
+            -- no ask for q was listed, except for the ask answered now
             begun : (v : Bool) → same_question a.question q ≡ v → NoneAsks q (listed past) ⊎ AcceptsFor c q (told_by fate (Some next)) past
             begun true same = inr (record {
               pieces = walk.pieces ++ walk.authority;
@@ -432,7 +432,7 @@ module _ (c : Config) (past : List Step) (w : List (List ℕ)) (s : State) (x : 
         next_name None is = no_port is
         next_name (Some next) is = asked_next next is
 
-      -- those that wait on can be sent on
+      -- the questions waiting on can be sent on
       all_can : (name : List (List ℕ)) → walk.end ≡ elsewhere name → AllByRecursion (CanBeSent c) (still_waiting (map fate (filter (waits_for a.question) s.waiting)))
       all_can name is = subst (λ ys. AllByRecursion (CanBeSent c) (still_waiting (map fate (filter (waits_for a.question) ys)))) x.waiting
           (all_sent c a.question fate (Waits c past) x.numbers_of

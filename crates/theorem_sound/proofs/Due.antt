@@ -19,7 +19,7 @@ era_length upto [] era = absurd era
 era_length upto (s ∷ past) (inl here) = let same : length upto ≡ length (s ∷ past) = ap length here in omega (arith, same)
 era_length upto (s ∷ past) (inr later) = let less = era_length upto past later.1 in omega (arith, less)
 
--- the moment of a step of the era is the moment of its number
+-- the moment of an era's step is the moment of the step's number
 pub moment_of-era : (asked : Step) (before now : List Step) → InEra (asked ∷ before) now → moment_of now (length before) ≡ moment_at (asked ∷ before)
 moment_of-era asked before [] era = absurd era
 moment_of-era asked before (s ∷ past) (inl here) =

@@ -34,7 +34,7 @@ use Rattle.step_table.specs.State.{State, start}
 use Rattle.waiting_questions.specs.Values.{Waiting, waits_for}
 use Rattle.step_table.specs.Attempts.{peer_at, over_udp, over_tcp, freed_by, plan_of, next_ask}
 use Rattle.step_table.specs.Steps.{Done, Fate, gets, waits, gives_up, transport_of, sends, answered_stale, fails, asks, ask_list, tcp_count, closing, replies, closing_step}
-use Rattle.alias_chains.specs.StaleLookUps.{look_up_stale}
+use Rattle.step_table.specs.AliasChains.StaleLookUps.{look_up_stale}
 use Rattle.step_table.specs.Row.{is_due_at}
 use Rattle.step_table.specs.Failures.{with_stale_ttl, found_stale, runs_out, row_of_attempt, row_of_next, row_of_failure}
 use Rattle.theorem_cache.specs.Kept.{CanBeWrittenAt, IsCached}
@@ -73,7 +73,7 @@ runs_out_speak : (c : Config) (n : ℕ) (entries : List Held) (q : Question) (xs
 runs_out_speak c n entries q [] = tt
 runs_out_speak c n entries q (x ∷ xs) = (cond_both (waits_for q x) (gets (with_stale_ttl n x (found_stale c n entries x))) (waits x) Speaks (λ _. past_speaks n x (found_stale c n entries x)) (λ _. tt), runs_out_speak c n entries q xs)
 
--- where expired data was found, there is a window
+-- if expired data was found, the window is not zero
 found_so : (window : ℕ) (b : Bool) (r : Option (List Held)) (found : List Held) → (window == 0) ≡ b → cond b None r ≡ Some found → (1 ≤ window) × (r ≡ Some found)
 found_so window true r found is e = absurd (cc)
 found_so zero false r found is e = absurd (true≢false is)
@@ -151,7 +151,7 @@ module _ (c : Config) (past : List Step) (w : List (List ℕ)) (s : State) (x : 
         (next_asks_none c (step (actions_by fates next) ∷ past) next (without_path a.path s.asks) (actions_by fates next) tried may (λ q k. sends_settled q (Some a) fates next speak k))
         (All-filter (Tried c past) (λ b. Rattle.std.specs.Prelude.not (same_path b.path a.path)) s.asks x.tried)
 
-    -- the port that is given up is closed, and no other
+    -- exactly the port given up is closed
     frees : (fates : List Fate) (next : Option Ask) → AllByRecursion Speaks fates → (port : ℕ) → closes_path (Udp port) (actions_by fates next) ≡ is_freed port (freed_by a.path)
     frees fates next speak port = closes_settled (Udp port) (Some a) fates next speak ∙ by a.path
       where
@@ -159,7 +159,7 @@ module _ (c : Config) (past : List Step) (w : List (List ℕ)) (s : State) (x : 
         by (Udp k) = refl
         by (Tcp k) = refl
 
-    -- so the words give the draw that the history says
+    -- so the words give the draw in the history
     pub udp_drawn : (fates : List Fate) (next : Option Ask) → AllByRecursion Speaks fates → drawn words (listed past) (actions_by fates next) ≡ udp_draw words s.asks (freed_by a.path)
     udp_drawn fates next speak = ap (λ ls. drawn words ls (actions_by fates next)) (sym x.asks) ∙ drawn-shown words s.asks (actions_by fates next) (freed_by a.path) (frees fates next speak)
 
@@ -203,7 +203,7 @@ module _ (c : Config) (past : List Step) (w : List (List ℕ)) (s : State) (x : 
       cached_now : (actions : List Action) → IsCached c (step actions ∷ past) n s.cache
       cached_now actions = quiet_steps_keep c past s.moment n s.cache (step actions) x.cache x.moment (runs, quiet actions) (moment_now actions) (λ q octets f. absurd (no_question actions q octets f))
 
-      -- those that wait for it get the reason why not
+      -- the questions waiting for the ask get the reason for the failure
       can_write : (why : Why) (actions : List Action)
           → ((y : Waiting) (i : ℕ) (was : Waits c past y i) → same_question y.wanted a.question ≡ true → (k : ℕ)
           → RightReply (look_from c was.comes.asked was.comes.before (step actions ∷ past)) y.client was.comes.request k why (failure_text y.asked why))
@@ -212,7 +212,7 @@ module _ (c : Config) (past : List Step) (w : List (List ℕ)) (s : State) (x : 
           (λ t. owns c (step actions ∷ past) y.client y.asked i (comes_later (step actions) past y.client y.asked i runs was.comes) why (failure_text y.asked why) (right y i was t))
           (λ _. waits_later c (step actions) past y i (on_now actions) was)
 
-      -- the fate of each question where no try is left
+      -- the fate of each question, without a try left
       abbrev last_of : Waiting → Fate
       last_of = runs_out c n s.cache.entries a.question
 
@@ -351,7 +351,7 @@ module _ (c : Config) (past : List Step) (w : List (List ℕ)) (s : State) (x : 
           new_below : (q : Path) (conn : ℕ) → q ≡ Tcp conn → conn ≡ s.tcp_asks → IsBelow (s.tcp_asks + cond (Rattle.outstanding.specs.Lists.is_tcp q) 1 0) q
           new_below q conn is number = subst (λ (z : Path). IsBelow (s.tcp_asks + cond (Rattle.outstanding.specs.Lists.is_tcp z) 1 0) z) (sym is) (omega (arith, number))
 
-      -- how many servers the group has: one at least
+      -- the number of servers in the group, at least one
       next_there : (server : ℕ) → server ≡ next_server (plan_of c a) → (p : Peer) × (peer_at c a.route server ≡ Some p)
       next_there server is =
           let within = peer_within c a.route a.server a.peer tried_a.server in

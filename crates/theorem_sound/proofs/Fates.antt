@@ -1,4 +1,4 @@
--- Waiting questions, each with the number of its step, and their fates.
+-- Waiting questions with the numbers of their steps, and their fates.
 use Rattle.std.proofs.Common.{◌≡◌, ℕ, List, [], ◌∷◌, Bool, false, cond, refl, sym, ap, ◌∙◌, Option, Some, None}
 use Rattle.std.specs.Prelude.{filter, map, not, ◌==◌, ◌||◌}
 use Rattle.std.specs.List.{filter_map, cons_option, AllByRecursion}
@@ -28,15 +28,15 @@ abbrev pub numbered_in : Fate → ℕ → Option (Waiting × ℕ)
 numbered_in (gets a) i = None
 numbered_in (waits y) i = Some (y, i)
 
--- the numbers of those that get their replies
+-- the numbers of the questions with a reply
 abbrev pub owners_by : List (Fate × ℕ) → List ℕ
 owners_by gs = filter_map (λ g. owner_in g.0 g.1) gs
 
--- those that wait on, as they are now, each with the number that it had
+-- the questions waiting on, as now, each with the number from before
 abbrev pub left_by : List (Fate × ℕ) → List (Waiting × ℕ)
 left_by gs = filter_map (λ g. numbered_in g.0 g.1) gs
 
--- ---- those that are left
+-- ---- the remaining questions
 
 left_one : (v : Fate) (i : ℕ) (zs : List (Waiting × ℕ)) (ys : List Waiting) → map (λ (z : Waiting × ℕ). z.0) zs ≡ ys → map (λ (z : Waiting × ℕ). z.0) (cons_option (numbered_in v i) zs) ≡ cons_option (waiting_in v) ys
 left_one (gets a) i zs ys e = e
@@ -52,7 +52,7 @@ owner_one : (P : ℕ → Type 0) (v : Fate) (i : ℕ) (os : List ℕ) → P i �
 owner_one P (gets a) i os p h = (p, h)
 owner_one P (waits y) i os p h = h
 
--- a fact about each number is one about each owner
+-- a fact about each number is a fact about each owner
 pub All-owners : (P : ℕ → Type 0) (gs : List (Fate × ℕ)) → AllByRecursion P (numbers_in gs) → AllByRecursion P (owners_by gs)
 All-owners P [] h = tt
 All-owners P (g ∷ gs) h = owner_one P g.0 g.1 (owners_by gs) h.0 (All-owners P gs h.1)
@@ -65,7 +65,7 @@ pub Distinct-owners : (gs : List (Fate × ℕ)) → Distinct (numbers_in gs) →
 Distinct-owners [] d = tt
 Distinct-owners (g ∷ gs) d = distinct_one g.0 g.1 (owners_by gs) (All-owners (λ j. (j == g.1) ≡ false) gs d.0) (Distinct-owners gs d.1)
 
--- ---- without the owners, the numbers are those of who is left
+-- ---- without the owners, the numbers are the remaining questions' numbers
 
 not_among : (i : ℕ) (is : List ℕ) → AllByRecursion (λ j. (j == i) ≡ false) is → among i is ≡ false
 not_among i [] h = refl

@@ -23,3 +23,4 @@ pub mod Theorem
 pub mod Runs
 mod Worked
 pub mod CallerLemmas
+pub use Rattle.theorem_cache.proofs as TheoremCache

@@ -35,7 +35,7 @@ turned true false x y = refl
 turned false true x y = refl
 turned false false x y = refl
 
--- both draws are one, where just the freed port is closed
+-- both draws are equal, if exactly the freed port is closed
 pub drawn-shown : (words : List ℕ) (asks : List Ask) (actions : List Action) (freed : Option ℕ) → ((port : ℕ) → closes_path (Udp port) actions ≡ is_freed port freed) → drawn words (map shown asks) actions ≡ udp_draw words asks freed
 drawn-shown [] asks actions freed closed = refl
 drawn-shown (word ∷ words) asks actions freed closed =

@@ -1,4 +1,4 @@
--- The facts from which a verdict follows.
+-- The facts implied by a verdict.
 use Rattle.std.proofs.Common.{◌≡◌, ℕ, ◌+◌, ◌≤◌, List, length, Bool, true, false, refl, sym, ◌∙◌, subst, arith, Option, Some, None}
 use Rattle.std.specs.Prelude.{◌==◌, ◌&&◌, ◌||◌, nat_le}
 use Rattle.std.proofs.lemmas.Bool.{and_parts, leb-true, le-leb, cond-true, cond-false, eqb-true, false≢true}
@@ -27,7 +27,7 @@ judged_parts from octets a e = by (matches a from octets) refl (header_in octets
     by true m false tc false rc = let bad : Failed (header_in octets).rcode ≡ Whole = sym (cond-true (matches a from octets) _ _ m ∙ cond-false (header_in octets).tc _ _ tc ∙ cond-false (((header_in octets).rcode == 0) || ((header_in octets).rcode == 3)) _ _ rc) ∙ e in absurd (cc)
     by true m false tc true rc = (m, tc, rc)
 
--- the verdict is not that of a stranger's octets
+-- the verdict is not `Stranger`
 abbrev pub IsNoStranger : Verdict → Type 0
 IsNoStranger Stranger = ⊥
 IsNoStranger Truncated = Unit {0}
@@ -35,7 +35,7 @@ IsNoStranger (Failed rcode) = Unit {0}
 IsNoStranger Malformed = Unit {0}
 IsNoStranger Whole = Unit {0}
 
--- any other verdict is of octets that match
+-- octets with any other verdict match
 pub judged_match : (from : Peer) (octets : List ℕ) (a : Ask) (v : Verdict) → judge a from octets ≡ v → IsNoStranger v → matches a from octets ≡ true
 judged_match from octets a v e known = by (matches a from octets) refl
   where

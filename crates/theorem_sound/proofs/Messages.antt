@@ -1,4 +1,4 @@
--- Octets spell the message that is read from them.
+-- Octets spell the message read from them.
 use Rattle.std.proofs.Common.{◌≡◌, ℕ, List}
 use Rattle.std.specs.Prelude.{Ok}
 use Rattle.dns_message.specs.Values.{Message}

@@ -1,4 +1,4 @@
--- Names and questions that are compared equal.
+-- Names and questions equal by comparison.
 use Rattle.std.proofs.Common.{◌≡◌, ℕ, List, Bool, true, refl, sym, ap, ◌∙◌, subst}
 use Rattle.std.specs.Prelude.{◌==◌}
 use Rattle.std.proofs.lemmas.Bool.{and_parts, and_from, eqb-true, eq-eqb}
@@ -33,7 +33,7 @@ same_peer-true a b e =
 pub same_peer-is : (a b : Peer) → a ≡ b → same_peer a b ≡ true
 same_peer-is a b e = subst (λ (x : Peer). same_peer a x ≡ true) e (and_from (same_octets a.ip a.ip) (a.port == a.port) (same_octets_reflexive a.ip) (eq-eqb a.port a.port refl))
 
--- equal names are on one route
+-- equal names have the same serving route
 pub route_of-alike : (c : Config) (a b : Question) → IsSameQuestion a b → serving_route_of c a.name ≡ serving_route_of c b.name
 route_of-alike c a b same = sym (serving_lowered c.routes a.name) ∙ ap (serving_route_of c) same.name ∙ serving_lowered c.routes b.name
 
@@ -42,7 +42,7 @@ same_question-sym a b e =
     let same = (same_question_decides a b).0 e in
     (same_question_decides b a).1 (record { name = sym same.name; kind = sym same.kind; class = sym same.class })
 
--- a test that is equivalent to the fact is this test
+-- a test equivalent to the fact is `same_name`
 pub told_same_name : (r : Bool) (a b : List (List ℕ)) → (r ≡ true → IsSame a b) × (IsSame a b → r ≡ true) → r ≡ same_name a b
 told_same_name r a b tells = can_write r (same_name a b) tells (same_decides a b)
 

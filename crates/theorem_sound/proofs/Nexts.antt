@@ -1,4 +1,4 @@
--- An ask that comes next is tried, right, listed and numbered as it should be.
+-- The next ask is tried, right, listed and numbered as required.
 use Rattle.std.proofs.Common.{◌≡◌, ℕ, suc, ◌+◌, ◌^◌, ◌<◌, List, [], ◌∷◌, ◌++◌, length, Bool, true, false, refl, sym, subst, arith, Option, Some, None}
 use Rattle.std.specs.List.{AllByRecursion}
 use Rattle.std.proofs.lemmas.List.{append-nil}
@@ -29,7 +29,7 @@ use Rattle.theorem_sound.proofs.AskText.{ask_reads}
 use Rattle.theorem_sound.proofs.Attempts.{serves}
 use Rattle.theorem_sound.proofs.Actions.{IsRightNext}
 
--- facts about an ask for a question that comes next
+-- facts about the next ask, for a question
 pub record IsNext (c : Config) (now : List Step) (q : Question) (a : Ask) : Type 0 where
   pub question : a.question ≡ q
   pub is_question : IsQuestion q
@@ -68,7 +68,7 @@ next_right c s past now q a next drawn =
 
 -- ---- lists
 
--- an ask that may be put after these, if any
+-- the ask, if any, may follow these asks
 abbrev pub MayFollow : Config → List Ask → Option Ask → Type 0
 MayFollow c listed None = Unit {0}
 MayFollow c listed (Some a) = MayBegin a listed × (length listed < c.limits.inquiries)

@@ -1,4 +1,4 @@
--- The numbers of the questions that own no reply.
+-- The numbers of the questions without a reply.
 use Rattle.std.proofs.Common.{◌≡◌, ℕ, suc, ◌<◌, List, [], ◌∷◌, ◌++◌, length, Bool, true, false, cond, refl, sym, ap, ◌∙◌, subst, arith}
 use Rattle.std.specs.Prelude.{filter, not, ◌==◌, ◌&&◌, ◌||◌}
 use Rattle.std.proofs.lemmas.Bool.{ne_eqb, eq-eqb, cond-true, cond-false}
@@ -26,7 +26,7 @@ one_kept f n true false true e = refl
 one_kept f n true true false e = sym (cond-false (f n) (n ∷ []) [] e)
 one_kept f n true false false e = sym (cond-true (f n) (n ∷ []) [] e)
 
--- more owners leave the questions that they don't own
+-- more owners leave the questions owned by none of them
 pub unanswered-more : (past : List Step) (os taken : List ℕ) → unanswered past (os ++ taken) ≡ filter (λ i. not (among i os)) (unanswered past taken)
 unanswered-more [] os taken = refl
 unanswered-more (s ∷ past) os taken = elim (is_restart s) as (λ v. cond v [] (unanswered past (os ++ taken) ++ more) ≡ filter f (cond v [] (unanswered past taken ++ one))) [
@@ -55,7 +55,7 @@ Distinct-push (i ∷ is) n d below =
     let other : (n ≡ i) → ⊥ = λ e. let lt : i < n = below.0 in omega (arith, lt, e) in
     (All-append _ is (n ∷ []) d.0 (ne_eqb n i other, tt), Distinct-push is n d.1 below.1)
 
--- they are numbers of steps, that own no reply, and differ
+-- the unanswered numbers are numbers of steps, own no reply, and differ
 pub record AreFree (past : List Step) (taken : List ℕ) : Type 0 where
   pub below : AllByRecursion (λ i. i < length past) (unanswered past taken)
   pub not_taken : AllByRecursion (λ i. among i taken ≡ false) (unanswered past taken)
@@ -104,7 +104,7 @@ filter_all : {X : Type 0} (f : X → Bool) (xs : List X) → AllByRecursion (λ 
 filter_all f [] h = refl
 filter_all f (x ∷ xs) h = cond-true (f x) _ _ h.0 ∙ ap (λ ys. x ∷ ys) (filter_all f xs h.1)
 
--- a question that gets its reply at once
+-- a question with a reply at once
 pub numbers_at_once : (s : Step) (past : List Step) (taken : List ℕ) → is_restart s ≡ false → takes_question s.input.event ≡ true
     → unanswered (s ∷ past) (length past ∷ taken) ≡ unanswered past taken
 numbers_at_once s past taken run asks =
@@ -125,7 +125,7 @@ numbers_at_once s past taken run asks =
     and_no true = refl
     and_no false = refl
 
--- a question that waits
+-- a waiting question
 pub numbers_waiting : (s : Step) (past : List Step) (taken : List ℕ) → is_restart s ≡ false → takes_question s.input.event ≡ true → AllByRecursion (λ i. i < length past) taken
     → unanswered (s ∷ past) taken ≡ unanswered past taken ++ length past ∷ []
 numbers_waiting s past taken run asks below =

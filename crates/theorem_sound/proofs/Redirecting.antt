@@ -1,4 +1,4 @@
--- An accepted reply that leads elsewhere gives each question that waited for it a right fate, and
+-- An accepted reply leading elsewhere gives each question waiting for the reply a right fate, and
 -- the next question can be asked.
 use Rattle.std.proofs.Common.{◌≡◌, ℕ, ◌-◌, ◌≤◌, List, [], ◌∷◌, ◌++◌, length, length-append, true, false, refl, sym, ap, subst, inr, arith, Option, Some, None}
 use Rattle.std.specs.Prelude.{map, filter, nat_le}
@@ -24,10 +24,10 @@ use Rattle.step_history.specs.Answers.{FollowsAliases, Leads}
 use Rattle.step_history.proofs.CallerLemmas.{moment_later, target_is}
 use Rattle.waiting_questions.specs.Values.{Waiting, waits_for}
 use Rattle.step_table.specs.Steps.{Fate, gets, waits, waiting_in, still_waiting}
-use Rattle.alias_chains.specs.LookingUp.{LookUpEnd, ends, too_long, missed, LookUp, look_up, goes_on}
+use Rattle.step_table.specs.AliasChains.LookingUp.{LookUpEnd, ends, too_long, missed, LookUp, look_up, goes_on}
 use Rattle.step_table.specs.Replies.{looked_by, unless_open, to_be_asked, without_port, unless_no_port}
 use Rattle.step_table.specs.Clients.{fate_missed, fate_at, fate_of}
-use Rattle.alias_chains.specs.Offering.{held_at}
+use Rattle.step_table.specs.AliasChains.Offering.{held_at}
 use Rattle.theorem_cache.specs.Kept.{CanBeKept, CanBeWrittenAt, IsCached}
 use Rattle.theorem_cache.specs.Chains.{look_from, GoesOn, IsRight, LeadOn}
 use Rattle.theorem_cache.proofs.CallerLemmas.{told_later, follows_append, leads_stay_leads, accepted_pieces_lead_on, look_ups_that_go_on_are_right, still_held}
@@ -48,12 +48,12 @@ target_is_name (rows (octets ∷ other ∷ more)) name e = absurd (cc)
 target_is_name (no_data soa) name e = absurd (cc)
 target_is_name (denied soa) name e = absurd (cc)
 
--- aliases lead from a question to one
+-- aliases lead from a well-formed question to a well-formed question
 pub question_led : (l : Look) (q last : Question) (held : List Held) → IsQuestion q → FollowsAliases l q held last → IsQuestion last
 question_led l q last [] is h = subst IsQuestion (sym h) is
 question_led l q last (o ∷ os) is h = question_led l (asked_at q h.3) last os (record { name = target_is_name o.piece.body h.3 (target_is o.piece h.3 h.4); kind = is.kind; class = is.class }) h.5
 
--- the question that is now wanted can be asked: it is well formed and has a route
+-- the newly wanted question can be asked: well formed and with a route
 abbrev pub CanBeSent : Config → Waiting → Type 0
 CanBeSent c y = IsQuestion y.wanted × (route : ℕ) × (serving_route_of c y.wanted.name ≡ Some route)
 
@@ -74,7 +74,7 @@ one_sent : (c : Config) (v : Fate) (ys : List Waiting) → IsSent c v → AllByR
 one_sent c (gets a) ys is all = all
 one_sent c (waits y) ys is all = (is, all)
 
--- so can the questions that are wanted by those who wait on
+-- the wanted questions of all questions waiting on can be asked
 pub all_sent : (c : Config) (q : Question) (fate : Waiting → Fate) (before : Waiting → ℕ → Type 0) (zs : List (Waiting × ℕ)) → ((y : Waiting) (i : ℕ) → before y i → waits_for q y ≡ true → IsSent c (fate y))
     → AllByRecursion (λ z. before z.0 z.1) zs → AllByRecursion (CanBeSent c) (still_waiting (map fate (filter (waits_for q) (map (λ z. z.0) zs))))
 all_sent c q fate before [] each all = tt
@@ -84,7 +84,7 @@ all_sent c q fate before (z ∷ zs) each all =
     cond_both (waits_for q z.0) (z.0 ∷ others) others (λ ys. AllByRecursion (CanBeSent c) (still_waiting (map fate ys)))
     (λ t. one_sent c (fate z.0) (still_waiting (map fate others)) (each z.0 z.1 all.0 t) rest) (λ _. rest)
 
--- the question to ask: it has a route, and is not asked yet
+-- the question to ask: with a route, and not asked yet
 pub record IsNew (c : Config) (listed : List Ask) (q : Question) : Type 0 where
   pub is_question : IsQuestion q
   pub route : ℕ
@@ -99,7 +99,7 @@ asked_is_new c listed (y ∷ ys) q all e = by (of_question y.wanted listed) refl
     by None none e = let same : y.wanted ≡ q = cc in subst (IsNew c listed) same (record { is_question = all.0.0; route = all.0.1; on_route = all.0.2; new = none })
     by (Some a) there e = absurd (cc)
 
--- ---- replies where no port is free
+-- ---- replies if no port is free
 
 without_speaks : (v : Fate) → Speaks v → Speaks (without_port v)
 without_speaks (gets a) s = s
@@ -109,7 +109,7 @@ pub no_port_speaks : (fate : Waiting → Fate) (q : Question) (xs : List Waiting
 no_port_speaks fate q [] all = tt
 no_port_speaks fate q (x ∷ xs) all = (cond_both (waits_for q x) (without_port (fate x)) (waits x) Speaks (λ _. without_speaks (fate x) all.0) (λ _. tt), no_port_speaks fate q xs all.1)
 
--- ---- each question that waited for the reply
+-- ---- each question waiting for the reply
 
 module _ (c : Config) (past : List Step) (step : Step) (t n : ℕ) (cache : Cache) (cached : IsCached c past t cache) (t_is : t ≡ moment_at past) (a : Ask) (m : Message) (name : List (List ℕ)) (runs : is_restart step ≡ false) (is_now : n ≡ moment_at (step ∷ past))
     (on : serving_route_of c a.question.name ≡ Some a.route) (shapes : HasShapes m) (ends_so : (walk_of c m a.question a.route).end ≡ elsewhere name)
@@ -131,7 +131,7 @@ module _ (c : Config) (past : List Step) (step : Step) (t n : ℕ) (cache : Cach
     abbrev look : Look
     look = look_from c was.comes.asked was.comes.before now
 
-    -- the aliases of the walk lead on from the question that is wanted
+    -- the walk's aliases lead on from the wanted question
     lead : LeadOn look n y.wanted w.pieces name
     lead = subst (λ (k : ℕ). LeadOn look k y.wanted w.pieces name) (sym is_now)
         (accepted_pieces_lead_on c was.comes.asked step was.comes.before past cached.carried m a.question y.wanted a.route name was.comes.in_era runs cached.carried_is carries shapes on ends_so ((same_question_decides y.wanted a.question).0 same))
@@ -162,7 +162,7 @@ module _ (c : Config) (past : List Step) (step : Step) (t n : ℕ) (cache : Cach
     some : 1 ≤ length held
     some = let longer = length-append y.held more in let long = length-map w.pieces (held_at n) in let one = lead.some in omega (arith, longer, long, one)
 
-    -- the look-up that goes on
+    -- the continued look-up
     abbrev looked_on : LookUp
     looked_on = look_up c.routes n cache.entries (most_aliases - length held) held wanted
 
@@ -182,7 +182,7 @@ module _ (c : Config) (past : List Step) (step : Step) (t n : ℕ) (cache : Cach
         (λ none. absurd (let one = still_held c.routes n cache.entries (most_aliases - length held) held wanted some in let no : length looked_on.held ≡ 0 = ap length none in omega (arith, one, no))))
         (λ many. owns_too_many c n now y i comes held wanted follows many)
 
-    -- it gets its reply, or waits on
+    -- the question gets its reply, or waits on
     pub fate_led : IsFated (looked_by c n cache.entries w y w.end)
     fate_led = subst (λ e. IsFated (looked_by c n cache.entries w y e)) (sym ends_so) fated_on
 
@@ -191,6 +191,6 @@ module _ (c : Config) (past : List Step) (step : Step) (t n : ℕ) (cache : Cach
         (λ few. sent_at c n y looked_on looked_on.met (question_led look was.comes.question looked_on.wanted looked_on.held (read_well was.comes.request was.comes.question was.comes.octets was.comes.reads) (right few).follows))
         (λ many. tt)
 
-    -- and the question that it then wants can be asked
+    -- and the newly wanted question can be asked
     pub sent_led : IsSent c (fate_of c n y (looked_by c n cache.entries w y w.end))
     sent_led = subst (λ e. IsSent c (fate_of c n y (looked_by c n cache.entries w y e))) (sym ends_so) redirected

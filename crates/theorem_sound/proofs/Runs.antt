@@ -1,4 +1,4 @@
--- A run goes on by one step.
+-- A run continues by a step.
 use Rattle.std.proofs.Common.{◌≡◌, ◌∙◌, ℕ, ◌+◌, ◌<◌, ◌≤◌, arith, List, [], ◌∷◌, ◌++◌, length, take, get_or, refl, sym, ap, subst, append_assoc}
 use Rattle.std.specs.Prelude.{reverse, map}
 use Rattle.std.proofs.lemmas.List.{reverse-append, map-append, take_more, length-map, append-nil}
@@ -27,7 +27,7 @@ IsExplained-push c steps s s' h o x stays =
 pub IsExplained-initial : (c : Config) → IsConfig c → IsExplained c [] (initial c)
 IsExplained-initial c config = ([], start_explained c config)
 
--- the questions that own no reply are those that wait
+-- the questions owning no reply are the waiting questions
 sound_of : (c : Config) (past : List Step) (w : List (List ℕ)) (s : State) → Explains c past w s → length (unanswered past (concat w)) ≤ c.limits.questions
 sound_of c past w s x =
     let one = length-map x.numbers_of (λ (z : Waiting × ℕ). z.0) in
@@ -43,7 +43,7 @@ explained_is_sound c steps s x = record { owners = x.0; sound = x.1.sound; tells
 pub row_stays : (c : Config) (s : State) (h : StepInput) (o : Outcome) (s' : State) → Row c s h o s' → StaysExplained c s h o s'
 row_stays c s h o s' r = λ past w x. row_explained c past w s h o s' x r
 
--- stored steps stay explained once one more is stored
+-- stored steps stay explained with a further step stored
 pub explained_more : (c c' : Config) (steps steps' : List Step) (s s' : State) (h : StepInput) (o : Outcome) → c' ≡ c → steps' ≡ steps ++ record { input = h; outcome = o } ∷ [] → IsExplained c steps s → StaysExplained c s h o s' → IsExplained c' steps' s'
 explained_more c c' steps steps' s s' h o same pushed x stays =
     subst (λ (p : Config × List Step). IsExplained p.0 p.1 s') (λ i. (sym same i, sym pushed i)) (IsExplained-push c steps s s' h o x stays)
@@ -55,13 +55,13 @@ run_more c c' first steps steps' s s' h o same pushed run row =
 pub stays_at : (c c' : Config) (s : State) (h : StepInput) (o : Outcome) (s' : State) → c' ≡ c → StaysExplained c' s h o s' → StaysExplained c s h o s'
 stays_at c c' s h o s' same x = subst (λ (d : Config). StaysExplained d s h o s') same x
 
--- one more input was passed in
+-- a further input was passed in
 pub input_more : (steps steps' : List Step) (h item : StepInput) (o : Outcome) (all : List StepInput) (i : ℕ) → steps' ≡ steps ++ record { input = h; outcome = o } ∷ []
     → map (λ (s : Step). s.input) steps ≡ take i all → i < length all → h ≡ item → item ≡ get_or all i item → map (λ (s : Step). s.input) steps' ≡ take (i + 1) all
 input_more steps steps' h item o all i pushed so_far below is there =
     ap (map (λ (s : Step). s.input)) pushed ∙ map-append (λ (s : Step). s.input) steps (record { input = h; outcome = o } ∷ []) ∙ (λ j. so_far j ++ (is ∙ there) j ∷ []) ∙ sym (take_more all i item below)
 
--- a history that explains the state before a run explains, with its steps, the state after it
+-- a history explaining the state before a run explains, with the run's steps, the state after
 Run-explained : (c : Config) (s s' : State) (steps : List Step) (past : List Step) (w : List (List ℕ)) → Explains c past w s → Run c s steps s' → (w' : List (List ℕ)) × Explains c (reverse steps ++ past) w' s'
 Run-explained c s s' [] past w x run = (w, subst (Explains c past w) (sym run) x)
 Run-explained c s s' (t ∷ steps) past w x run =

@@ -33,7 +33,7 @@ use Rattle.theorem_sound.proofs.Actions.{OwnsReply, AreFated, Speaks, closes_set
 use Rattle.theorem_sound.proofs.Cases.{step_of, waits_later, settled_explained}
 use Rattle.theorem_sound.proofs.Failures as failures
 
--- the ask on a path has that path
+-- the ask found by a path has this path
 path_of : (path : Path) (listed : List Ask) (a : Ask) → ask_on path listed ≡ Some a → a.path ≡ path
 path_of path listed a on = (ask_on-is (λ b. Unit {0}) path listed a on (always listed)).0
   where
@@ -79,12 +79,12 @@ module _ (c : Config) (past : List Step) (w : List (List ℕ)) (s : State) (x : 
   moment_now : (actions : List Action) → n ≡ moment_at (step actions ∷ past)
   moment_now actions = failures.moment_now c past w s x now words unkept more tick refl refl actions
 
-  -- the ask that is closed with a question, if any, is listed
+  -- the ask closed with a question, if any, is listed
   abbrev IsListed : Option Ask → Type 0
   IsListed None = Unit {0}
   IsListed (Some a) = ask_on a.path s.asks ≡ Some a
 
-  -- the oldest question has waited as long as it may
+  -- the oldest question has waited until its deadline
   module _ (y : Waiting) (others : List Waiting) (first : s.waiting ≡ y ∷ others) (late : deadline_of c y ≤ n) where
     abbrev fates : List Fate
     fates = gets (gives_up Deadline y) ∷ map (λ z. waits z) others

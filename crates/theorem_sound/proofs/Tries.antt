@@ -1,4 +1,4 @@
--- The tries of an inquiry: which question a step asks, and what holds of each equal question.
+-- The tries of an inquiry: the question asked by a step, and the tries of equal questions.
 use Rattle.std.proofs.Common.{◌≡◌, ◌⊎◌, ℕ, zero, suc, ◌^◌, ◌<◌, List, [], ◌∷◌, ◌++◌, Bool, true, false, cond, refl, sym, ap, ◌∙◌, subst, inl, inr, Option, Some, None}
 use Rattle.std.specs.Prelude.{map, not}
 use Rattle.std.specs.List.{cons_option, AllByRecursion}
@@ -30,9 +30,9 @@ use Rattle.theorem_sound.proofs.Asking.{AsksNone}
 use Rattle.theorem_sound.proofs.Names.{same_question-sym, same_question-trans}
 use Rattle.theorem_sound.proofs.Nexts.{MayFollow}
 
--- ---- what the actions of a step ask
+-- ---- the questions asked by a step's actions
 
--- the ask that comes next is one of this question
+-- the next ask is for this question
 abbrev pub IsNextOf : Question → Option Ask → Type 0
 IsNextOf q None = ⊥
 IsNextOf q (Some a) = (own : Question) × Reads (written (ask_message a.id a.question)) own × (same_question own q ≡ true)
@@ -40,7 +40,7 @@ IsNextOf q (Some a) = (own : Question) × Reads (written (ask_message a.id a.que
 pub same_question-refl : (q : Question) → same_question q q ≡ true
 same_question-refl q = (same_question_decides q q).1 (record { name = refl; kind = refl; class = refl })
 
--- it is one of its own question
+-- an ask is for its own question
 pub next_asks : (q : Question) (a : Ask) → a.question ≡ q → IsQuestion q → a.id < 2 ^ 16 → IsNextOf q (Some a)
 next_asks q a is is_question small =
     (q, subst (λ (z : Question). Reads (written (ask_message a.id z)) q) (sym is) (ask_reads a.id q is_question small).0, same_question-refl q)
@@ -67,7 +67,7 @@ sends_later : (q : Question) (xs rest : List Action) → SendsAsk q rest → Sen
 sends_later q [] rest k = k
 sends_later q (x ∷ xs) rest k = inr (sends_later q xs rest k)
 
--- a step that settles sends the ask that comes next
+-- a settling step sends the next ask
 pub settled_sends : (q : Question) (close : Option Ask) (fates : List Fate) (next : Option Ask) → IsNextOf q next
     → SendsAsk q (closing close ++ (replies fates ++ map asks (ask_list next)))
 settled_sends q close fates next k = sends_later q (closing close) (replies fates ++ map asks (ask_list next))
@@ -98,7 +98,7 @@ past_all : (q : Question) (fates : List Fate) → AllByRecursion Speaks fates �
 past_all q [] h rest k = k
 past_all q (v ∷ fates) h rest k = past_one q v h.0 (replies fates) rest (past_all q fates h.1 rest) k
 
--- and no other
+-- and no other ask
 pub sends_settled : (q : Question) (close : Option Ask) (fates : List Fate) (next : Option Ask) → AllByRecursion Speaks fates
     → SendsAsk q (closing close ++ (replies fates ++ map asks (ask_list next))) → IsNextOf q next
 sends_settled q close fates next speak k =
@@ -112,7 +112,7 @@ pub asks_none : (actions : List Action) → ((q : Question) → SendsAsk q actio
 asks_none actions none [] = tt
 asks_none actions none (a ∷ listed) = (none a.question, asks_none actions none listed)
 
--- the ask that comes next is of no listed question
+-- the next ask is for no listed ask's question
 pub next_asks_none : (c : Config) (now : List Step) (next : Option Ask) (listed : List Ask) (actions : List Action) → AllByRecursion (Tried c now) (ask_list next)
     → MayFollow c listed next → ((q : Question) → SendsAsk q actions → IsNextOf q next) → AsksNone actions listed
 next_asks_none c now None listed actions tried may sends = asks_none actions sends listed
@@ -134,7 +134,7 @@ next_asks_none c now (Some a) listed actions tried may sends = by listed (none_s
 abbrev IsOther : Question → Ask → Type 0
 IsOther q b = same_question b.question q ≡ false
 
--- where the ask on a path is of another question, and so are all that are not on it, all are
+-- if the ask on a path is for another question than q, and so are all asks on other paths, all are
 pub other_asks : (path : Path) (q : Question) (listed : List Ask) (a : Ask) → AreInTurn listed → ask_on path listed ≡ Some a → same_question a.question q ≡ false
     → AllByRecursion (λ b. same_question b.question q ≡ false) (without_path path listed) → AllByRecursion (λ b. same_question b.question q ≡ false) listed
 other_asks path q [] a start on other rest = tt
@@ -169,7 +169,7 @@ module _ (q q' : Question) (same : same_question q q' ≡ true) where
       by true k = absurd (false≢true (sym other ∙ same_question-trans own q' q k (same_question-sym q q' same)))
       by false k = k
 
-  -- a step that closes an ask of a question closes one of each equal question
+  -- a step closing an ask of a question closes an ask of each equal question
   pub closes_alike : (s : Step) (past : List Step) → ClosesAsk q s past → ClosesAsk q' s past
   closes_alike s past k = record { ask = k.ask; asked = k.asked; is_listed = k.is_listed; closed = k.closed; reads = k.reads; same = asked_alike k.asked k.same }
 
@@ -202,7 +202,7 @@ leaves_alike q q' same s past left =
     let back = same_question-sym q q' same in
     ((λ k. left.0 (closes_alike q' q back s past k)), (λ k. left.1 (sends_alike q' q back s.outcome.actions k)))
 
--- the tries of a question are those of each equal one
+-- the tries of a question are the tries of each equal question
 pub failed_alike : (c : Config) (q q' : Question) → same_question q q' ≡ true → (past : List Step) (n : ℕ) → FailedSoFar c q past n → FailedSoFar c q' past n
 failed_alike c q q' same [] n h = h
 failed_alike c q q' same (s ∷ past) zero h = (h.0, by (λ n. failed_alike c q q' same past n) h.1)

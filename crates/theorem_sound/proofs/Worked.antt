@@ -18,7 +18,7 @@ use Rattle.outstanding.specs.declared.ask.Path.TheVariants.{Udp}
 use Rattle.outstanding.specs.Values.{Ask}
 use Rattle.answer_builder.specs.Values.{Asked}
 use Rattle.step_values.specs.Values.{Delivered, Request, request_in, from_client, tick, ask_udp, close_udp, Step}
-use Rattle.cache_laws.proofs.CallerLemmas.{serves_exactly}
+use Rattle.step_history.proofs.CacheLaws.CallerLemmas.{serves_exactly}
 use Rattle.step_history.specs.History.{InEra, NothingAccepted}
 use Rattle.step_history.specs.Asked.{AsksRight, AsksWell}
 use Rattle.step_history.specs.Sound.{Replies}

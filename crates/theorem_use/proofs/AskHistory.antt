@@ -1,5 +1,5 @@
--- Where those who wait in a state and its asks serve each other, so they do in the history that
--- explains it.
+-- If waiting questions and asks serve each other in a state, they do so in the history explaining
+-- the state.
 use Rattle.std.proofs.Common.{◌≡◌, ◌∙◌, ℕ, zero, suc, List, [], ◌∷◌, true, false, sym, ap, subst, inl, inr, arith, ◌⊎◌}
 use Rattle.std.specs.Prelude.{map, option_map}
 use Rattle.std.specs.List.{concat, AllByRecursion}
@@ -14,7 +14,7 @@ use Rattle.step_history.specs.Causes.{ClosesAsk, LastFailed}
 use Rattle.step_history.proofs.CallerLemmas.{failed_so_far_last}
 use Rattle.step_table.specs.State.{State}
 use Rattle.step_table.proofs.CallerLemmas.{ask_on-is}
-use Rattle.waiting_questions.specs.Values.{Waiting, waits_for}
+use Rattle.step_table.specs.WaitingQuestions.Values.{Waiting, waits_for}
 use Rattle.theorem_sound.specs.Explains.{shown, Waits, Tried, Explains}
 use Rattle.theorem_sound.proofs.Asking.{closes_none}
 use Rattle.theorem_sound.proofs.Listed.{on_path-shown}
@@ -22,7 +22,7 @@ use Rattle.theorem_use.specs.Asking.{AnyByRecursion, EachWants, Wants, Asks, Was
 use Rattle.theorem_use.specs.Asking.{AsksForWaiting}
 use Rattle.theorem_use.proofs.Asked.{same_as_itself, Retries, Spelled, AreServedOn}
 
--- ---- the questions that are wanted
+-- ---- the wanted questions
 
 wants : (c : Config) (now : List Step) (x : Waiting) (i : ℕ) → Waits c now x i → Wants c now i x.wanted
 wants c now x i h = record {
@@ -46,7 +46,7 @@ each_wants c now (z ∷ zs) all = (wants c now z.0 z.1 all.0, each_wants c now z
 
 -- ---- lists
 
--- the action of a listed ask is one of the shown asks
+-- the action of a listed ask is among the shown asks
 any_shown : (R P : Ask → Type 0) (Q : ShownAsk → Type 0) → ((a : Ask) → R a → P a → Q (shown a)) → (asks : List Ask)
     → AllByRecursion R asks → AnyByRecursion P asks → AnyByRecursion Q (map shown asks)
 any_shown R P Q f [] all any = absurd any
@@ -73,7 +73,7 @@ all_shown R P Q f (a ∷ asks) reads all = (f a reads.0 all.0, all_shown R P Q f
 
 module _ (c : Config) (past : List Step) (w : List (List ℕ)) (s : State) (x : Explains c past w s) (t : Step) (a : Ask)
     (tried : Tried c (t ∷ past) a) where
-  -- it follows an ask that the step closed
+  -- the ask follows an ask closed by the step
   module _ (r : Retries t.outcome.actions s.asks a) where
     tried_before : Tried c past r.closed
     tried_before = (ask_on-is (Tried c past) r.closed.path s.asks r.closed r.on x.tried).1
@@ -89,7 +89,7 @@ module _ (c : Config) (past : List Step) (w : List (List ℕ)) (s : State) (x : 
       same = ap (same_question r.closed.question) (sym r.question) ∙ same_as_itself r.closed.question;
     }
 
-    -- the tries before it failed, the newest one in the step
+    -- the earlier tries failed, the newest in the step
     none_accepted : (k : ℕ) → a.used ≡ suc k → LastFailed c a.question (t ∷ past) k → NothingAccepted c t past
     none_accepted zero used failed =
         let later = r.used in let first = tried_before.used in absurd (omega (arith, used, later, first))

@@ -1,4 +1,4 @@
--- Each row of the table leaves those who wait and the asks serving each other.
+-- After each row of the table waiting questions and asks serve each other.
 use Rattle.std.proofs.Common.{◌≡◌, ◌∙◌, ℕ, ◌+◌, ◌≤◌, arith, List, [], ◌∷◌, ◌++◌, length, append-nil, Bool, true, false, cond, refl, sym, ap, subst, inl, inr, Option, Some, None}
 use Rattle.std.specs.Prelude.{map, filter, nat_le, nat_lt, ◌==◌, ◌||◌, Result, Ok, Err}
 use Rattle.std.specs.List.{list_any, AllByRecursion}
@@ -40,7 +40,7 @@ use Rattle.step_values.specs.Values.{Action, Event, from_client, delivery, path_
 use Rattle.suffix_routes.specs.Serving.{serving_route_of}
 use Rattle.step_values.specs.Requests.{is_taken}
 use Rattle.step_table.specs.State.{State, start}
-use Rattle.waiting_questions.specs.Values.{Waiting, waits_for}
+use Rattle.step_table.specs.WaitingQuestions.Values.{Waiting, waits_for}
 use Rattle.step_table.specs.Attempts.{peer_at, over_udp, over_tcp, preferred_on, first_ask_on, first_ask_for, freed_by, plan_of, next_ask}
 use Rattle.alias_chains.specs.LookingUp.{LookUp, look_up}
 use Rattle.step_history.specs.History.{closes_path}
@@ -57,7 +57,7 @@ use Rattle.theorem_sound.proofs.Messages.{read_spells}
 use Rattle.theorem_use.specs.Asking.{AnyByRecursion, AreServed}
 use Rattle.theorem_use.proofs.Asked.{any_weaker, any_with, any_first, any_last, same_as_itself, same_turned, same_through, of_question_any, FateHas, each_fate, each_was, any_picked, all_wait_on, NextHas, Spelled, AreServedOn, all_spelled, unchanged, taken_on, closed_on}
 
--- ---- a first ask is for its question
+-- ---- a first ask is for the given question
 
 first_asks : (c : Config) (n : ℕ) (words : List ℕ) (q : Question) (s : State) (a : Ask)
     → first_ask_for (start c n words s) q ≡ Some a → a.question ≡ q
@@ -78,7 +78,7 @@ next_asks c n words a s (AskTcp server) d is =
     (over_tcp (drawn_by_tcp words s.tcp_asks)) d is).question
 next_asks c n words a s GiveUp d is = absurd (cc)
 
--- an ask that follows one is one try later
+-- the ask after `a` is a try later than `a`
 next_used : (c : Config) (n : ℕ) (words : List ℕ) (a : Ask) (s : State) (v : Next) (d : Ask)
     → next_ask (start c n words s) a v ≡ Some d → d.used ≡ a.used + 1
 next_used c n words a s (AskUdp server) d is =
@@ -89,7 +89,7 @@ next_used c n words a s (AskTcp server) d is =
     (over_tcp (drawn_by_tcp words s.tcp_asks)) d is).used_is
 next_used c n words a s GiveUp d is = absurd (cc)
 
--- ---- the paths that actions close
+-- ---- the paths closed by actions
 
 -- an ask closes nothing
 asks_close_none : (o : Option Ask) (path : Path) → closes_path path (map asks (ask_list o)) ≡ false
@@ -100,7 +100,7 @@ asks_close_none (Some a) path = by a.path
     by (Udp port) = refl
     by (Tcp conn) = refl
 
--- a path that is given up first is closed
+-- a path given up by the first action is closed
 closes_first : (path : Path) (more : List Action) → closes_path path (closes path ∷ more) ≡ true
 closes_first (Udp port) more = ap (λ (v : Bool). v || closes_path (Udp port) more) (same_path_reflexive (Udp port))
 closes_first (Tcp conn) more = ap (λ (v : Bool). v || closes_path (Tcp conn) more) (same_path_reflexive (Tcp conn))
@@ -152,7 +152,7 @@ nothing_any (x ∷ xs) (inr later) = nothing_any xs later
 
 module _ (c : Config) (n : ℕ) (words : List ℕ) (s : State) (served : AreServed s.asks s.waiting)
     (by_arrival : AreInTurn s.asks) (Accepted : Type 0) where
-  -- after the step those who wait and the asks serve each other
+  -- after the step waiting questions and asks serve each other
   abbrev pub K : Done → Type 0
   K d = AreServedOn Accepted d.actions s.asks d.state.asks d.state.waiting
 
@@ -168,7 +168,7 @@ module _ (c : Config) (n : ℕ) (words : List ℕ) (s : State) (served : AreServ
     abbrev Asked : Option Ask → Waiting → Type 0
     Asked next y = AnyByRecursion (λ b. waits_for b.question y ≡ true) (others ++ ask_list next)
 
-    -- all that wait for it get a reply
+    -- each question waiting for the ask gets a reply
     given_up : {actions : List Action} (given : Waiting → Action) → AreServedOn Accepted actions s.asks (others ++ [])
         (still_waiting (map (λ x. cond (waits_for a.question x) (gets (given x)) (waits x)) s.waiting))
     given_up {actions} given = closed_on s.asks s.waiting served by_arrival a on Accepted actions
@@ -180,12 +180,12 @@ module _ (c : Config) (n : ℕ) (words : List ℕ) (s : State) (served : AreServ
         (cond-true (waits_for a.question x) (gets (given x)) (waits x) t)) tt) s.waiting)
         tt tt
 
-    -- somebody waits for it
+    -- a question waits for the ask
     wanted : AnyByRecursion (λ x. waits_for a.question x ≡ true) s.waiting
     wanted = (ask_on-is (λ b. AnyByRecursion
         (λ x. waits_for b.question x ≡ true) s.waiting) a.path s.asks a on served.wanting).1
 
-    -- its question is asked again
+    -- the ask's question is asked again
     asked_again : {more : List Action} (d : Ask) → d.question ≡ a.question → d.used ≡ a.used + 1
         → AreServedOn Accepted (closes a.path ∷ more) s.asks (others ++ d ∷ [])
         (still_waiting (map (λ x. waits x) s.waiting))
@@ -261,12 +261,12 @@ module _ (c : Config) (n : ℕ) (words : List ℕ) (s : State) (served : AreServ
 
   -- ---- the passing of time
 
-  -- the oldest question gets its reply, and its ask is closed where nobody else waits for that
+  -- the oldest question gets its reply; its ask is closed if no other question waits for the ask
   module _ (y : Waiting) (behind : List Waiting) (first : s.waiting ≡ y ∷ behind) where
     were : AreServed s.asks (y ∷ behind)
     were = subst (AreServed s.asks) first served
 
-    -- somebody else waits for the same
+    -- another question waits for the ask
     joined : (actions : List Action) → AnyByRecursion (λ z. waits_for y.wanted z ≡ true) behind
         → AreServedOn Accepted actions s.asks s.asks behind
     joined actions any = record {
@@ -284,7 +284,7 @@ module _ (c : Config) (n : ℕ) (words : List ℕ) (s : State) (served : AreServ
             (λ z t. same_through z.wanted y.wanted a.question t here) behind any
         one a (inr later) = later
 
-    -- nobody else does
+    -- no other question waits for the ask
     alone : (actions : List Action) (a : Ask) → of_question y.wanted s.asks ≡ Some a
         → AllByRecursion (λ z. waits_for y.wanted z ≡ false) behind
         → AreServedOn Accepted actions s.asks (without_path a.path s.asks ++ []) behind
@@ -316,7 +316,7 @@ module _ (c : Config) (n : ℕ) (words : List ℕ) (s : State) (served : AreServ
             (cond-true (waits_for a.question y) _ _ (same_turned a.question y.wanted asks_it))
             ∙ rest_is behind none
 
-    -- its ask is listed
+    -- the oldest question's ask is listed
     has_ask : of_question y.wanted s.asks ≡ None → ⊥
     has_ask none = nothing_any s.asks (any_with (λ b. same_question b.question y.wanted ≡ false)
         (λ b. waits_for b.question y ≡ true) (λ b. ⊥)
@@ -365,7 +365,7 @@ module _ (c : Config) (n : ℕ) (words : List ℕ) (s : State) (served : AreServ
 
   -- ---- a failed path
 
-  -- the ask on a path is the one on its own path
+  -- the ask on a path is the ask on its own path
   own_path : (path : Path) (a : Ask) → ask_on path s.asks ≡ Some a → ask_on a.path s.asks ≡ Some a
   own_path path a on = ap (λ (p : Path). ask_on p s.asks)
       (ask_on-is (λ b. Unit {0}) path s.asks a on (all_of (λ b. Unit {0}) (λ b. tt) s.asks)).0 ∙ on
@@ -387,7 +387,7 @@ module _ (c : Config) (n : ℕ) (words : List ℕ) (s : State) (served : AreServ
     abbrev next_others : List Ask
     next_others = without_path a.path s.asks
 
-    -- who doesn't wait for it waits on
+    -- a question not waiting for the ask waits on
     keeps : (x : Waiting) → waits_for a.question x ≡ false → fate x ≡ waits x
     keeps x f = cond-false (waits_for a.question x) _ _ f
 
@@ -408,12 +408,12 @@ module _ (c : Config) (n : ℕ) (words : List ℕ) (s : State) (served : AreServ
         (ended_by (Asked a on None) x x.held x.wanted w.pieces some)) s.waiting)
         tt tt
 
-    -- ---- it leads elsewhere
+    -- ---- the walk leads elsewhere
 
     abbrev Ys : List Waiting
     Ys = still_waiting (map fate (filter (waits_for a.question) s.waiting))
 
-    -- all that are sent on want one question
+    -- all questions sent on want a single question
     want_one : (name : List (List ℕ)) → w.end ≡ elsewhere name → (y : Waiting) (ys : List Waiting) → Ys ≡ y ∷ ys
         → AllByRecursion (λ z. z.wanted ≡ y.wanted) Ys
     want_one name is y ys are = All-weaker (λ z. (x : Waiting) × (waits_for a.question x ≡ true) × (fate x ≡ waits z))
@@ -428,7 +428,7 @@ module _ (c : Config) (n : ℕ) (words : List ℕ) (s : State) (served : AreServ
         head = (subst (AllByRecursion (λ z. (x : Waiting) × (waits_for a.question x ≡ true)
             × (fate x ≡ waits z))) are all).0
 
-    -- with what all of them have, the ask is closed
+    -- if each question sent on has another ask or the next ask, the ask is closed
     sent_closed : {actions : List Action} (next : Option Ask) → AllByRecursion (Asked a on next) Ys
         → NextHas (λ b. AnyByRecursion (λ y. waits_for b.question y ≡ true) (still_waiting (map fate s.waiting))) next
         → NextHas (Spelled Accepted actions s.asks (still_waiting (map fate s.waiting))) next
@@ -444,7 +444,7 @@ module _ (c : Config) (n : ℕ) (words : List ℕ) (s : State) (served : AreServ
         all_want : AllByRecursion (λ z. z.wanted ≡ y.wanted) Ys
         all_want = want_one name is y ys are
 
-        -- an ask is for it, and comes next
+        -- an ask for y's wanted question comes next
         next_named : {actions : List Action} (d : Ask) → d.question ≡ y.wanted
             → AreServedOn Accepted actions s.asks (next_others ++ d ∷ []) (still_waiting (map fate s.waiting))
         next_named {actions} d for_it = sent_closed {actions = actions} (Some d)
@@ -495,7 +495,7 @@ module _ (c : Config) (n : ℕ) (words : List ℕ) (s : State) (served : AreServ
       sent_row [] none = sent_closed None (subst (AllByRecursion (Asked a on None)) (sym none) tt) tt tt
       sent_row (y ∷ ys) are = open_row y ys are (of_question y.wanted next_others) refl
 
-    -- a walk that ends at a piece has one
+    -- a walk ending at a piece has a piece
     some_pieces : (e : End) → w.end ≡ e → has_last e ≡ true → 1 ≤ length w.pieces
     some_pieces e is fine = by e (subst (EndsSo (reply_of c m a.question a.route) w.pieces w.authority) is
         (walk_leads c m a.question a.route shapes

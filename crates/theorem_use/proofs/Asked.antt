@@ -1,4 +1,4 @@
--- Asks and those who wait for them, after one step.
+-- Asks and their waiting questions, after a step.
 use Rattle.std.proofs.Common.{◌≡◌, ◌∙◌, ◌+◌, List, [], ◌∷◌, ◌++◌, Bool, true, false, cond, refl, sym, ap, subst, inl, inr, Option, Some, None, ◌⊎◌}
 use Rattle.std.specs.Prelude.{map, filter, not}
 use Rattle.std.specs.List.{cons_option, AllByRecursion}
@@ -12,12 +12,12 @@ use Rattle.outstanding.specs.Values.{Ask}
 use Rattle.outstanding.proofs.CallerLemmas.{same_path_equal, all_without_path, question_free_without_path}
 use Rattle.step_values.specs.Values.{Action}
 use Rattle.step_history.specs.History.{closes_path}
-use Rattle.waiting_questions.specs.Values.{Waiting, waits_for}
+use Rattle.step_table.specs.WaitingQuestions.Values.{Waiting, waits_for}
 use Rattle.step_table.specs.Steps.{Fate, gets, waits, waiting_in, still_waiting, ask_list}
 use Rattle.step_table.proofs.CallerLemmas.{All-append, All-weaker, none_same}
 use Rattle.theorem_use.specs.Asking.{AnyByRecursion, AreServed}
 
--- ---- one of a list
+-- ---- an element of a list
 
 pub any_weaker : {X : Type 0} (P Q : X → Type 0) → ((x : X) → P x → Q x) → (xs : List X) → AnyByRecursion P xs
     → AnyByRecursion Q xs
@@ -25,7 +25,7 @@ any_weaker P Q f [] any = absurd any
 any_weaker P Q f (x ∷ xs) (inl here) = inl (f x here)
 any_weaker P Q f (x ∷ xs) (inr later) = inr (any_weaker P Q f xs later)
 
--- with a fact that holds of all
+-- with a fact about all elements
 pub any_with : {X : Type 0} (R P Q : X → Type 0) → ((x : X) → R x → P x → Q x) → (xs : List X) → AllByRecursion R xs
     → AnyByRecursion P xs → AnyByRecursion Q xs
 any_with R P Q f [] all any = absurd any
@@ -46,7 +46,7 @@ any_cons : {X : Type 0} (P : X → Type 0) (o : Option X) (xs : List X) → AnyB
 any_cons P None xs any = any
 any_cons P (Some x) xs any = inr any
 
--- of each list each is one of it
+-- each element is in the list
 each_is_one : {X : Type 0} (xs : List X) → AllByRecursion (λ x. AnyByRecursion (λ y. y ≡ x) xs) xs
 each_is_one [] = tt
 each_is_one (x ∷ xs) = (
@@ -69,7 +69,7 @@ same_through p q r one two = (same_question_decides p r).1
 
 -- ---- asks
 
--- the ask of a question is one of those that one who wants it waits for
+-- the ask of the question wanted by x is among the asks x waits for
 pub of_question_any : (x : Waiting) (asks : List Ask) (a : Ask) → of_question x.wanted asks ≡ Some a
     → AnyByRecursion (λ b. waits_for b.question x ≡ true) asks
 of_question_any x [] a e = absurd (cc)
@@ -81,7 +81,7 @@ of_question_any x (b ∷ asks) a e = by (of_question_any x asks a) (same_questio
     by behind true same e = inl (same_turned b.question x.wanted same)
     by behind false other e = inr (behind e)
 
--- no other is on the path of one
+-- the ask on a path is alone on the path
 only_on_path : (asks : List Ask) (a : Ask) → AreInTurn asks → ask_on a.path asks ≡ Some a
     → AllByRecursion (λ b. same_path b.path a.path ≡ true → b ≡ a) asks
 only_on_path [] a by_arrival on = tt
@@ -100,7 +100,7 @@ only_on_path (b ∷ asks) a by_arrival on = by (only_on_path asks a by_arrival.1
         )
     by behind false other e = (λ t. absurd (true≢false (sym t ∙ other)), behind e)
 
--- who doesn't wait for the ask that is closed still has an ask
+-- a question not waiting for the closed ask still has an ask
 still_asked : (x : Waiting) (a : Ask) (asks : List Ask)
     → AllByRecursion (λ b. same_path b.path a.path ≡ true → b ≡ a) asks → waits_for a.question x ≡ false
     → AnyByRecursion (λ b. waits_for b.question x ≡ true) asks
@@ -122,7 +122,7 @@ still_asked x a (b ∷ asks) only other any =
 
 -- ---- fates
 
--- it gets its reply, or has this as it waits on
+-- the fate is a reply, or a question waiting on with R
 abbrev pub FateHas : (Waiting → Type 0) → Fate → Type 0
 FateHas R (gets a) = Unit {0}
 FateHas R (waits y) = R y
@@ -143,7 +143,7 @@ parts_of : (R : Waiting → Type 0) (v : Fate) (ys : List Waiting) → AllByRecu
 parts_of R (gets a) ys all = (tt, all)
 parts_of R (waits y) ys all = (all.0, all.1)
 
--- and the other way round, among those that a test picks
+-- conversely, for the questions passing a test
 pub each_fate : (R : Waiting → Type 0) (test : Waiting → Bool) (fate : Waiting → Fate) (xs : List Waiting)
     → AllByRecursion R (still_waiting (map fate (filter test xs)))
     → AllByRecursion (λ x. test x ≡ true → FateHas R (fate x)) xs
@@ -159,7 +159,7 @@ each_fate R test fate (x ∷ xs) all = by (each_fate R test fate xs) (test x) re
         (λ _. parts.0, behind parts.1)
     by behind false isnt all = (λ t. absurd (true≢false (sym t ∙ isnt)), behind all)
 
--- each of those that wait on was one before
+-- each question waiting on was among the questions before
 pub each_was : (test : Waiting → Bool) (fate : Waiting → Fate) (xs : List Waiting)
     → AllByRecursion (λ y. (x : Waiting) × (test x ≡ true) × (fate x ≡ waits y))
     (still_waiting (map fate (filter test xs)))
@@ -179,7 +179,7 @@ each_was test fate (x ∷ xs) = by (each_was test fate xs) (test x) refl
         all_cons Was (fate x) (still_waiting (map fate (filter test xs))) (here is (fate x) refl) behind
     by behind false isnt = behind
 
--- one of those that a test picks is one of all
+-- a question among the picked questions is among all
 pub any_picked : (P : Waiting → Type 0) (test : Waiting → Bool) (fate : Waiting → Fate) (xs : List Waiting)
     → AnyByRecursion P (still_waiting (map fate (filter test xs))) → AnyByRecursion P (still_waiting (map fate xs))
 any_picked P test fate [] any = any
@@ -198,7 +198,7 @@ any_picked P test fate (x ∷ xs) any = by (any_picked P test fate xs) (test x) 
         first_of (fate x) (still_waiting (map fate (filter test xs))) (still_waiting (map fate xs)) behind any
     by behind false any = any_cons P (waiting_in (fate x)) (still_waiting (map fate xs)) (behind any)
 
--- one that waits on as it was is one of those that wait on
+-- a question waiting on unchanged is among the questions waiting on
 any_kept : (P : Waiting → Type 0) (fate : Waiting → Fate) (xs : List Waiting) → ((x : Waiting) → P x → fate x ≡ waits x)
     → AnyByRecursion P xs → AnyByRecursion P (still_waiting (map fate xs))
 any_kept P fate [] keeps any = absurd any
@@ -214,7 +214,7 @@ all_wait_on (x ∷ xs) = ap (λ ys. x ∷ ys) (all_wait_on xs)
 
 -- ---- after a step
 
--- the ask follows one that these actions close: for its question, one try later
+-- the ask follows an ask closed by these actions: for its question, a try later
 pub record Retries (actions : List Action) (before : List Ask) (a : Ask) : Type 0 where
   pub closed : Ask
   pub on : ask_on closed.path before ≡ Some closed
@@ -222,17 +222,17 @@ pub record Retries (actions : List Action) (before : List Ask) (a : Ask) : Type 
   pub question : closed.question ≡ a.question
   pub used : a.used ≡ closed.used + 1
 
--- one wants it who waits, and these actions close nothing, or a reply was accepted
+-- a waiting question wants the ask's question; these actions close nothing, or a reply was accepted
 pub record Opens (Accepted : Type 0) (actions : List Action) (waiting : List Waiting) (a : Ask) : Type 0 where
   pub anew : ((path : Path) → closes_path path actions ≡ false) ⊎ Accepted
   pub wanted : AnyByRecursion (λ x. x.wanted ≡ a.question) waiting
 
--- the ask was there before, or follows one, or opens an inquiry
+-- the ask was listed before, follows an ask, or opens an inquiry
 abbrev pub Spelled : Type 0 → List Action → List Ask → List Waiting → Ask → Type 0
 Spelled Accepted actions before waiting a =
     AnyByRecursion (λ b. b ≡ a) before ⊎ (Retries actions before a ⊎ Opens Accepted actions waiting a)
 
--- those that wait and the asks serve each other, and each ask has the right spelling
+-- waiting questions and asks serve each other, and each ask has the right spelling
 pub record AreServedOn (Accepted : Type 0) (actions : List Action) (before asks : List Ask) (waiting : List Waiting)
     : Type 0 where
   pub served : AreServed asks waiting
@@ -260,7 +260,7 @@ all_next : (P : Ask → Type 0) (asks : List Ask) (next : Option Ask) → AllByR
 all_next P asks None all has = All-append P asks [] all tt
 all_next P asks (Some a) all has = All-append P asks (a ∷ []) all (has, tt)
 
--- one more question waits, for a listed ask or for the next one, and nothing is closed
+-- a further question waits, for a listed ask or for the next ask, and nothing is closed
 pub taken_on : (Accepted : Type 0) (actions : List Action) (asks : List Ask) (waiting : List Waiting) (x : Waiting)
     (next : Option Ask)
     → AreServed asks waiting → ((path : Path) → closes_path path actions ≡ false)
@@ -304,13 +304,13 @@ module _ (asks : List Ask) (waiting : List Waiting) (served : AreServed asks wai
   abbrev others : List Ask
   others = without_path a.path asks
 
-  -- no other ask has the question of the closed one
+  -- only the closed ask has its question
   apart : AllByRecursion (λ b. same_question b.question a.question ≡ false) others
   apart = none_same a.question others (question_free_without_path a.path a.question asks a by_arrival on
       (same_as_itself a.question))
 
-  -- An ask is closed. Who doesn't wait for it waits on as before; who does gets a reply, or waits
-  -- on for another ask or the next one; and the next ask is wanted.
+  -- An ask is closed. A question not waiting for the ask waits on as before; a question waiting for
+  -- the ask gets a reply, or waits on for another ask or the next ask; and the next ask is wanted.
   pub closed_on : (Accepted : Type 0) (actions : List Action) (fate : Waiting → Fate) (next : Option Ask)
       → ((x : Waiting) → waits_for a.question x ≡ false → fate x ≡ waits x)
       → AllByRecursion (λ x. waits_for a.question x ≡ true
@@ -351,7 +351,7 @@ module _ (asks : List Ask) (waiting : List Waiting) (served : AreServed asks wai
       each [] any then = tt
       each (x ∷ xs) any then = (fate_has x any.0 then.0, each xs any.1 then.1)
 
-      -- who waits for another ask doesn't wait for the closed one
+      -- a question waiting for another ask doesn't wait for the closed ask
       for_other : (b : Ask) → same_question b.question a.question ≡ false → (x : Waiting)
           → waits_for b.question x ≡ true → fate x ≡ waits x
       for_other b other x t = keeps x (by (waits_for a.question x) refl)

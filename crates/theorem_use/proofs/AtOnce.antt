@@ -1,4 +1,4 @@
--- A question that the cache answers is answered by its own step, which owns the reply.
+-- A question answered by the cache is answered by its own step, the owner of the reply.
 use Rattle.std.proofs.Common.{◌≡◌, ◌∙◌, ℕ, ◌^◌, ◌≤◌, List, [], ◌∷◌, ◌++◌, length, Bool, true, false, refl, sym, ap, subst, inl, inr, arith, Option, Some, None}
 use Rattle.std.specs.Prelude.{◌==◌, ◌&&◌, not, min, max, Result, Ok, Err, ◌⊎◌}
 use Rattle.std.specs.List.{concat, AllByRecursion}
@@ -22,37 +22,37 @@ use Rattle.step_history.specs.Replies.{failure_text, answer_text, cut_text, size
 use Rattle.step_history.specs.Answers.{Chain}
 use Rattle.step_history.specs.Sound.{unanswered, RightReply, Owns, Replies, FromCache, SameAsEarlierFromCache}
 use Rattle.step_table.specs.State.{State, start}
-use Rattle.waiting_questions.specs.Values.{Waiting}
+use Rattle.step_table.specs.WaitingQuestions.Values.{Waiting}
 use Rattle.alias_chains.specs.LookingUp.{LookUpEnd, ends, too_long, missed, LookUp, promoted_all}
 use Rattle.step_table.specs.Steps.{Done, with_promoted, reply_step, answered, sends, transport_of}
 use Rattle.step_table.specs.Row.{is_due_at}
 use Rattle.step_table.specs.Clients.{fate_at, taken_now, row_of_fate, row_of_route, row_of_question, row_of_request}
-use Rattle.theorem_cache.specs.Kept.{CanBeWrittenAt, looked, IsStillFound, IsCached}
-use Rattle.theorem_cache.specs.Chains.{look_from, IsRightEnd, EndsRight, IsSized, IsRight}
-use Rattle.theorem_cache.proofs.CallerLemmas.{quiet_steps_keep, promotions_keep_cached, look_ups_are_right, answers_from_cache_agree, promotions_find_the_same}
+use Rattle.theorem_sound.specs.TheoremCache.Kept.{CanBeWrittenAt, looked, IsStillFound, IsCached}
+use Rattle.theorem_sound.specs.TheoremCache.Chains.{look_from, IsRightEnd, EndsRight, IsSized, IsRight}
+use Rattle.theorem_sound.proofs.TheoremCache.CallerLemmas.{quiet_steps_keep, promotions_keep_cached, look_ups_are_right, answers_from_cache_agree, promotions_find_the_same}
 use Rattle.step_table.proofs.CallerLemmas.{All-append}
 use Rattle.theorem_sound.specs.Explains.{Comes, Explains}
 use Rattle.theorem_sound.proofs.Actions.{OwnsReply}
 use Rattle.theorem_sound.proofs.Answering.{IsTold, answered_told, answer_owned}
 use Rattle.theorem_sound.proofs.Cases.{step_of, at_once_explained}
 
--- ---- replies that the newest step's own question owns
+-- ---- replies owned by the newest step's own question
 
--- a history that is in an era is not longer than it
+-- a history in the era of `now` is no longer than `now`
 era_is_longer : (upto now : List Step) → InEra upto now → length upto ≤ length now
 era_is_longer upto [] never = absurd never
 era_is_longer upto (s ∷ past) (inl same) = let one : length upto ≡ length (s ∷ past) =
     ap length same in omega (arith, one)
 era_is_longer upto (s ∷ past) (inr behind) = let less = era_is_longer upto past behind.1 in omega (arith, less)
 
--- the step whose number is the newest one's is the newest
+-- the step with the newest step's number is the newest step
 newest_is : (asked : Step) (before : List Step) (s : Step) (past : List Step) → InEra (asked ∷ before) (s ∷ past)
     → length past ≡ length before → asked ∷ before ≡ s ∷ past
 newest_is asked before s past (inl same) number = same
 newest_is asked before s past (inr behind) number =
     absurd (let less = era_is_longer (asked ∷ before) past behind.1 in omega (arith, less, number))
 
--- the reply is right for the step that this history ends with, if that sent these octets
+-- the reply is right for the last step of this history, if the step sent these octets
 abbrev RightFor : Config → List Step → List ℕ → SentReply → List ℕ → List Step → Type 0
 RightFor c now owners r request [] = ⊥
 RightFor c now owners r request (asked ∷ before) =
@@ -60,7 +60,7 @@ RightFor c now owners r request (asked ∷ before) =
     × RightReply (record { config = c; asked = asked; before = before; now = now }) r.client request
     (length (unanswered before owners)) r.why r.octets
 
--- a reply that the newest step's question owns is right for it
+-- a reply owned by the newest step's question is right for the step
 own_is_right : (c : Config) (s : Step) (past : List Step) (owners : List ℕ) (r : SentReply) (request : List ℕ)
     → Owns c (s ∷ past) owners (length past) r → Sends s.input.event r.client request
     → RightReply (record { config = c; asked = s; before = past; now = s ∷ past }) r.client request
@@ -98,7 +98,7 @@ module _ (c : Config) (past : List Step) (w : List (List ℕ)) (s : State) (x : 
 
   -- ---- whether the cache answers the message
 
-  -- it is a question that is looked up, and its look-up ends at a set or a denial
+  -- the message's question is looked up, and the look-up ends at a set or a denial
   pub record IsHit : Type 0 where
     pub takes : is_taken request ≡ true
     pub opcode : (header_in request).opcode ≡ 0
@@ -170,10 +170,9 @@ module _ (c : Config) (past : List Step) (w : List (List ℕ)) (s : State) (x : 
       let two = and_parts ((header_in request).opcode == 0) (hits_for (one_question request)) one.1 in
       asked one.0 (eqb-true (header_in request).opcode 0 two.0) (one_question request) refl two.1
 
-  -- ---- its reply
+  -- ---- the reply to a hit
 
-  -- the only action is one reply, its owner is the step, it is right, and with it the state is
-  -- explained
+  -- the only action is a right reply owned by the step, and with this owner the state is explained
   pub record IsOwnAnswer (d : Done) : Type 0 where
     pub octets : List ℕ
     pub why : Why
@@ -195,14 +194,14 @@ module _ (c : Config) (past : List Step) (w : List (List ℕ)) (s : State) (x : 
     abbrev pub l : LookUp
     l = looked c n s.cache.entries h.question
 
-    -- the cache with the entries that the look-up used promoted
+    -- the cache with the entries used by the look-up promoted
     abbrev used : Cache
     used = record { capacity = s.cache.capacity; entries = promoted_all l.used s.cache.entries }
 
     used_is : IsCached c past s.moment used
     used_is = promotions_keep_cached c past s.moment s.cache l.used x.cache
 
-    -- the message, as it comes
+    -- the message of the step, as received
     abbrev comes : (actions : List Action) → Comes (step actions ∷ past) client y.asked (length past)
     comes actions = record {
       asked = step actions;
@@ -254,7 +253,7 @@ module _ (c : Config) (past : List Step) (w : List (List ℕ)) (s : State) (x : 
       abbrev done : Done
       done = reply_step n (send_reply client octets why) (with_promoted l.used s)
 
-      -- it is found now
+      -- an answer from cache is found now
       found_now : (z : Question) (text : List ℕ) → FromCache (step done.actions) z text
           → IsStillFound c n s.cache.entries z text
       found_now z text (asks_z, inr never) = absurd never
@@ -301,7 +300,7 @@ module _ (c : Config) (past : List Step) (w : List (List ℕ)) (s : State) (x : 
             more_is;
       }
 
-    -- an answer is written from the aliases that it took and its end
+    -- an answer is written from the aliases and the end of the look-up
     pub hit_text : (octets : List ℕ) → Replies (answered n y l.held h.end ∷ []) octets
         → octets ≡ sized_for client (answer_text y.asked l.held h.end n) (cut_text y.asked l.held h.end n)
     hit_text octets replies = by (answer_of y.asked (l.held ++ h.end ∷ []) n (transport_of client)) refl replies
@@ -317,7 +316,7 @@ module _ (c : Config) (past : List Step) (w : List (List ℕ)) (s : State) (x : 
         by (Err fault) told (inl (success, same)) = absurd cc
         by (Err fault) told (inr never) = absurd never
 
-    -- the row answers it
+    -- the row answers the message
     pub row_is : row_of_request (start c n words s) client request ≡ reply_step n (answered n y l.held h.end) (with_promoted l.used s)
     row_is =
         cond-true (is_taken request) _ _ h.takes

@@ -18,13 +18,13 @@ use Rattle.record_cache.proofs.CallerLemmas.{slots_decide, without_are_held}
 use Rattle.negative_cache.specs.Entries.{denies}
 use Rattle.negative_cache.specs.Showing.{shown}
 use Rattle.negative_cache.proofs.CallerLemmas.{shown_is_replaced}
-use Rattle.cache_laws.specs.Replacing.{Replaces, AreOfOneSlot}
-use Rattle.cache_laws.proofs.CallerLemmas.{place_kept}
+use Rattle.step_history.specs.CacheLaws.Replacing.{Replaces, AreOfOneSlot}
+use Rattle.step_history.proofs.CacheLaws.CallerLemmas.{place_kept}
 use Rattle.step_history.specs.Carried.{then_carried}
 use Rattle.step_history.proofs.CallerLemmas.{then_carried-append}
 use Rattle.alias_chains.specs.Offering.{shown_by, ended_so, put, count_of, put_all, unkept_of, held_at}
-use Rattle.theorem_cache.specs.Kept.{IsKept, CanBeKept}
-use Rattle.theorem_cache.proofs.CallerLemmas.{all_among, all_from, among_filtered, IsShown, shown_leaves, put_leaves, offers_keep}
+use Rattle.theorem_sound.specs.TheoremCache.Kept.{IsKept, CanBeKept}
+use Rattle.theorem_sound.proofs.TheoremCache.CallerLemmas.{all_among, all_from, among_filtered, IsShown, shown_leaves, put_leaves, offers_keep}
 use Rattle.theorem_use.specs.Use.{IsOneOf}
 use Rattle.theorem_use.specs.Recent.{IsBelieved, StaysBelieved}
 use Rattle.theorem_use.specs.Mirrors.{ComesAfter}
@@ -36,7 +36,7 @@ use Rattle.theorem_use.proofs.Order.{behind_among, behind_filter, behind_take}
 abbrev ends_by : Bool → Bool → Bool → Offered
 ends_by a b d = cond a Outranked (cond b NotKept (cond d Kept Unkept))
 
--- ---- one offer
+-- ---- an offer
 
 module _ (c : Config) (capacity n : ℕ) (p : Piece) (offer : CanBeKept c p) (os es : List Held)
     (held : AreHeld (record { capacity = capacity; entries = es })) (all : AllByRecursion (IsKept c os n) es) (slots : List Slot) where
@@ -49,11 +49,11 @@ module _ (c : Config) (capacity n : ℕ) (p : Piece) (offer : CanBeKept c p) (os
   abbrev new : Held
   new = held_at n p
 
-  -- a piece that an offer leaves behind others
+  -- the offer leaves the piece o after entries of these slots alone
   abbrev Leaves : Held → Offered → Type 0
   Leaves o end = ComesAfter slots o (offered end capacity n p left)
 
-  -- ---- an entry whose place p doesn't take
+  -- ---- an entry in a place not taken by p
 
   module _ (few : length slots ≤ capacity) (mine : IsOneOf p.slot slots) (o : Held) (own : IsOneOf o.piece.slot slots) (alive : is_alive n o ≡ true)
       (free : takes_place_of p o.piece ≡ false) (behind : ComesAfter slots o es) where
@@ -65,7 +65,7 @@ module _ (c : Config) (capacity n : ℕ) (p : Piece) (offer : CanBeKept c p) (os
         by false set = behind_filter (λ e. not (denies p.owner p.slot.class e)) slots o es behind
             (not_from_false (denies p.owner p.slot.class o) (shown_is_replaced p o offer.formed set ∙ and_right (is_name_error o.piece) (takes_place_of p o.piece) free))
 
-    -- where p is not outranked, it is of another slot
+    -- if p is not outranked, o is of another slot
     other : is_outranked n p left ≡ false → of_slot p.slot o ≡ false
     other highest = false_from_ne_true (of_slot p.slot o) none
       where
@@ -154,7 +154,7 @@ module _ (c : Config) (capacity n : ℕ) (p : Piece) (offer : CanBeKept c p) (os
 
 -- ---- the offers of a reply
 
--- none of these takes the place of o
+-- no piece in the list takes the place of o
 abbrev pub LeavePlace : Held → List Held → Type 0
 LeavePlace o xs = AllByRecursion (λ x. Replaces x.piece o.piece → ⊥) xs
 
@@ -171,8 +171,8 @@ offers_kept c capacity n older es rooms ps offers held all =
 
 module _ (c : Config) (capacity n : ℕ) (older es : List Held) (slots : List Slot) (few : length slots ≤ capacity) (o : Held) (own : IsOneOf o.piece.slot slots)
     (alive : is_alive n o ≡ true) where
-  -- o came in the reply, is believed and was kept; or it was behind these slots alone before, and
-  -- keeps its place
+  -- o was carried by the reply, believed and kept; or o was after entries of these slots alone
+  -- before, and keeps its place
   abbrev pub ComesOrStays : List Held → ℕ → Type 0
   ComesOrStays newer k = ((k ≡ 0) × StaysBelieved o newer older) ⊎ (ComesAfter slots o es × LeavePlace o newer)
 

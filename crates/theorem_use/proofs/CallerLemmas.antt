@@ -1,3 +1,3 @@
--- Lemmas for the proofs of crates above: the theorem, and runs that go on.
+-- Lemmas for proofs of crates above: the theorem, and continued runs.
 pub use Rattle.theorem_use.proofs.Theorem.{row_stays_fully_explained, start_fully_explained, run_serves_truly}
 pub use Rattle.theorem_use.proofs.Theorem.{run_serves_on, row_serves_on, came_more}

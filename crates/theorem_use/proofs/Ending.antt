@@ -1,4 +1,4 @@
--- Where the pieces that stand answer a question, its look-up ends at a set or a denial.
+-- If the standing pieces answer a question, its look-up ends at a set or a denial.
 use Rattle.std.proofs.Common.{◌≡◌, ℕ, zero, suc, List, [], ◌∷◌, ◌++◌, refl, Option, None, Some}
 use Rattle.dns_message.specs.Values.{Question}
 use Rattle.suffix_routes.specs.Values.{Route}

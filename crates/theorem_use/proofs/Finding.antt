@@ -1,4 +1,4 @@
--- Where the living entries are the pieces that stand, a look-up finds the same among both.
+-- If the living entries are the standing pieces, look-ups among both find the same.
 use Rattle.std.proofs.Common.{◌≡◌, ◌∙◌, ℕ, ◌≤◌, List, [], ◌∷◌, length, filter, Bool, true, false, cond, refl, sym, ap, subst, inl, inr, arith, Option, Some, None}
 use Rattle.std.specs.Prelude.{◌==◌, ◌&&◌, nat_lt, is_none}
 use Rattle.std.specs.List.{find}
@@ -18,12 +18,12 @@ use Rattle.record_cache.proofs.CallerLemmas.{among_filter, slots_are_the_same, s
 use Rattle.negative_cache.specs.Values.{rows, alias, no_data, denied, miss}
 use Rattle.negative_cache.specs.Entries.{is_set, is_no_data, denies}
 use Rattle.negative_cache.specs.Finding.{is_of_type, is_on_route, is_denial_for, nearer, nearest, denial_for, found_or, found}
-use Rattle.theorem_cache.proofs.CallerLemmas.{all_among, among_filtered, entry_among}
-use Rattle.cache_laws.proofs.CallerLemmas.{one_slot, slot_test}
+use Rattle.theorem_sound.proofs.TheoremCache.CallerLemmas.{all_among, among_filtered, entry_among}
+use Rattle.step_history.proofs.CacheLaws.CallerLemmas.{one_slot, slot_test}
 
--- ---- the first that passes a test
+-- ---- the first member passing a test
 
--- the member that is found is there and passes
+-- a found member is in the list and passes
 pub found_is : (test : Held → Bool) (es : List Held) (h : Held) → find test es ≡ Some h → Among h es × (test h ≡ true)
 found_is test [] h is = absurd (cc)
 found_is test (e ∷ es) h is = by (found_is test es h) (test e) refl is
@@ -32,7 +32,7 @@ found_is test (e ∷ es) h is = by (found_is test es h) (test e) refl is
     by behind true t same = let one : e ≡ h = cc in (inl one, sym (ap test one) ∙ t)
     by behind false f rest = let more = behind rest in (inr more.0, more.1)
 
--- where nothing is found, none passes
+-- if nothing is found, no member passes
 pub none_passes : (test : Held → Bool) (es : List Held) → find test es ≡ None → (h : Held) → Among h es → test h ≡ true → ⊥
 none_passes test [] none h among t = among
 none_passes test (e ∷ es) none h among t = by (λ rest later. none_passes test es rest h later t) (test e) refl none among
@@ -42,7 +42,7 @@ none_passes test (e ∷ es) none h among t = by (λ rest later. none_passes test
     by behind false f rest (inl here) = true≢false (sym t ∙ sym (ap test here) ∙ f)
     by behind false f rest (inr later) = behind rest later
 
--- in two lists that have the same members which pass, and one of them at most, the same is found
+-- a search finds the same in two lists with the same passing members, at most one
 find_alike : (test : Held → Bool) (es st : List Held) → ((h : Held) → Among h es → test h ≡ true → Among h st) → ((h : Held) → Among h st → test h ≡ true → Among h es)
     → ((h k : Held) → Among h es → Among k es → test h ≡ true → test k ≡ true → h ≡ k) → find test es ≡ find test st
 find_alike test es st over back one = by (find test es) refl (find test st) refl
@@ -62,7 +62,7 @@ pub none_near : (es : List Held) → nearest es ≡ None → (h : Held) → Amon
 none_near [] none h among = among
 none_near (e ∷ es) none h among = absurd (cc)
 
--- no other has more labels
+-- no member has more labels
 abbrev IsNearest : Held → List Held → Type 0
 IsNearest h es = Among h es × ((k : Held) → Among k es → length k.piece.slot.key ≤ length h.piece.slot.key)
 
@@ -93,9 +93,9 @@ nearest_is (e ∷ es) h is = by (nearest_is es) (nearest es) refl is
             far k (inl here) = let a = ap (λ (x : Held). length x.piece.slot.key) here in omega (arith, a)
             far k (inr later) = let le = ltb-false (length e.piece.slot.key) (length o.piece.slot.key) f in let more = rest.1 k later in omega (arith, le, more)
 
--- ---- entries of one slot
+-- ---- entries of a slot
 
--- one entry has a slot
+-- a slot has a single entry
 pub entry_alone : (capacity : ℕ) (es : List Held) → AreHeld (record { capacity = capacity; entries = es }) → (h k : Held) → Among h es → Among k es → same_slot h.piece.slot k.piece.slot ≡ true → h ≡ k
 entry_alone capacity es held h k mine other same =
     let exact : of_slot h.piece.slot k ≡ true = slots_are_the_same h.piece.slot k.piece.slot (own_key h mine) (own_key k other) ∙ same in
@@ -109,7 +109,7 @@ entry_alone capacity es held h k mine other same =
         let formed = all_among (λ x. IsPiece x.piece) e es held.formed among in
         ap lowered formed.key ∙ lowered_again e.piece.owner ∙ sym formed.key
 
--- two of one type are in one slot
+-- two pieces of a type are in one slot
 pub one_type : (q : Question) (kind : ℕ) (h k : Held) → is_of_type q kind h ≡ true → is_of_type q kind k ≡ true → same_slot h.piece.slot k.piece.slot ≡ true
 one_type q kind h k a b =
     let asked : Slot = record { key = q.name; class = q.class; kind = Some kind } in
@@ -117,7 +117,7 @@ one_type q kind h k a b =
     let two = one_slot asked k.piece.slot b in
     slot_test h.piece.slot k.piece.slot (record { name = sym one.name ∙ two.name; class = sym one.class ∙ two.class; kind = sym one.kind ∙ two.kind })
 
--- ---- look-ups at one name
+-- ---- look-ups at a name
 
 module _ (routes : List Route) (m capacity : ℕ) (es st : List Held) (held : AreHeld (record { capacity = capacity; entries = es }))
     (over : (h : Held) → Among h es → is_alive m h ≡ true → Among h st) (back : (h : Held) → Among h st → Among h es) (q : Question) where
@@ -156,7 +156,7 @@ module _ (routes : List Route) (m capacity : ℕ) (es st : List Held) (held : Ar
   no_kind None t = refl
   no_kind (Some kind) t = absurd (true≢false (sym t))
 
-  -- of two denials with equally many labels each is the other
+  -- two denials with equally many labels are equal
   one_denial : (h k : Held) → Among h es → Among k es → denial h ≡ true → denial k ≡ true → length h.piece.slot.key ≡ length k.piece.slot.key → h ≡ k
   one_denial h k mine other t u as_many =
       let a = denial_is h t in
@@ -167,7 +167,7 @@ module _ (routes : List Route) (m capacity : ℕ) (es st : List Held) (held : Ar
         kind = no_kind h.piece.slot.kind a.error ∙ sym (no_kind k.piece.slot.kind b.error);
       }))
 
-  -- a denial among the entries is one of those that stand, and the other way round
+  -- a denial among the entries is among the standing pieces, and conversely
   denied_over : (h : Held) → Among h (filter denial es) → Among h (filter denial st)
   denied_over h among =
       let part = among_filtered denial h es among in

@@ -20,18 +20,18 @@ use Rattle.negative_cache.specs.Values as result
 use Rattle.negative_cache.specs.Finding.{found}
 use Rattle.negative_cache.specs.Laws.{Fits, IsLiving as IsLivingEntry, IsTyped, IsDenial}
 use Rattle.negative_cache.proofs.CallerLemmas.{found_fits}
-use Rattle.cache_laws.proofs.CallerLemmas.{one_slot}
+use Rattle.step_history.proofs.CacheLaws.CallerLemmas.{one_slot}
 use Rattle.step_history.specs.Carried.{NotReplaced}
 use Rattle.step_history.specs.Answers.{IsOf, EndsChain}
 use Rattle.step_history.proofs.CallerLemmas.{alias_to}
 use Rattle.alias_chains.specs.LookingUp.{ends, missed, LookUp, ended, missing, look_up_on, look_up_after, one_too_many, through, look_up}
-use Rattle.theorem_cache.proofs.CallerLemmas.{all_among, set_ends, no_data_ends, denial_ends}
+use Rattle.theorem_sound.proofs.TheoremCache.CallerLemmas.{all_among, set_ends, no_data_ends, denial_ends}
 use Rattle.theorem_use.specs.Touched.{Touched, carried_in, IsLiving, LeadsAlong}
 use Rattle.theorem_use.proofs.Ending.{Ends}
 
 -- ---- how few
 
--- a look-up uses at most one slot more than it may take aliases
+-- a look-up uses at most one slot more than the allowed aliases
 few_behind : (k : ℕ) (held : List Held) (q : Question) (onward : Held → List (List ℕ) → LookUp)
     → ((e : Held) (name : List (List ℕ)) → length (onward e name).used ≤ suc k) → (e : Held) (target : Option (List (List ℕ)))
     → length (look_up_on held q onward e target).used ≤ suc k
@@ -55,9 +55,9 @@ uses_few routes n entries (suc more) held q =
     few_after (suc more) held q (λ e target. through e (look_up routes n entries more (held ++ e ∷ []) (asked_at q target)))
     (λ e name. let rest = uses_few routes n entries more (held ++ e ∷ []) (asked_at q name) in omega (arith, rest)) (found routes n entries q)
 
--- ---- where it leads
+-- ---- the pieces of a look-up
 
--- that a look-up ends nowhere is no end
+-- a missed look-up has no end
 no_end_missing : (held : List Held) (q : Question) → Ends (record { held = held; wanted = q; met = missed; used = [] }) → ⊥
 no_end_missing held q (e, is) = absurd (cc)
 
@@ -71,7 +71,8 @@ module _ (Misses : Type 0) (routes : List Route) (n capacity : ℕ) (ts : List T
       let one = one_slot (record { key = q.name; class = q.class; kind = Some kind }) h.piece.slot typed.slot in
       record { name = sym one.name; class = sym one.class; kind = sym one.kind }
 
-  -- a look-up leads along pieces whose slots it uses; where it ends, they are all that it took
+  -- a look-up leads along the pieces and uses their slots; at an end, all its pieces are `taken`
+  -- and then these
   pub record LeadsSo (taken : List Held) (q : Question) (l : LookUp) : Type 0 where
     pub pieces : List Held
     pub leads : LeadsAlong Misses n ts q pieces
@@ -119,7 +120,7 @@ module _ (Misses : Type 0) (routes : List Route) (n capacity : ℕ) (ts : List T
   after_leads taken q onward goes result.miss fits (inl end) = absurd (no_end_missing taken q end)
   after_leads taken q onward goes result.miss fits (inr none) = misses taken q none
 
-  -- from an alias along the pieces after it
+  -- from an alias along the following pieces
   along : (q : Question) (e : Held) (name : List (List ℕ)) (pieces : List Held) → IsTyped n es q 5 e → q.kind ≢ 5 → target_of e.piece.body ≡ Some name
       → LeadsAlong Misses n ts (asked_at q name) pieces → LeadsAlong Misses n ts q (e ∷ pieces)
   along q e name pieces typed other is rest = (living e typed.living, inr (other, of_type q 5 e typed, name, alias_to e.piece name is, rest))

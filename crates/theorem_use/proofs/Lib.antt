@@ -21,3 +21,4 @@ pub mod CallerLemmas
 pub mod Worked
 pub mod WorkedAsks
 pub mod WorkedRecent
+pub use Rattle.theorem_sound.proofs as TheoremSound

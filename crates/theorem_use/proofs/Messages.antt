@@ -1,5 +1,5 @@
--- A client's message: the recent pieces that its row keeps, the slots that its look-up used, and a
--- question that recent pieces answer.
+-- A client's message: the recent pieces kept by its row, the slots used by its look-up, and a
+-- question answered by recent pieces.
 use Rattle.std.proofs.Common.{◌≡◌, ◌∙◌, ℕ, ◌^◌, ◌≤◌, List, [], ◌∷◌, ◌++◌, length, Bool, true, false, refl, sym, ap, subst, inl, inr, ◌⊎◌, arith, Option, Some, None}
 use Rattle.std.specs.Prelude.{min, max}
 use Rattle.std.proofs.lemmas.List.{length-map}
@@ -28,8 +28,8 @@ use Rattle.step_table.specs.State.{State, start}
 use Rattle.step_table.specs.Steps.{Done, with_promoted, reply_step, answered}
 use Rattle.step_table.specs.Clients.{row_of_request}
 use Rattle.alias_chains.specs.LookingUp.{ends, LookUp, look_up}
-use Rattle.theorem_cache.specs.Kept.{IsKept}
-use Rattle.theorem_cache.proofs.CallerLemmas.{all_among}
+use Rattle.theorem_sound.specs.TheoremCache.Kept.{IsKept}
+use Rattle.theorem_sound.proofs.TheoremCache.CallerLemmas.{all_among}
 use Rattle.theorem_sound.specs.Explains.{Explains}
 use Rattle.theorem_use.specs.Use.{AsksToLookUp}
 use Rattle.theorem_use.specs.Touched.{Touched, carried_in, TouchedInEra, LeadsAlong, AnswersNothing}
@@ -67,7 +67,7 @@ module _ (c : Config) (past : List Step) (w : List (List ℕ)) (s : State) (x : 
   abbrev hits : Bool
   hits = is_hit c past w s x now words unkept more client octets are
 
-  -- the used slots, and the recent pieces that the row keeps
+  -- the used slots, and the recent pieces kept by the row
   pub record IsMessage (d : Done) : Type 0 where
     pub slots : List Slot
     pub uses : UsesThese c past w s x was now words unkept more (step d.actions) slots
@@ -91,11 +91,11 @@ module _ (c : Config) (past : List Step) (w : List (List ℕ)) (s : State) (x : 
     IsText q m pieces text = text ≡ sized_for client (full_text (asked_in (header_in octets) (Some q)) (sections_of m pieces))
         (short_text (asked_in (header_in octets) (Some q)) (sections_of m pieces))
 
-    -- the pieces are those of the look-up, where it ended
+    -- if the look-up ended, the pieces are the look-up's
     abbrev AreAll : Question → List Held → Type 0
     AreAll q pieces = (e : Held) → (look_up c.routes n s.cache.entries most_aliases [] q).met ≡ ends e → pieces ≡ (look_up c.routes n s.cache.entries most_aliases [] q).held ++ e ∷ []
 
-    -- a question that was looked up used the slots of living pieces
+    -- a question's look-up used the slots of living pieces
     looks_up : (slots : List Slot) (k : IsLookedUp c n words s octets slots) → Ends (look_up c.routes n s.cache.entries most_aliases [] k.question) ⊎ AnswersNothing t
         → ((pieces : List Held) → AreAll k.question pieces → (text : List ℕ) → Replies d.actions text → IsText k.question n pieces text)
         → UsesThese c past w s x was now words unkept more t slots
@@ -125,9 +125,9 @@ module _ (c : Config) (past : List Step) (w : List (List ℕ)) (s : State) (x : 
             let as_many = length-map led.pieces (λ (h : Held). h.piece.slot) in
             omega (arith, slots_few, slots_are, as_many)
 
-    -- ---- a message that the cache answers
+    -- ---- a message answered by the cache
 
-    -- its look-up, and the slots used
+    -- the hit's look-up, and the slots used
     abbrev found : Hit → LookUp
     found h = l c past w s x now words unkept more client octets are h
 
@@ -155,7 +155,7 @@ module _ (c : Config) (past : List Step) (w : List (List ℕ)) (s : State) (x : 
             subst (λ (ps : List Held). IsText h.question n ps text) (sym (whole h.end h.ends_so))
             (hit_text c past w s x now words unkept more client octets are h text (subst (λ (z : Done). Replies z.actions text) here replies))
 
-    -- ---- any other message
+    -- ---- a message not answered by the cache
 
     other_message : hits ≡ false → IsMessage d
     other_message not_hit = record { slots = quiet.used; uses = by quiet.fits; keeps = quiet_keeps (UsesFor c n words s octets) quiet }
@@ -183,7 +183,7 @@ module _ (c : Config) (past : List Step) (w : List (List ℕ)) (s : State) (x : 
         by true hit = answered_at_once (is_hit_so c past w s x now words unkept more client octets are hit)
         by false not_hit = other_message not_hit
 
-    -- ---- a question that recent pieces answer
+    -- ---- a question answered by recent pieces
 
     pub recent_is_hit : (ts : List Touched) → TouchedInEra c past was.used ts → (q : Question) → AsksToLookUp c t client q → IsAnsweredByRecent c (moment_at (t ∷ past)) ts 8 q → Hit
     recent_is_hit ts era q asks known = record {

@@ -13,12 +13,12 @@ use Rattle.record_cache.proofs.CallerLemmas.{among_filter}
 use Rattle.step_history.specs.Carried.{then_carried}
 use Rattle.alias_chains.specs.LookingUp.{promoted_all}
 use Rattle.alias_chains.specs.Offering.{ended_so, put, count_of, put_all, unkept_of, held_at}
-use Rattle.theorem_cache.proofs.CallerLemmas.{among_filtered, offers_keep}
+use Rattle.theorem_sound.proofs.TheoremCache.CallerLemmas.{among_filtered, offers_keep}
 use Rattle.theorem_use.specs.Use.{IsOneOf}
 use Rattle.theorem_use.specs.Mirrors.{Mirrors}
 use Rattle.theorem_use.proofs.Putting.{put_mirrors}
 
--- entries that mirror at a moment do so later
+-- entries mirroring at a moment mirror later
 pub mirrors_later : (m n : ℕ) (os es : List Held) → m ≤ n → Mirrors m os es → Mirrors n os es
 mirrors_later m n os es le was = record {
   was_carried = was.was_carried;
@@ -28,18 +28,18 @@ mirrors_later m n os es le was = record {
 
 -- ---- promotions
 
--- one of the first list is one of both together
+-- a member of the first list is in the joined list
 among_front : (h : Held) (xs ys : List Held) → Among h xs → Among h (xs ++ ys)
 among_front h [] ys among = absurd among
 among_front h (x ∷ xs) ys (inl here) = inl here
 among_front h (x ∷ xs) ys (inr later) = inr (among_front h xs ys later)
 
--- and so is one of the second
+-- a member of the second list is in the joined list
 among_back : (h : Held) (xs ys : List Held) → Among h ys → Among h (xs ++ ys)
 among_back h [] ys among = among
 among_back h (x ∷ xs) ys among = inr (among_back h xs ys among)
 
--- one of both together is one of the first or of the second
+-- a member of the joined list is in the first or the second
 among_either : (h : Held) (xs ys : List Held) → Among h (xs ++ ys) → Among h xs ⊎ Among h ys
 among_either h [] ys among = inr among
 among_either h (x ∷ xs) ys (inl here) = inl (inl here)
@@ -71,14 +71,13 @@ promotions_mirror n (slot ∷ used) os es was = promotions_mirror n used os (pro
 
 -- ---- the offers of a reply
 
--- the entries mirror, where memory was found for each offer and all that was carried is of these
--- slots
+-- the entries mirror, if memory was found for each offer and all carried pieces are of these slots
 abbrev MirrorsIn : ℕ → ℕ → List Slot → List Held → List Held → ℕ → Type 0
 MirrorsIn capacity n slots os es k =
     AllByRecursion (λ o. IsOneOf o.piece.slot slots) os → k ≡ 0 → AreHeld (record { capacity = capacity; entries = es }) × Mirrors n os es
 
--- after the offers of an accepted reply the entries mirror what stands, where there are few slots
--- and memory was found
+-- after the offers of an accepted reply the entries mirror the standing pieces, if few slots were
+-- carried and memory was found
 pub offers_mirror : (capacity n : ℕ) (slots : List Slot) (rooms : List Bool) (ps : List Piece) (os es : List Held)
     → length slots ≤ capacity → AllByRecursion (λ o. IsOneOf o.piece.slot slots) (then_carried n ps os)
     → AllByRecursion IsPiece ps → AreHeld (record { capacity = capacity; entries = es })

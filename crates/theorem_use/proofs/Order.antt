@@ -1,4 +1,4 @@
--- Entries behind others: what promotions and the cut to the capacity leave of the order.
+-- Entries after others: the order left by promotions and the cut to the capacity.
 use Rattle.std.proofs.Common.{◌≡◌, ◌∙◌, ℕ, zero, suc, ◌≤◌, List, [], ◌∷◌, ◌++◌, length, take, filter, Bool, true, false, cond, refl, sym, ap, subst, inl, inr, arith}
 use Rattle.std.specs.Prelude.{not}
 use Rattle.std.specs.List.{AllByRecursion}
@@ -9,26 +9,26 @@ use Rattle.record_cache.specs.Entries.{is_slot, of_slot, without, promoted, AreA
 use Rattle.record_cache.specs.Laws.{Among}
 use Rattle.record_cache.proofs.CallerLemmas.{slots_decide, among_filter}
 use Rattle.alias_chains.specs.LookingUp.{promoted_all}
-use Rattle.theorem_cache.proofs.CallerLemmas.{all_among, all_from, among_filtered}
+use Rattle.theorem_sound.proofs.TheoremCache.CallerLemmas.{all_among, all_from, among_filtered}
 use Rattle.theorem_use.specs.Use.{IsOneOf}
 use Rattle.theorem_use.specs.Mirrors.{ComesAfter}
 use Rattle.theorem_use.proofs.Offers.{promoted_among}
 
--- ---- entries behind others
+-- ---- a piece after entries of these slots alone
 
--- a piece behind some entries is an entry
+-- a piece after some entries is an entry
 pub behind_among : (slots : List Slot) (o : Held) (es : List Held) → ComesAfter slots o es → Among o es
 behind_among slots o [] behind = absurd behind
 behind_among slots o (e ∷ es) (inl here) = inl here
 behind_among slots o (e ∷ es) (inr later) = inr (behind_among slots o es later.1)
 
--- it is behind entries of more slots, too
+-- the piece is also after entries of more slots
 behind_more : (slots others : List Slot) (o : Held) (es : List Held) → ((x : Slot) → IsOneOf x slots → IsOneOf x others) → ComesAfter slots o es → ComesAfter others o es
 behind_more slots others o [] over behind = absurd behind
 behind_more slots others o (e ∷ es) over (inl here) = inl here
 behind_more slots others o (e ∷ es) over (inr later) = inr (over e.piece.slot later.0, behind_more slots others o es over later.1)
 
--- it stays behind them where some entries go
+-- the piece stays after entries of these slots alone if some entries go
 pub behind_filter : (test : Held → Bool) (slots : List Slot) (o : Held) (es : List Held) → ComesAfter slots o es → test o ≡ true → ComesAfter slots o (filter test es)
 behind_filter test slots o [] behind passes = absurd behind
 behind_filter test slots o (e ∷ es) behind passes = by (λ later. behind_filter test slots o es later passes) (test e) refl behind
@@ -39,18 +39,18 @@ behind_filter test slots o (e ∷ es) behind passes = by (λ later. behind_filte
     by rest false f (inl here) = absurd (false≢true (sym f ∙ ap test here ∙ passes))
     by rest false f (inr later) = rest later.1
 
--- where others come after it
+-- if entries are added at the end
 behind_before : (slots : List Slot) (o : Held) (xs ys : List Held) → ComesAfter slots o xs → ComesAfter slots o (xs ++ ys)
 behind_before slots o [] ys behind = absurd behind
 behind_before slots o (x ∷ xs) ys (inl here) = inl here
 behind_before slots o (x ∷ xs) ys (inr later) = inr (later.0, behind_before slots o xs ys later.1)
 
--- and where entries of these slots come in front
+-- and if entries of these slots are added in front
 behind_these : (slots : List Slot) (o : Held) (xs ys : List Held) → AllByRecursion (λ e. IsOneOf e.piece.slot slots) xs → ComesAfter slots o ys → ComesAfter slots o (xs ++ ys)
 behind_these slots o [] ys each behind = behind
 behind_these slots o (x ∷ xs) ys each behind = inr (each.0, behind_these slots o xs ys each.1 behind)
 
--- one of entries of these slots is behind such entries alone
+-- a piece among entries of these slots is after such entries alone
 among_behind : (slots : List Slot) (o : Held) (xs : List Held) → AllByRecursion (λ e. IsOneOf e.piece.slot slots) xs → Among o xs → ComesAfter slots o xs
 among_behind slots o [] each among = absurd among
 among_behind slots o (x ∷ xs) each (inl here) = inl here
@@ -58,12 +58,12 @@ among_behind slots o (x ∷ xs) each (inr later) = inr (each.0, among_behind slo
 
 -- ---- promotions
 
--- the entries of a slot are of that slot
+-- the entries of a slot are of the slot
 of_this : (slot : Slot) (slots : List Slot) (es : List Held) → IsOneOf slot slots → AllByRecursion (λ e. IsOneOf e.piece.slot slots) (filter (of_slot slot) es)
 of_this slot slots es one = all_from (λ e. IsOneOf e.piece.slot slots) (filter (of_slot slot) es)
     (λ e among. subst (λ (x : Slot). IsOneOf x slots) ((slots_decide slot e.piece.slot).0 (among_filtered (of_slot slot) e es among).1) one)
 
--- a promotion of one of these slots leaves a piece behind them
+-- after a promotion of a slot in the list, a piece is still after entries of these slots
 promoted_behind : (slot : Slot) (slots : List Slot) (o : Held) (es : List Held) → IsOneOf slot slots → ComesAfter slots o es → ComesAfter slots o (promoted slot es)
 promoted_behind slot slots o es one behind = by (of_slot slot o) refl
   where
@@ -76,7 +76,7 @@ pub promotions_behind : (used slots : List Slot) (o : Held) (es : List Held) →
 promotions_behind [] slots o es each behind = behind
 promotions_behind (slot ∷ used) slots o es each behind = promotions_behind used slots o (promoted slot es) each.1 (promoted_behind slot slots o es each.0 behind)
 
--- where a piece's own slot is promoted, it is behind the promoted ones alone
+-- if a piece's own slot is promoted, the piece is after promoted entries alone
 pub used_behind : (used slots : List Slot) (o : Held) (es : List Held) → AllByRecursion (λ x. IsOneOf x slots) used → Among o es → IsOneOf o.piece.slot used → ComesAfter slots o (promoted_all used es)
 used_behind [] slots o es each among one = absurd one
 used_behind (slot ∷ used) slots o es each among (inl same) =
@@ -87,7 +87,7 @@ used_behind (slot ∷ used) slots o es each among (inr later) = used_behind used
 
 -- ---- the cut to the capacity
 
--- the slots without one
+-- the slots except for `slot`
 abbrev others : Slot → List Slot → List Slot
 others slot slots = filter (λ x. not (is_slot slot x)) slots
 
@@ -128,13 +128,14 @@ one_of_all x slot (y ∷ slots) one = by (one_of_all x slot slots) (is_slot slot
     by rest false (inl same) = inl same
     by rest false (inr later) = inr (rest later)
 
--- where no entry is of a slot, a piece is behind entries of the other slots
+-- if no entry is of a slot, a piece is after entries of the remaining slots
 behind_others : (slot : Slot) (slots : List Slot) (o : Held) (es : List Held) → AllByRecursion (λ e. of_slot slot e ≡ false) es → ComesAfter slots o es → ComesAfter (others slot slots) o es
 behind_others slot slots o [] none behind = absurd behind
 behind_others slot slots o (e ∷ es) none (inl here) = inl here
 behind_others slot slots o (e ∷ es) none (inr later) = inr (one_of_others e.piece.slot slot slots later.0 none.0, behind_others slot slots o es none.1 later.1)
 
--- one of no more slots than the capacity is not cut, where entries of these alone are in front
+-- a piece of no more slots than the capacity is not cut, if entries of these slots alone are in
+-- front
 pub behind_take : (most : ℕ) (slots : List Slot) (o : Held) (es : List Held) → AreApart es → IsOneOf o.piece.slot slots → length slots ≤ most → ComesAfter slots o es → ComesAfter slots o (take most es)
 behind_take zero [] o es apart own few behind = absurd own
 behind_take zero (slot ∷ slots) o es apart own few behind = absurd (omega (arith, few))

@@ -1,4 +1,4 @@
--- One offer keeps `Mirrors`, for each way that it may end.
+-- An offer keeps `Mirrors`, for each end of an offer.
 use Rattle.std.proofs.Common.{◌≡◌, ℕ, suc, ◌≤◌, List, ◌∷◌, length, take_all, Bool, true, false, cond, Some, refl, sym, ap, ◌∙◌, subst, inl, inr, arith}
 use Rattle.std.specs.Prelude.{not, ◌==◌, ◌&&◌, ◌||◌, nat_lt, nat_le, is_none}
 use Rattle.std.specs.List.{list_any, AllByRecursion}
@@ -19,7 +19,7 @@ use Rattle.negative_cache.specs.Entries.{denies}
 use Rattle.negative_cache.specs.Showing.{shown}
 use Rattle.negative_cache.proofs.CallerLemmas.{shown_is_replaced}
 use Rattle.alias_chains.specs.Offering.{shown_by, ended_so, put, count_of, held_at}
-use Rattle.theorem_cache.proofs.CallerLemmas.{all_among, all_from, among_filtered, entry_among, own_key, not_taken, IsShown, shown_leaves}
+use Rattle.theorem_sound.proofs.TheoremCache.CallerLemmas.{all_among, all_from, among_filtered, entry_among, own_key, not_taken, IsShown, shown_leaves}
 use Rattle.theorem_use.specs.Standing.{is_believed, standing}
 use Rattle.theorem_use.specs.Use.{IsOneOf}
 use Rattle.theorem_use.specs.Mirrors.{Mirrors}
@@ -31,7 +31,7 @@ abbrev ends_by : Bool → Bool → Bool → Offered
 ends_by a b d = cond a Outranked (cond b NotKept (cond d Kept Unkept))
 
 module _ (capacity n : ℕ) (p : Piece) (formed : IsPiece p) (es : List Held) (held : AreHeld (record { capacity = capacity; entries = es })) where
-  -- the entries that are left where p shows its name, and p as an entry
+  -- the entries remaining after p shows its name, and p as an entry
   abbrev left : List Held
   left = shown_by p es
 
@@ -41,11 +41,11 @@ module _ (capacity n : ℕ) (p : Piece) (formed : IsPiece p) (es : List Held) (h
   abbrev new : Held
   new = held_at n p
 
-  -- an entry is of p's slot exactly where its slot is the same, letter case aside
+  -- an entry is of p's slot exactly if the slots are equal, letter case aside
   own_slot : (h : Held) → Among h es → of_slot p.slot h ≡ same_slot p.slot h.piece.slot
   own_slot h among = slots_are_the_same p.slot h.piece.slot (own_key p formed) (own_key h.piece (all_among (λ x. IsPiece x.piece) h es held.formed among))
 
-  -- in one slot both are name errors or neither is
+  -- in a slot both pieces are name errors or neither is
   one_kind : (h : Held) → of_slot p.slot h ≡ true → is_name_error p ≡ is_name_error h.piece
   one_kind h own = ap (λ (s : Slot). is_none s.kind) ((slots_decide p.slot h.piece.slot).0 own)
 
@@ -55,7 +55,7 @@ module _ (capacity n : ℕ) (p : Piece) (formed : IsPiece p) (es : List Held) (h
       cond-false (is_name_error h.piece) _ _ (sym (one_kind h own) ∙ set)
       ∙ and_right (same_slot p.slot h.piece.slot) (nat_le h.piece.rank p.rank) (lt-leb h.piece.rank p.rank (ltb-true p.rank h.piece.rank higher))
 
-  -- a piece of p's slot that keeps its place has a higher rank, and p is no name error
+  -- a piece of p's slot keeping its place has a higher rank, and p is no name error
   pub stays_higher : (h : Held) → Among h es → of_slot p.slot h ≡ true → takes_place_of p h.piece ≡ false → (is_name_error p ≡ false) × (nat_lt p.rank h.piece.rank ≡ true)
   stays_higher h among own free = by (is_name_error h.piece) refl
     where
@@ -68,7 +68,7 @@ module _ (capacity n : ℕ) (p : Piece) (formed : IsPiece p) (es : List Held) (h
           let low : nat_le h.piece.rank p.rank ≡ false = sym (λ i. same i && nat_le h.piece.rank p.rank) ∙ sym (cond-false (is_name_error h.piece) _ _ set) ∙ free in
           (one_kind h own ∙ set, lt-ltb p.rank h.piece.rank (leb-false h.piece.rank p.rank low))
 
-  -- an entry that keeps its place is left
+  -- an entry keeping its place remains
   pub stays_left : (h : Held) → Among h es → takes_place_of p h.piece ≡ false → Among h left
   stays_left h among free = by (is_name_error p) refl
     where
@@ -78,35 +78,35 @@ module _ (capacity n : ℕ) (p : Piece) (formed : IsPiece p) (es : List Held) (h
           among_filter (λ e. not (denies p.owner p.slot.class e)) es h among
           (not_from_false (denies p.owner p.slot.class h) (shown_is_replaced p h formed set ∙ and_right (is_name_error h.piece) (takes_place_of p h.piece) free))
 
-  -- a living entry of p's slot outranks it
+  -- a living entry of p's slot with a higher rank outranks p
   pub outranked_by : (h : Held) → Among h left → is_alive n h ≡ true → is_name_error p ≡ false → of_slot p.slot h ≡ true → nat_lt p.rank h.piece.rank ≡ true → is_outranked n p left ≡ true
   outranked_by h among alive set own higher =
       and_from (not (is_name_error p)) (list_any (outranks n p) left) (not_from_false (is_name_error p) set)
       (any_among (outranks n p) h left among (and_from (of_slot p.slot h) (is_alive n h && nat_lt p.rank h.piece.rank) own (and_from (is_alive n h) (nat_lt p.rank h.piece.rank) alive higher)))
 
-  -- an entry of another slot that is left keeps its place
+  -- a remaining entry of another slot keeps its place
   other_stays : (h : Held) → Among h left → of_slot p.slot h ≡ false → takes_place_of p h.piece ≡ false
   other_stays h among other = not_taken p h formed (all_among (λ x. IsPiece x.piece) h left facts.held.formed among) other (facts.over h among)
 
-  -- ---- entries that mirror
+  -- ---- mirroring entries
 
   module _ (os : List Held) (was : Mirrors n os es) where
-    -- an entry that is left was carried
+    -- a remaining entry was carried
     left_carried : (h : Held) → Among h left → Among h (new ∷ os)
     left_carried h among = inr (was.was_carried h (facts.was h among))
 
-    -- an entry that is left and keeps its place stands
+    -- a remaining entry keeping its place stands
     left_stands : (m : ℕ) → n ≤ m → (h : Held) → Among h left → is_alive m h ≡ true → takes_place_of p h.piece ≡ false → Among h (standing m (new ∷ os))
     left_stands m from h among alive free = still_stands m new h os (was.stands m from h (facts.was h among) alive) free
 
-    -- a piece that stood before and keeps its place is left
+    -- an earlier standing piece keeping its place remains
     stood_left : (m : ℕ) → n ≤ m → (h : Held) → StoodBefore m new h os → Among h left
     stood_left m from h before = stays_left h (was.held m from h before.among) before.free
 
     -- ---- p is outranked
 
     module _ (outranked : is_outranked n p left ≡ true) where
-      -- p is no name error, and some entry that is left outranks it
+      -- p is no name error, and a remaining entry outranks p
       parts : (not (is_name_error p) ≡ true) × (list_any (outranks n p) left ≡ true)
       parts = and_parts (not (is_name_error p)) (list_any (outranks n p) left) outranked
 
@@ -116,14 +116,14 @@ module _ (capacity n : ℕ) (p : Piece) (formed : IsPiece p) (es : List Held) (h
       above : IsFound (outranks n p) left
       above = one_found (outranks n p) left parts.1
 
-      -- that entry is of p's slot, alive, and of a higher rank
+      -- the outranking entry is of p's slot, alive, and of a higher rank
       own : of_slot p.slot above.one ≡ true
       own = (and_parts (of_slot p.slot above.one) (is_alive n above.one && nat_lt p.rank above.one.piece.rank) above.passes).0
 
       lives_higher : (is_alive n above.one ≡ true) × (nat_lt p.rank above.one.piece.rank ≡ true)
       lives_higher = and_parts (is_alive n above.one) (nat_lt p.rank above.one.piece.rank) (and_parts (of_slot p.slot above.one) (is_alive n above.one && nat_lt p.rank above.one.piece.rank) above.passes).1
 
-      -- all that is left keeps its place
+      -- each remaining entry keeps its place
       all_stay : (h : Held) → Among h left → takes_place_of p h.piece ≡ false
       all_stay h among = by (of_slot p.slot h) refl
         where
@@ -141,7 +141,7 @@ module _ (capacity n : ℕ) (p : Piece) (formed : IsPiece p) (es : List Held) (h
           not_believed new above.one (standing n os) is_set (was.stands n (omega arith) above.one among lives_higher.0)
           (and_from (same_slot p.slot above.one.piece.slot) (nat_lt p.rank above.one.piece.rank) (sym (own_slot above.one among) ∙ own) lives_higher.1)
 
-      -- and the entries that are left mirror what stands
+      -- and the remaining entries mirror the standing pieces
       outranked_mirror : Mirrors n (new ∷ os) left
       outranked_mirror = record {
         was_carried = left_carried;
@@ -155,7 +155,7 @@ module _ (capacity n : ℕ) (p : Piece) (formed : IsPiece p) (es : List Held) (h
     -- ---- p is not outranked
 
     module _ (highest : is_outranked n p left ≡ false) where
-      -- the entries of other slots that are left stand
+      -- the remaining entries of other slots stand
       others_stand : (m : ℕ) → n ≤ m → (h : Held) → Among h (without p.slot left) → is_alive m h ≡ true → Among h (standing m (new ∷ os))
       others_stand m from h among alive =
           let part = among_filtered (λ x. not (of_slot p.slot x)) h left among in
@@ -165,7 +165,7 @@ module _ (capacity n : ℕ) (p : Piece) (formed : IsPiece p) (es : List Held) (h
       others_carried : (h : Held) → Among h (without p.slot left) → Among h (new ∷ os)
       others_carried h among = left_carried h (among_filtered (λ x. not (of_slot p.slot x)) h left among).0
 
-      -- a piece that stood before and keeps its place is of another slot
+      -- an earlier standing piece keeping its place is of another slot
       stood_others : (m : ℕ) → n ≤ m → (h : Held) → StoodBefore m new h os → Among h (without p.slot left)
       stood_others m from h before = among_filter (λ x. not (of_slot p.slot x)) left h mine (not_from_false (of_slot p.slot h) (false_from_ne_true (of_slot p.slot h) none))
         where
@@ -202,7 +202,7 @@ module _ (capacity n : ℕ) (p : Piece) (formed : IsPiece p) (es : List Held) (h
         ];
       }
 
-      -- otherwise it goes to the front
+      -- otherwise p goes to the front
       front_mirror : Mirrors n (new ∷ os) (new ∷ without p.slot left)
       front_mirror = record {
         was_carried = carried;
@@ -221,7 +221,7 @@ module _ (capacity n : ℕ) (p : Piece) (formed : IsPiece p) (es : List Held) (h
           stands m from h (inl here) alive = subst (λ (x : Held). Among x (standing m (new ∷ os))) here (newest_stands m new os (subst (λ (x : Held). is_alive m x ≡ true) (sym here) alive) believed)
           stands m from h (inr later) alive = others_stand m from h later alive
 
-      -- and nothing is dropped, where all that was carried is of few slots
+      -- and nothing is dropped, if all carried pieces are of few slots
       nothing_dropped : (slots : List Slot) → length slots ≤ capacity → AllByRecursion (λ o. IsOneOf o.piece.slot slots) (new ∷ os) → kept capacity new left ≡ new ∷ without p.slot left
       nothing_dropped slots few each =
           let fits = held_are_few (suc capacity) slots (new ∷ without p.slot left) together (all_from (λ e. IsOneOf e.piece.slot slots) (new ∷ without p.slot left) one_of) in
@@ -242,11 +242,11 @@ module _ (capacity n : ℕ) (p : Piece) (formed : IsPiece p) (es : List Held) (h
           one_of e (inl here) = subst (λ (x : Held). IsOneOf x.piece.slot slots) here each.0
           one_of e (inr later) = all_among (λ o. IsOneOf o.piece.slot slots) e (new ∷ os) each (others_carried e later)
 
-    -- the entries that an offer leaves
+    -- the entries after an offer
     abbrev Leaves : List Held → Type 0
     Leaves after = AreHeld (record { capacity = capacity; entries = after }) × Mirrors n (new ∷ os) after
 
-    -- an offer that found memory keeps `Mirrors`
+    -- an offer with memory found keeps `Mirrors`
     pub put_mirrors : (slots : List Slot) → length slots ≤ capacity → AllByRecursion (λ o. IsOneOf o.piece.slot slots) (new ∷ os) → (room : Bool) → count_of (ended_so n room p es) ≡ 0
         → Leaves (put capacity n room p es)
     put_mirrors slots few each room = by (is_outranked n p left) refl (p.lifetime == 0) refl (room || has_slot p.slot left) refl

@@ -1,4 +1,4 @@
--- Where recent pieces answer a question, its look-up among the entries ends at a set or a denial.
+-- If recent pieces answer a question, its look-up among the entries ends at a set or a denial.
 use Rattle.std.proofs.Common.{◌≡◌, ◌≢◌, ◌∙◌, ℕ, zero, suc, List, filter, Bool, true, false, refl, sym, ap, subst, inl, inr, ◌⊎◌, Option, Some, None}
 use Rattle.std.specs.Prelude.{◌==◌, ◌&&◌, is_none, nat_eq}
 use Rattle.std.specs.List.{AllByRecursion}
@@ -23,19 +23,19 @@ use Rattle.negative_cache.specs.Values.{Found}
 use Rattle.negative_cache.specs.Values as result
 use Rattle.negative_cache.specs.Entries.{are_rows, is_set, is_no_data, denies}
 use Rattle.negative_cache.specs.Finding.{is_of_type, is_on_route, set_for, alias_for, no_data_for, is_denial_for, denial_for, found_or, found}
-use Rattle.cache_laws.proofs.CallerLemmas.{one_slot, slot_test, serves_exactly}
+use Rattle.step_history.proofs.CacheLaws.CallerLemmas.{one_slot, slot_test, serves_exactly}
 use Rattle.step_history.specs.Answers.{IsOf, EndsChain}
 use Rattle.step_history.proofs.CallerLemmas.{target_is}
-use Rattle.theorem_cache.specs.Kept.{IsKept}
-use Rattle.theorem_cache.proofs.CallerLemmas.{all_among}
+use Rattle.theorem_sound.specs.TheoremCache.Kept.{IsKept}
+use Rattle.theorem_sound.proofs.TheoremCache.CallerLemmas.{all_among}
 use Rattle.theorem_use.specs.Use.{AtTarget, EndsOrLeadsOn, LeadsToEnd}
 use Rattle.theorem_use.specs.Touched.{Touched, carried_in, IsLiving}
 use Rattle.theorem_use.specs.Recent.{IsReady, LeadsNowhere, IsReadyEnd, IsReadyAlias, IsAnsweredByRecent}
 use Rattle.theorem_use.proofs.Finding.{found_is, none_passes, none_near, entry_alone, one_type}
 
--- ---- what is found, from the four kinds in order
+-- ---- the finding, from the four kinds in order
 
--- where an alias is found, it leads on; and something is found
+-- the finding answers or leads on, if an alias leads on and something is found
 ends_by : (On : List (List ℕ) → Type 0) (set alias denial error : Option Held)
     → (set ≡ None → (h : Held) → alias ≡ Some h → AtTarget On (target_of h.piece.body))
     → (set ≡ None → alias ≡ None → denial ≡ None → error ≡ None → ⊥)
@@ -46,7 +46,7 @@ ends_by On None None (Some h) error goes some = tt
 ends_by On None None None (Some h) goes some = tt
 ends_by On None None None None goes some = absurd (some refl refl refl refl)
 
--- data of a set is its rows
+-- data of a set is the set's rows
 rows_of : (b : Body) → are_rows b ≡ true → (each : List (List ℕ)) × (b ≡ rows each)
 rows_of (rows each) t = (each, refl)
 rows_of (no_data soa) t = absurd (false≢true t)
@@ -63,7 +63,7 @@ eq_refl x = eq-eqb x x refl
 same_place : (a b : Option ℕ) (place : ℕ) → a ≡ Some place → b ≡ Some place → option_eq nat_eq a b ≡ true
 same_place a b place is was = subst (λ (z : Option ℕ × Option ℕ). option_eq nat_eq z.0 z.1 ≡ true) (λ i. (sym is i, sym was i)) (eq_refl place)
 
--- it is of the question's slot for this type
+-- the piece is of the question's slot for this type
 typed : (q : Question) (kind : ℕ) (h : Held) → IsOf h.piece q.name q.class (Some kind) → is_of_type q kind h ≡ true
 typed q kind h is = slot_test (record { key = q.name; class = q.class; kind = Some kind }) h.piece.slot (record { name = sym is.name; class = sym is.class; kind = sym is.kind })
 
@@ -73,7 +73,7 @@ module _ (c : Config) (differ : AllDiffer c.routes) (m n capacity : ℕ) (ts : L
   lives : (o : Held) → IsReady c.limits.cache n ts o → is_alive n o ≡ true
   lives o ready = lt-ltb n (end_of o) ready.alive
 
-  -- the aliases of a question that are found
+  -- the found aliases of a question
   abbrev is_alias_of : Question → Held → Bool
   is_alias_of q h = is_of_type q 5 h && (is_alive n h && is_set h)
 
@@ -152,7 +152,7 @@ module _ (c : Config) (differ : AllDiffer c.routes) (m n capacity : ℕ) (ts : L
         by (no_data soa) is = no_data_is_found soa is no_denial
         by (denied soa) is = error_is_found soa is no_error
 
-    -- and no alias comes before it
+    -- and without a set no alias is found
     alone : set_for n es q q.kind ≡ None → (h : Held) → alias_for n es q ≡ Some h → ⊥
     alone no_set h is = by ready.alone
       where

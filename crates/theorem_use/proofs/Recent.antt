@@ -29,14 +29,14 @@ use Rattle.step_values.specs.Values.{Event, delivery, Action, Step}
 use Rattle.step_history.specs.History.{is_restart, moment_at, Carries}
 use Rattle.step_history.specs.Carried.{then_carried, NotReplaced}
 use Rattle.step_table.specs.State.{State, start}
-use Rattle.waiting_questions.specs.Values.{Waiting, waits_for}
+use Rattle.step_table.specs.WaitingQuestions.Values.{Waiting, waits_for}
 use Rattle.alias_chains.specs.LookingUp.{LookUp, promoted_all, goes_on}
 use Rattle.alias_chains.specs.Offering.{put_all, unkept_of, held_at}
 use Rattle.step_table.specs.Steps.{Done, with_preferred_server}
 use Rattle.step_table.specs.Row.{effective}
 use Rattle.step_table.specs.Replies.{fate_by, looked_by, used_by, timeout_of, row_of_end, row_of_acceptance, row_of_delivery}
-use Rattle.theorem_cache.specs.Kept.{IsKept, CanBeKept}
-use Rattle.theorem_cache.proofs.CallerLemmas.{all_among, kept_later, promotions_keep_cached, promotions_leave}
+use Rattle.theorem_sound.specs.TheoremCache.Kept.{IsKept, CanBeKept}
+use Rattle.theorem_sound.proofs.TheoremCache.CallerLemmas.{all_among, kept_later, promotions_keep_cached, promotions_leave}
 use Rattle.theorem_sound.specs.Explains.{Explains}
 use Rattle.theorem_sound.proofs.CallerLemmas.{IsHeard, heard, heard_carried, carries, carries_asked, carries_end, offered}
 use Rattle.theorem_use.specs.Use.{IsOneOf}
@@ -50,13 +50,13 @@ use Rattle.theorem_use.proofs.Rows.{IsQuiet, UsesNone, UsesAtEnd, unheard_is, he
 
 -- ---- facts on lists
 
--- a slot of some for which P holds
+-- P holds of a slot in a list if P holds of each
 slot_among : (P : Slot → Type 0) (x : Slot) (slots : List Slot) → IsOneOf x slots → AllByRecursion P slots → P x
 slot_among P x [] one each = absurd one
 slot_among P x (y ∷ slots) (inl same) each = subst P same each.0
 slot_among P x (y ∷ slots) (inr later) each = slot_among P x slots later each.1
 
--- a believed piece is one of those that came
+-- a believed piece is among the newer pieces
 believed_among : (o : Held) (newer older : List Held) → StaysBelieved o newer older → Among o newer
 believed_among o [] older stays = absurd stays
 believed_among o (x ∷ newer) older (inl (same, believed)) = inl same
@@ -69,7 +69,7 @@ touched_itself room (t ∷ ts) o slots (few, touches, inl brings) = all_among (�
 touched_itself room (t ∷ ts) o slots (few, touches, inr (keeps, inl (used, before, was))) = slot_among (λ x. IsOneOf x slots) o.piece.slot t.used used touches.used
 touched_itself room (t ∷ ts) o slots (few, touches, inr (keeps, inr was)) = touched_itself room ts o slots was
 
--- what holds of the slots of carried pieces holds of each piece's slot
+-- a property of the slots of carried pieces is a property of each piece's slot
 slots_before : (P : Slot → Type 0) (n : ℕ) (ps : List Piece) (os : List Held) → AllByRecursion (λ (o : Held). P o.piece.slot) (then_carried n ps os) → AllByRecursion (λ (o : Held). P o.piece.slot) os
 slots_before P n [] os each = each
 slots_before P n (p ∷ ps) os each = (slots_before P n ps (record { piece = p; accepted = n } ∷ os) each).1
@@ -86,12 +86,12 @@ flat_is : {X Y : Type 0} (f : X → List Y) (xs : List X) → flat_map f xs ≡ 
 flat_is f [] = refl
 flat_is f (x ∷ xs) = ap (λ ys. f x ++ ys) (flat_is f xs)
 
--- what holds of each that passes a test holds of their values
+-- if P holds of each passing element's value, P holds of the list of these values
 all_of_passing : {X Y : Type 0} (P : Y → Type 0) (test : X → Bool) (f : X → Y) (xs : List X) → ((x : X) → test x ≡ true → P (f x)) → AllByRecursion P (map f (filter test xs))
 all_of_passing P test f [] each = tt
 all_of_passing P test f (x ∷ xs) each = cond_both (test x) _ _ (λ ys. AllByRecursion P (map f ys)) (λ t. (each x t, all_of_passing P test f xs each)) (λ _. all_of_passing P test f xs each)
 
--- ---- pieces that were kept, later
+-- ---- kept pieces, later
 
 alive_before : (m n : ℕ) (o : Held) → m ≤ n → is_alive n o ≡ true → is_alive m o ≡ true
 alive_before m n o le alive = let ends = ltb-true n (end_of o) alive in lt-ltb m (end_of o) (omega (arith, le, ends))
@@ -105,7 +105,7 @@ keeps_later c m n ts es le was = record {
 -- ---- a step among entries
 
 module _ (c : Config) (n : ℕ) (ts : List Touched) (es : List Held) (was : KeepsRecent c n ts es) (used : List Slot) (unkept : ℕ) where
-  -- a step that carried nothing
+  -- a step carrying nothing
   pub quiet_keeps : KeepsRecent c n (record { carried = []; used = used; unkept = unkept } ∷ ts) (promoted_all used es)
   quiet_keeps = record { kept = promotions_leave (IsKept c (carried_in ts) n) used es was.kept; order = order }
     where
@@ -114,7 +114,7 @@ module _ (c : Config) (n : ℕ) (ts : List Touched) (es : List Held) (was : Keep
       order o slots (few, touches, inr (keeps, inl (own, before, recent))) alive = used_behind used slots o es touches.used (behind_among before o es (was.order o before recent alive)) own
       order o slots (few, touches, inr (keeps, inr recent)) alive = promotions_behind used slots o es touches.used (was.order o slots recent alive)
 
-  -- a step that carried these pieces
+  -- a step carrying these pieces
   module _ (capacity : ℕ) (capacity_is : capacity ≡ c.limits.cache) (rooms : List Bool) (ps : List Piece) (can : AllByRecursion (CanBeKept c) ps)
       (held : AreHeld (record { capacity = capacity; entries = promoted_all used es })) (unkept_is : unkept_of capacity n rooms ps (promoted_all used es) ≡ unkept) where
     abbrev entries : List Held
@@ -162,19 +162,19 @@ module _ (c : Config) (past : List Step) (w : List (List ℕ)) (s : State) (x : 
   later : s.moment ≤ n
   later = omega arith
 
-  -- the entries before the step, at its moment
+  -- the entries before the step, at the step's moment
   pub keeps_before : (ts : List Touched) → TouchedInEra c past was.used ts → KeepsRecent c n ts s.cache.entries
   keeps_before ts is = keeps_later c s.moment n ts s.cache.entries later (was.keeps ts is)
 
-  -- what a step leaves, with the slots that it used
+  -- the recent pieces kept after a step, with the step's used slots
   abbrev pub KeepsAfter : Step → Done → List Slot → Type 0
   KeepsAfter t d slots = (ts : List Touched) → TouchedInEra c (t ∷ past) (slots ∷ was.used) ts → KeepsRecent c d.state.moment ts d.state.cache.entries
 
-  -- the slots that a step used
+  -- the slots used by a step
   abbrev pub UsesThese : Step → List Slot → Type 0
   UsesThese t slots = (ts : List Touched) → TouchedInEra c past was.used ts → Uses c t past ts slots
 
-  -- a step that accepts nothing
+  -- a step accepting nothing
   pub quiet_after : (Fits : List Slot → Type 0) (e : Event) (d : Done) → is_restart (told e d.actions) ≡ false → (quiet : IsQuiet Fits n s.cache d)
       → ((ps : List Piece) → Carries c (told e d.actions) past ps → ⊥) → KeepsAfter (told e d.actions) d quiet.used
   quiet_after Fits e d runs quiet none ts (inl (restarts, is)) = absurd (true≢false (sym restarts ∙ runs))
@@ -191,7 +191,7 @@ module _ (c : Config) (past : List Step) (w : List (List ℕ)) (s : State) (x : 
     abbrev Heard : Type 0
     Heard = IsHeard c past w s x now words unkept more path from octets rooms are
 
-    -- whether it is accepted
+    -- whether the delivery is accepted
     abbrev Decided : Type 0
     Decided = Heard ⊎ (Heard → ⊥)
 
@@ -231,7 +231,7 @@ module _ (c : Config) (past : List Step) (w : List (List ℕ)) (s : State) (x : 
     decide None none = inr (λ h. absurd (let one : Some h.ask ≡ None = sym h.on ∙ none in cc))
     decide (Some a) on = decide_live a on (nat_lt n (timeout_of c a)) refl
 
-    -- what it leaves, and the slots that it used
+    -- the slots used by the delivery, and the recent pieces kept after
     pub record IsDelivered (d : Done) : Type 0 where
       pub slots : List Slot
       pub uses : UsesThese (told event d.actions) slots
@@ -294,7 +294,7 @@ module _ (c : Config) (past : List Step) (w : List (List ℕ)) (s : State) (x : 
         moment_is : d.state.moment ≡ n
         moment_is = ap (λ (y : Done). y.state.moment) accepted ∙ ended.moment_is
 
-        -- what a step carried is the content of this reply
+        -- the pieces carried by the step are the content of this reply
         carried_are : (ps : List Piece) → Carries c t past ps → ps ≡ pieces
         carried_are ps k =
             let other : Heard = heard c past w s x now words unkept more path from octets rooms are d.actions ps k in
@@ -315,7 +315,7 @@ module _ (c : Config) (past : List Step) (w : List (List ℕ)) (s : State) (x : 
             is ∙ ap (λ (os : List Held). record { carried = os; used = ended.used; unkept = unkept } ∷ before) carried_is in
             subst (λ (z : ℕ × List Touched × List Held). KeepsRecent c z.0 z.1 z.2) (λ i. (sym moment_is i, sym here i, sym entries_are i)) after
 
-        -- ---- its look-ups
+        -- ---- the look-ups of the delivery
 
         accepted_asked : carries_it.accepts.asked ≡ h.ask.question
         accepted_asked = carries_asked c past w s x now words unkept more path from octets rooms are h.ask h.on h.message h.live h.whole h.read h.fine d.actions
@@ -330,7 +330,7 @@ module _ (c : Config) (past : List Step) (w : List (List ℕ)) (s : State) (x : 
           stay : (e : Held) → Among e s.cache.entries → NotReplaced e (carried_in ts)
           stay e among = (all_among (IsKept c (carried_in ts) n) e s.cache.entries (keeps_before ts era).kept among).not_replaced
 
-          -- one that waits for the reply wants the same question at the name
+          -- a question waiting for the reply wants the reply's question at the name
           wants : (y : Waiting) → waits_for h.ask.question y ≡ true → asked_at y.wanted name ≡ q
           wants y waits =
               let outer = and_parts (same y.wanted.name h.ask.question.name && (y.wanted.kind == h.ask.question.kind)) (y.wanted.class == h.ask.question.class) waits in

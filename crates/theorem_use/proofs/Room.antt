@@ -8,10 +8,10 @@ use Rattle.record_cache.specs.Values.{Held}
 use Rattle.record_cache.specs.Entries.{of_slot, without, AreApart, AreHeld}
 use Rattle.record_cache.specs.Laws.{Among}
 use Rattle.record_cache.proofs.CallerLemmas.{slots_decide, none_behind, without_are_held}
-use Rattle.theorem_cache.proofs.CallerLemmas.{all_among, all_from, among_filtered}
+use Rattle.theorem_sound.proofs.TheoremCache.CallerLemmas.{all_among, all_from, among_filtered}
 use Rattle.theorem_use.specs.Use.{IsOneOf}
 
--- where no entry is of a slot, forgetting it changes nothing
+-- if no entry is of a slot, forgetting the slot changes nothing
 without_none : (slot : Slot) (xs : List Held) → AllByRecursion (λ e. of_slot slot e ≡ false) xs → without slot xs ≡ xs
 without_none slot [] none = refl
 without_none slot (x ∷ xs) none = rw none.0 (ap (λ es. x ∷ es) (without_none slot xs none.1))
@@ -25,12 +25,12 @@ one_forgotten slot (x ∷ xs) apart = by (one_forgotten slot xs apart.1) (of_slo
     by rest true t = let same : length (without slot xs) ≡ length xs = ap length (without_none slot xs (none_behind slot x xs apart t)) in omega (arith, same)
     by rest false f = omega (arith, rest)
 
--- one of some slots that is not the first is one of the others
+-- a slot in the list, not the first, is among the rest
 among_others : (slot : Slot) (slots : List Slot) (h : Held) → of_slot slot h ≡ false → IsOneOf h.piece.slot (slot ∷ slots) → IsOneOf h.piece.slot slots
 among_others slot slots h other (inl same) = absurd (true≢false (sym ((slots_decide slot h.piece.slot).1 same) ∙ other))
 among_others slot slots h other (inr later) = later
 
--- entries that are held, each of one of these slots, are no more than these
+-- held entries, each of a listed slot, are no more than the slots
 pub held_are_few : (capacity : ℕ) (slots : List Slot) (xs : List Held) → AreHeld (record { capacity = capacity; entries = xs }) → AllByRecursion (λ e. IsOneOf e.piece.slot slots) xs
     → length xs ≤ length slots
 held_are_few capacity [] [] held each = omega arith

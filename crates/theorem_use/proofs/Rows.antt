@@ -29,7 +29,7 @@ use Rattle.step_values.specs.Values.{Action}
 use Rattle.suffix_routes.specs.Serving.{serving_route_of}
 use Rattle.step_values.specs.Requests.{is_taken}
 use Rattle.step_table.specs.State.{State, start}
-use Rattle.waiting_questions.specs.Values.{Waiting, waits_for}
+use Rattle.step_table.specs.WaitingQuestions.Values.{Waiting, waits_for}
 use Rattle.step_table.specs.Attempts.{first_ask_for, plan_of, next_ask}
 use Rattle.alias_chains.specs.LookingUp.{LookUp, look_up, promoted_all}
 use Rattle.step_table.specs.Steps.{Done, Fate, gets, waits, at_moment, idle_step, with_preferred_server, with_promoted, settling_step, still_waiting}
@@ -42,15 +42,14 @@ use Rattle.step_table.specs.Clients.{fate_of, taken_now, row_of_opening, row_of_
 abbrev pub promoted_cache : List Slot → Cache → Cache
 promoted_cache used cache = record { capacity = cache.capacity; entries = promoted_all used cache.entries }
 
--- no piece that came now is kept: some entries are promoted, of slots that fit, and the moment is
--- the step's
+-- no new piece is kept: entries of fitting slots are promoted, and the moment is the step's
 pub record IsQuiet (Fits : List Slot → Type 0) (n : ℕ) (cache : Cache) (d : Done) : Type 0 where
   pub used : List Slot
   pub fits : Fits used
   pub cache_is : d.state.cache ≡ promoted_cache used cache
   pub moment_is : d.state.moment ≡ n
 
--- entries that were promoted before
+-- the entries promoted before
 abbrev IsUsed : (List Slot → Type 0) → Cache → State → Type 0
 IsUsed Fits cache s = (used : List Slot) × Fits used × (s.cache ≡ promoted_cache used cache)
 
@@ -75,7 +74,7 @@ module _ (Fits : List Slot → Type 0) (n : ℕ) (cache : Cache) (s : State) (wa
   pub failure_is : (c : Config) (words : List ℕ) (a : Ask) (f : Failure) → IsQuiet Fits n cache (row_of_failure (start c n words s) a f)
   failure_is c words a f = next_is c words a (after_failure (plan_of c a) f)
 
-  -- ---- a question that waits
+  -- ---- a waiting question
 
   opening_is : (y : Waiting) (r : Option Ask) → IsQuiet Fits n cache (row_of_opening n y s r)
   opening_is y None = record { used = was.0; fits = was.1; cache_is = was.2; moment_is = refl }
@@ -117,7 +116,7 @@ module _ (c : Config) (n : ℕ) (words : List ℕ) (s : State) where
 
   -- ---- a client's message
 
-  -- the message's question was looked up, and these slots were used
+  -- the message's question was looked up, using these slots
   pub record IsLookedUp (octets : List ℕ) (used : List Slot) : Type 0 where
     pub taken : is_taken octets ≡ true
     pub opcode : ((header_in octets).opcode == 0) ≡ true
@@ -128,7 +127,7 @@ module _ (c : Config) (n : ℕ) (words : List ℕ) (s : State) where
     pub on_route : serving_route_of c question.name ≡ Some route
     pub used_is : used ≡ (look_up c.routes n s.cache.entries most_aliases [] question).used
 
-  -- these slots were used for a message
+  -- the slots used for a message
   abbrev pub UsesFor : List ℕ → List Slot → Type 0
   UsesFor octets used = UsesNone used ⊎ IsLookedUp octets used
 
@@ -156,7 +155,7 @@ module _ (c : Config) (n : ℕ) (words : List ℕ) (s : State) where
       asked t z None none = nothing
       asked t z (Some q) reads = cond_both (is_unserved q) _ _ Quiet (λ u. nothing) (λ served. routed t z q reads served (serving_route_of c q.name) refl)
 
-  -- ---- events that bring no reply
+  -- ---- events without a reply
 
   pub path_is : (r : Option Ask) → IsQuiet UsesNone n s.cache (row_of_failed_path (start c n words s) r)
   path_is None = idle_is UsesNone n s.cache s own
@@ -177,7 +176,7 @@ module _ (c : Config) (n : ℕ) (words : List ℕ) (s : State) where
   -- ---- a delivery
 
   module _ (rooms : List Bool) (path : Path) (from : Peer) (octets : List ℕ) where
-    -- a delivery that is not accepted
+    -- a delivery not accepted
     pub unheard_is : ((a : Ask) → ask_on path s.asks ≡ Some a → (m : Message) → nat_lt n (timeout_of c a) ≡ true → judge a from octets ≡ Whole → message_of octets ≡ Ok m → is_lame (walk_of c m a.question a.route).end ≡ false → ⊥)
         → IsQuiet UsesNone n s.cache (row_of_delivery (start c n words s) rooms from octets (ask_on path s.asks))
     unheard_is none = delivered (ask_on path s.asks) refl
@@ -204,7 +203,7 @@ module _ (c : Config) (n : ℕ) (words : List ℕ) (s : State) where
             (λ t. judged a on t (judge a from octets) refl)
             (λ f. idle_is UsesNone n s.cache s own)
 
-    -- one that is accepted is an acceptance
+    -- an accepted delivery is an acceptance
     pub heard_is : (a : Ask) (m : Message) → ask_on path s.asks ≡ Some a → nat_lt n (timeout_of c a) ≡ true → judge a from octets ≡ Whole → message_of octets ≡ Ok m → is_lame (walk_of c m a.question a.route).end ≡ false
         → row_of_delivery (start c n words s) rooms from octets (ask_on path s.asks) ≡ row_of_acceptance (start c n words s) rooms a (walk_of c m a.question a.route)
     heard_is a m on live whole read fine =
@@ -214,7 +213,7 @@ module _ (c : Config) (n : ℕ) (words : List ℕ) (s : State) where
         ∙ ap (row_of_message (start c n words s) rooms a) read
         ∙ cond-false (is_lame (walk_of c m a.question a.route).end) _ _ fine
 
-  -- the end of its walk promotes the entries that look-ups used
+  -- the end of the walk promotes the entries used by look-ups
   abbrev pub UsesAtEnd : Ask → Walk → End → List Slot → Type 0
   UsesAtEnd a w (elsewhere name) used = used ≡ used_by c n s.cache.entries a w s.waiting
   UsesAtEnd a w found used = UsesNone used

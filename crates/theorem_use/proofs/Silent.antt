@@ -1,4 +1,4 @@
--- A message that the cache doesn't answer gets no answer in its step.
+-- A message not answered by the cache gets no answer in its step.
 use Rattle.std.proofs.Common.{◌≡◌, ℕ, List, [], ◌∷◌, length, true, false, refl, inl, inr, Option, Some, None}
 use Rattle.std.specs.Prelude.{◌==◌, nat_le, Result, Ok, Err, map}
 use Rattle.std.proofs.lemmas.Bool.{cond_both}
@@ -23,7 +23,7 @@ use Rattle.step_values.specs.Values.{Action, send_reply}
 use Rattle.step_values.specs.Requests.{is_taken}
 use Rattle.step_history.specs.Sound.{Replies}
 use Rattle.step_table.specs.State.{State, start}
-use Rattle.waiting_questions.specs.Values.{Waiting}
+use Rattle.step_table.specs.WaitingQuestions.Values.{Waiting}
 use Rattle.step_table.specs.Attempts.{first_ask_for}
 use Rattle.alias_chains.specs.LookingUp.{LookUpEnd, ends, too_long, missed, LookUp, look_up}
 use Rattle.step_table.specs.Steps.{Done, with_promoted, asks_by, asks, ask_list, transport_of, sends}
@@ -37,7 +37,7 @@ IsSilent actions = (octets : List ℕ) → Replies actions octets → ⊥
 abbrev IsOther : Action → Type 0
 IsOther a = IsSilent (a ∷ [])
 
--- the reply of a text that fits, or of one that doesn't
+-- the reply of a text, fitting or not
 sends_silent : (why : Why) (x : Waiting) → ((octets : List ℕ) → IsOther (send_reply x.client octets why)) → ((octets : List ℕ) → IsOther (send_reply x.client octets TooLarge))
     → (r : Result (List ℕ) Fault) → IsOther (sends why x r)
 sends_silent why x other large (Ok text) = other text
@@ -57,7 +57,7 @@ asked_silent (Tcp conn) a octets (inl never) = never
 asked_silent (Tcp conn) a octets (inr never) = never
 
 module _ (c : Config) (n : ℕ) (words : List ℕ) where
-  -- ---- a question that waits
+  -- ---- a waiting question
 
   asks_silent : (next : Option Ask) → IsSilent (map asks (ask_list next))
   asks_silent None octets never = never

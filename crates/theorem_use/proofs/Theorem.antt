@@ -1,4 +1,4 @@
--- A row keeps `Mirrors`, and uses what stands.
+-- A row keeps `Mirrors`, and uses the standing pieces.
 use Rattle.std.proofs.Common.{◌≡◌, ◌∙◌, ℕ, ◌^◌, ◌≤◌, List, [], ◌∷◌, ◌++◌, length, Bool, true, false, refl, sym, ap, subst, inl, inr, arith, Option, Some, None, append_assoc}
 use Rattle.std.specs.Prelude.{min, max, reverse}
 use Rattle.std.specs.List.{concat, AllByRecursion}
@@ -25,15 +25,15 @@ use Rattle.step_values.specs.Requests.{is_taken}
 use Rattle.step_history.specs.Carried.{CarriedInEra, then_carried}
 use Rattle.step_history.specs.Sound.{unanswered, AsksIn}
 use Rattle.step_table.specs.State.{State, start}
-use Rattle.waiting_questions.specs.Values.{Waiting}
+use Rattle.step_table.specs.WaitingQuestions.Values.{Waiting}
 use Rattle.alias_chains.specs.LookingUp.{LookUp, look_up, promoted_all}
 use Rattle.alias_chains.specs.Offering.{put_all, unkept_of}
 use Rattle.step_table.specs.Steps.{Done, initial}
 use Rattle.step_table.specs.Row.{is_due_at, Happens, HandsOctets, effective, Row}
 use Rattle.step_table.specs.Replies.{fate_by, row_of_end, row_of_acceptance, row_of_delivery}
 use Rattle.step_table.specs.Clients.{row_of_request}
-use Rattle.theorem_cache.specs.Kept.{CanBeKept}
-use Rattle.theorem_cache.proofs.CallerLemmas.{promotions_keep_cached, same_look_ups}
+use Rattle.theorem_sound.specs.TheoremCache.Kept.{CanBeKept}
+use Rattle.theorem_sound.proofs.TheoremCache.CallerLemmas.{promotions_keep_cached, same_look_ups}
 use Rattle.step_table.proofs.CallerLemmas.{All-weaker}
 use Rattle.theorem_sound.specs.Explains.{Explains}
 use Rattle.theorem_sound.specs.Runs.{Run}
@@ -55,9 +55,9 @@ use Rattle.theorem_use.proofs.Finding.{finds_the_same}
 use Rattle.theorem_use.proofs.Offers.{offers_mirror, promotions_mirror, mirrors_later}
 use Rattle.theorem_use.proofs.Rows.{promoted_cache, IsQuiet, UsesNone, UsesFor, UsesAtEnd, request_is, path_is, tick_is, unheard_is, heard_is, end_is}
 
--- ---- pieces that were carried before a reply
+-- ---- pieces carried before a reply
 
--- those that were there are of few slots where all are
+-- a property of all carried pieces is a property of the pieces carried before
 all_before : (P : Held → Type 0) (n : ℕ) (ps : List Piece) (os : List Held) → AllByRecursion P (then_carried n ps os) → AllByRecursion P os
 all_before P n [] os all = all
 all_before P n (p ∷ ps) os all = (all_before P n ps (record { piece = p; accepted = n } ∷ os) all).1
@@ -65,7 +65,7 @@ all_before P n (p ∷ ps) os all = (all_before P n ps (record { piece = p; accep
 few_before : (most n : ℕ) (ps : List Piece) (os : List Held) → HasFewSlots most (then_carried n ps os) → HasFewSlots most os
 few_before most n ps os few = record { slots = few.slots; few = few.few; each = all_before (λ o. IsOneOf o.piece.slot few.slots) n ps os few.each }
 
--- a step of the era found memory, and so did those before it
+-- a step of the era found memory, and so did the era's steps before
 memory_parts : (t : Step) (past : List Step) → is_restart t ≡ false → FoundMemory (t ∷ past) → (t.outcome.unkept ≡ 0) × FoundMemory past
 memory_parts t past runs (inl restarts) = absurd (true≢false (sym restarts ∙ runs))
 memory_parts t past runs (inr found) = found
@@ -96,7 +96,7 @@ module _ (c : Config) (past : List Step) (w : List (List ℕ)) (s : State) (x : 
   later : s.moment ≤ n
   later = omega arith
 
-  -- the entries before the step mirror what stands
+  -- the entries before the step mirror the standing pieces
   before : (carried : List Held) → CarriedInEra c past carried → HasRoom c past carried → Mirrors n carried s.cache.entries
   before carried is room = mirrors_later s.moment n carried s.cache.entries later (was.mirrors carried is room)
 
@@ -106,7 +106,7 @@ module _ (c : Config) (past : List Step) (w : List (List ℕ)) (s : State) (x : 
   abbrev MirrorsAfter : Event → Done → Type 0
   MirrorsAfter e d = (carried : List Held) → CarriedInEra c (told e d ∷ past) carried → HasRoom c (told e d ∷ past) carried → Mirrors d.state.moment carried d.state.cache.entries
 
-  -- ---- a step that accepts nothing
+  -- ---- a step accepting nothing
 
   quiet_after : (Fits : List Slot → Type 0) (e : Event) (d : Done) → is_restart (told e d) ≡ false → IsQuiet Fits n s.cache d → ((ps : List Piece) → Carries c (told e d) past ps → ⊥) → MirrorsAfter e d
   quiet_after Fits e d runs quiet none carried (inl (restarts, is)) room = absurd (true≢false (sym restarts ∙ runs))
@@ -196,7 +196,7 @@ module _ (c : Config) (past : List Step) (w : List (List ℕ)) (s : State) (x : 
           subst (λ (y : List Held). Mirrors d.state.moment y d.state.cache.entries) (sym here)
           (offered_after ps os carries_it is (same ∙ memory.0) (subst (HasFewSlots c.limits.cache) here room.slots) memory.1)
 
-  -- ---- a question that is known
+  -- ---- a known question
 
   module _ (client : Client) (octets : List ℕ) (are : AreOctets octets) (d : Done)
       (is_row : d ≡ row_of_request (start c n words s) client octets) where
@@ -209,7 +209,7 @@ module _ (c : Config) (past : List Step) (w : List (List ℕ)) (s : State) (x : 
     abbrev Hit : Type 0
     Hit = IsHit c past w s x now words unkept more client octets are
 
-    -- the cache answers it
+    -- the cache answers the question
     known_is_hit : (q : Question) (carried : List Held) → AsksToLookUp c step client q → CarriedInEra c past carried
         → HasRoom c past carried → IsKnown c step past carried q → Hit
     known_is_hit q carried asks is room known = record {
@@ -230,7 +230,7 @@ module _ (c : Config) (past : List Step) (w : List (List ℕ)) (s : State) (x : 
         mirrored : Mirrors n carried s.cache.entries
         mirrored = before carried is room
 
-        -- its look-up among the entries is that among the pieces that stand
+        -- its look-ups among the entries and among the standing pieces are equal
         same : look_up c.routes n s.cache.entries most_aliases [] q ≡ look_up c.routes n
             (standing n carried) most_aliases [] q
         same = same_look_ups c.routes n s.cache.entries (standing n carried)
@@ -250,11 +250,11 @@ module _ (c : Config) (past : List Step) (w : List (List ℕ)) (s : State) (x : 
       → HasRoom c past carried → IsKnown c (told e d) past carried q
       → AnswersAtOnce c (told e d) past (concat w) os client asks.octets
 
-  -- some owners of its replies explain the state after it
+  -- the state after the step is explained, for some owners of its replies
   abbrev IsExplainedAfter : Event → Done → Type 0
   IsExplainedAfter e d = (os : List ℕ) × Explains c (told e d ∷ past) (os ∷ w) d.state
 
-  -- a question that recent pieces answer is answered
+  -- a question answered by recent pieces is answered
   abbrev UsesRecentNow : Event → Done → List ℕ → Type 0
   UsesRecentNow e d os = (ts : List Touched) → TouchedInEra c past has.used ts → (client : Client) (q : Question)
       → (asks : AsksToLookUp c (told e d) client q)
@@ -264,7 +264,7 @@ module _ (c : Config) (past : List Step) (w : List (List ℕ)) (s : State) (x : 
   abbrev IsUsedAfter : Event → Done → Type 0
   IsUsedAfter e d = (os : List ℕ) × Explains c (told e d ∷ past) (os ∷ w) d.state × UsesNow e d os × UsesRecentNow e d os
 
-  -- a message that the cache answers owns its answer; for any other nothing is claimed
+  -- a message answered by the cache owns its answer; for any other message nothing is claimed
   message_after : (client : Client) (octets : List ℕ) (are : AreOctets octets) (d : Done)
       → d ≡ row_of_request (start c n words s) client octets → more ≡ is_due_at c d.state.moment d.state
       → IsExplainedAfter (from_client client octets) d → (b : Bool)
@@ -311,7 +311,7 @@ module _ (c : Config) (past : List Step) (w : List (List ℕ)) (s : State) (x : 
       own asker q asks = subst (λ (z : Client). AsksToLookUp c (told (from_client client octets) d) z q)
           (ap (λ (r : Request). r.client) (sym (sent_is _ _ asks.sends))) asks
 
-  -- nothing is claimed of an event that brings no question
+  -- nothing is claimed of an event without a question
   no_question : (e : Event) (d : Done) → IsExplainedAfter e d → ((r : Request) → request_in e ≡ Some r → ⊥) → IsUsedAfter e d
   no_question e d other none = (
     other.0,
@@ -355,13 +355,13 @@ module _ (c : Config) (past : List Step) (w : List (List ℕ)) (s : State) (x : 
 
   -- ---- recent pieces after each event
 
-  -- the used slots of the step, and the recent pieces that it keeps
+  -- the used slots of the step, and the recent pieces kept
   record IsKeptAfter (e : Event) (d : Done) : Type 0 where
     pub slots : List Slot
     pub uses : UsesThese c past w s x has now words unkept more (told e d) slots
     pub keeps : KeepsAfter c past w s x has now words unkept more (told e d) d slots
 
-  -- an event that brings neither a question nor a reply
+  -- an event with neither a question nor a reply
   kept_quietly : (e : Event) (d : Done) → is_restart (told e d) ≡ false → IsQuiet UsesNone n s.cache d → ((r : Request) → request_in e ≡ Some r → ⊥)
       → ((ps : List Piece) → Carries c (told e d) past ps → ⊥) → IsKeptAfter e d
   kept_quietly e d runs quiet unasked none = record {
@@ -487,7 +487,7 @@ run_fully_explained c s s' (t ∷ steps) past w both run =
           ∙ append_assoc (reverse steps) (t ∷ []) past)) rest.1,
     )
 
--- the questions that own no reply are those that wait
+-- the questions owning no reply are the waiting questions
 few_wait : (c : Config) (past : List Step) (w : List (List ℕ)) (s : State) → Explains c past w s
     → length (unanswered past (concat w)) ≤ c.limits.questions
 few_wait c past w s x =
@@ -498,7 +498,7 @@ few_wait c past w s x =
     let few = x.few in
     omega (arith, one, two, waiting, numbers, few)
 
--- all claims have one list of owners
+-- all claims have a single list of owners
 pub run_serves_truly : (c : Config) (steps : List Step) (s : State) → ComesTo c steps s → ServesTruly c steps
 run_serves_truly c steps s came =
     let all = run_fully_explained c (initial c) s steps [] [] (start_fully_explained c came.config) came.run in
@@ -517,7 +517,7 @@ run_serves_truly c steps s came =
       recent = one.recent.uses;
     }
 
--- ---- runs that go on
+-- ---- continued runs
 
 run_goes_on : (c : Config) (s mid s' : State) (steps more : List Step) → Run c s steps mid → Run c mid more s'
     → Run c s (steps ++ more) s'
@@ -537,12 +537,12 @@ pub run_serves_on : (c : Config) (s s' : State) (more : List Step) → Run c s m
 run_serves_on c s s' more run = λ steps came. run_serves_truly c (steps ++ more) s'
     (comes_on c s s' steps more came run)
 
--- so does one row
+-- a single row serves on truly
 pub row_serves_on : (c : Config) (s : State) (h : StepInput) (o : Outcome) (s' : State) → Row c s h o s'
     → ServesOnTruly c s (record { input = h; outcome = o } ∷ [])
 row_serves_on c s h o s' r = run_serves_on c s s' (record { input = h; outcome = o } ∷ []) (s', r, refl)
 
--- a stored step and its outcome come to the next state
+-- a stored step and its outcome lead to the next state
 pub came_more : (c c' : Config) (steps steps' : List Step) (s s' : State) (h : StepInput) (o : Outcome) → c' ≡ c
     → steps' ≡ steps ++ record { input = h; outcome = o } ∷ []
     → ComesTo c steps s → Row c s h o s' → ComesTo c' steps' s'

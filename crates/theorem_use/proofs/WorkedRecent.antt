@@ -6,8 +6,8 @@ use Rattle.suffix_routes.specs.Routes.{route_of}
 use Rattle.trust_rank.specs.declared.slot.Slot.{Slot}
 use Rattle.trust_rank.specs.Values.{rows, no_data}
 use Rattle.record_cache.specs.Values.{Held}
-use Rattle.cache_laws.specs.Replacing.{AreOfOneSlot, Replaces}
-use Rattle.cache_laws.proofs.CallerLemmas.{keeps_place, replaces_exactly, serves_exactly}
+use Rattle.step_history.specs.CacheLaws.Replacing.{AreOfOneSlot, Replaces}
+use Rattle.step_history.proofs.CacheLaws.CallerLemmas.{keeps_place, replaces_exactly, serves_exactly}
 use Rattle.step_history.specs.Carried.{NotReplaced}
 use Rattle.step_table.proofs.Played.{config}
 use Rattle.theorem_use.specs.Use.{IsOneOf}

@@ -12,7 +12,7 @@ use Rattle.step_history.specs.History.{InEra, ShownAsk, listed, NothingAccepted,
 use Rattle.step_history.specs.Answers.{Leads}
 use Rattle.step_history.specs.Causes.{ClosesAsk}
 use Rattle.step_history.specs.Sound.{unanswered}
-use Rattle.waiting_questions.specs.Values.{Waiting, waits_for}
+use Rattle.step_table.specs.WaitingQuestions.Values.{Waiting, waits_for}
 
 -- P holds of an element
 abbrev pub AnyByRecursion : {X : Type 0} → (X → Type 0) → List X → Type 0

@@ -6,3 +6,4 @@ pub mod Asking
 pub mod Mirrors
 pub mod Service
 pub mod Laws
+pub use Rattle.theorem_sound.specs as TheoremSound

@@ -9,7 +9,7 @@ use Rattle.record_cache.specs.Laws.{Among}
 use Rattle.step_values.specs.Values.{StepInput, Outcome, Step}
 use Rattle.step_history.specs.Carried.{CarriedInEra}
 use Rattle.step_table.specs.State.{State}
-use Rattle.theorem_cache.specs.Kept.{IsKept}
+use Rattle.theorem_sound.specs.TheoremCache.Kept.{IsKept}
 use Rattle.theorem_sound.specs.Explains.{Explains}
 use Rattle.theorem_use.specs.Standing.{standing}
 use Rattle.theorem_use.specs.Use.{IsOneOf, HasRoom, UsesWhatStands}

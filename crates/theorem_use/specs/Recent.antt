@@ -9,8 +9,8 @@ use Rattle.suffix_routes.specs.Values.{Config}
 use Rattle.trust_rank.specs.declared.slot.Slot.{Slot}
 use Rattle.trust_rank.specs.Values.{rows}
 use Rattle.record_cache.specs.Values.{Held}
-use Rattle.cache_laws.specs.Replacing.{AreOfOneSlot, Replaces}
-use Rattle.cache_laws.specs.Serving.{IsServedBy}
+use Rattle.step_history.specs.CacheLaws.Replacing.{AreOfOneSlot, Replaces}
+use Rattle.step_history.specs.CacheLaws.Serving.{IsServedBy}
 use Rattle.step_values.specs.declared.event.Client.{Client}
 use Rattle.step_values.specs.Values.{Step}
 use Rattle.step_history.specs.History.{moment_at}

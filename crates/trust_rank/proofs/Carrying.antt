@@ -1,10 +1,10 @@
--- The finding of a reply at a name is carried for that name.
+-- A reply's finding at a name is carried for that name.
 use Rattle.std.proofs.Common.{◌≡◌, ℕ, Bool, true, false, cond, List, [], ◌∷◌, Option, Some, None, refl, sym, ap, ◌∙◌, subst, ⊎_elim}
 use Rattle.std.specs.Prelude.{◌==◌, ◌&&◌, ◌≢◌, not, is_none}
 use Rattle.std.specs.Option.{IfSome}
 use Rattle.std.proofs.lemmas.Bool.{cases_Bool, cond-true, cond-false, cond_both, and_parts, eqb-true, eq-eqb, false≢true}
-use Rattle.dns_name.specs.Labels.{lowered, same}
-use Rattle.dns_name.proofs.CallerLemmas.{same_decides}
+use Rattle.dns_message.specs.DnsName.Labels.{lowered, same}
+use Rattle.dns_message.proofs.DnsName.CallerLemmas.{same_decides}
 use Rattle.dns_message.specs.Values.{Question, Record}
 use Rattle.dns_message.specs.Messages.{AreShaped}
 use Rattle.suffix_routes.specs.Routes.{route_of}
@@ -25,7 +25,7 @@ on_route_is r name e = place_is (route_of r.config.routes name) r.route e
 
 -- ---- sets
 
--- a set begins with a record that belongs to it
+-- a set's first record belongs to the set
 first_belongs : (q : Question) (records : List Record) (first : Record) (others : List Record) → records_for q records ≡ first ∷ others → is_of q first ≡ true
 first_belongs q [] first others e = absurd (cc)
 first_belongs q (r ∷ records) first others e = ⊎_elim
@@ -47,7 +47,7 @@ belongs q r e =
     let both = and_parts (r.kind == q.kind) (r.class == q.class) all.0 in
     record { kind = eqb-true r.kind q.kind both.0; class = eqb-true r.class q.class both.1; name = (same_decides r.owner q.name).0 all.1 }
 
--- a set of records, as its first and the others
+-- a set of records: the first and the rest
 pub record Begins (rank route : ℕ) (records : List Record) (p : Piece) : Type 0 where
   pub first : Record
   pub others : List Record
@@ -58,7 +58,7 @@ begins : (rank route : ℕ) (records : List Record) (p : Piece) → set_of rank 
 begins rank route [] p e = absurd (cc)
 begins rank route (first ∷ others) p e = record { first = first; others = others; records_are = refl; piece_is = (let is : Some (set_with rank route first others) ≡ Some p = e in cc) }
 
--- the set that the answer section has at a name on the route
+-- the answer section's set at a name on the route
 pub set_carried : (r : Reply) (kind : ℕ) (name : List (List ℕ)) (p : Piece) → AreShaped r.answers → is_on_route r name ≡ true → answer_set r kind name ≡ Some p → IsCarriedFor r name (Some kind) p
 set_carried r kind name p shaped on is =
     let q : Question = at_name r kind name in
@@ -97,10 +97,9 @@ name_error_carried r name shaped on = record {
   on_route = on_route_is r name on;
 }
 
--- ---- what is met at a name
+-- ---- the finding at a name
 
--- what is met is carried for the name; nothing is met at the first name only where that is off the
--- route
+-- a finding is carried for the name; the first name has no finding only if off the route
 abbrev pub Meets : Reply → Bool → List (List ℕ) → AtName → Type 0
 Meets r is_first name met_nothing = is_first ≡ true → is_on_route r name ≡ true → ⊥
 Meets r is_first name (met_set p) = IsCarriedFor r name (Some r.question.kind) p × IsLastBody found p.body
@@ -132,7 +131,7 @@ meets_target : (r : Reply) (is_first : Bool) (name : List (List ℕ)) (p : Piece
 meets_target r is_first name p None e carried follows = tt
 meets_target r is_first name p (Some target) e carried follows = record { carried = carried; leads = e; follows = follows }
 
--- an alias set is there only where aliases are followed
+-- an alias set is found only if aliases are followed
 followed : (b : Bool) (o : Option Piece) (p : Piece) → cond b None o ≡ Some p → (b ≡ false) × (o ≡ Some p)
 followed true o p e = absurd (cc)
 followed false o p e = (refl, e)

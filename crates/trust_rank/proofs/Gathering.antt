@@ -1,4 +1,4 @@
--- One pass over a section gathers the set, and the index on the way.
+-- A single pass over a section gathers the set, with an index.
 use Rattle.std.proofs.Common.{◌≡◌, ℕ, ◌<◌, ◌≤◌, Bool, true, false, cond, List, [], ◌∷◌, ◌++◌, length, take, drop, refl, sym, ap, ◌∙◌, arith}
 use Rattle.std.specs.Prelude.{min, not, ◌||◌}
 use Rattle.std.specs.Bool.{Decides}
@@ -12,14 +12,14 @@ use Rattle.std.proofs.lemmas.List.{take-append-drop, drop_all, drop-append-le, l
 use Rattle.std.proofs.lemmas.List.Folds.{list_any-append}
 use Rattle.std.proofs.lemmas.Map.Text.{is_eq-slice_cmp}
 use Rattle.std.proofs.lemmas.Slice.Eq.{bytes_eq-Decides}
-use Rattle.plain_values.specs.Octets.{same_octets}
-use Rattle.plain_values.proofs.CallerLemmas.{same_octets_decides}
+use Rattle.dns_message.specs.PlainValues.Octets.{same_octets}
+use Rattle.dns_message.proofs.PlainValues.CallerLemmas.{same_octets_decides}
 use Rattle.dns_message.specs.Values.{Question, Record}
 use Rattle.trust_rank.specs.Sets.{is_of, records_for, with_data, with_all_data, seconds_of, lifetime_within}
 use Rattle.trust_rank.specs.Gathering.{few, Indexes, added_all, lowered_by_all}
 use denote.Ref.{Bor}
 
--- ---- one pass gives the set
+-- ---- a single pass gives the set
 
 pub added_all-is : (q : Question) (kept : List (List ℕ)) (rs : List Record) → added_all q kept rs ≡ with_all_data kept (records_for q rs)
 added_all-is q kept [] = refl
@@ -37,7 +37,7 @@ lowered_by_all-is q most (r ∷ rs) = elim (is_of q r) as (λ v. lowered_by_all 
 
 -- ---- the index
 
--- two tests of one fact are one
+-- tests of a single fact are equal
 same_tests : {P : Type 0} (r s : Bool) → Decides r P → Decides s P → r ≡ s
 same_tests true true d e = refl
 same_tests true false d e = sym (e.1 (d.0 refl))
@@ -71,17 +71,17 @@ or_swap false false false e = refl
 or_swap true false c e = absurd cc
 or_swap false true c e = absurd cc
 
--- data that the index has is there already
+-- data in the index is already in the set
 pub known_by_index : (index : BTreeSet (Bor (List ℕ))) (rows : List (List ℕ)) (octets : List ℕ) → Indexes index rows → at octets index ≡ true → rows ≡ with_data rows octets
 known_by_index index rows octets holds there =
     sym (cond-true (has octets rows) rows (rows ++ octets ∷ []) (has_parts octets rows ∙ or_right (has octets (take few rows)) (has octets (drop few rows)) (sym (holds octets) ∙ there)))
 
--- data that neither has is new
+-- data neither among the first few nor in the index is new
 pub new_behind : (index : BTreeSet (Bor (List ℕ))) (rows : List (List ℕ)) (octets : List ℕ) → Indexes index rows → has octets (take few rows) ≡ false → at octets index ≡ false → rows ++ octets ∷ [] ≡ with_data rows octets
 new_behind index rows octets holds unknown missing =
     sym (cond-false (has octets rows) rows (rows ++ octets ∷ []) (has_parts octets rows ∙ or_from (has octets (take few rows)) (has octets (drop few rows)) unknown (sym (holds octets) ∙ missing)))
 
--- of few rows none is after the first few
+-- with fewer rows than the first few, unknown data is new
 pub new_among_few : (rows : List (List ℕ)) (octets : List ℕ) → length rows < few → has octets (take few rows) ≡ false → rows ++ octets ∷ [] ≡ with_data rows octets
 new_among_few rows octets short unknown =
     sym (cond-false (has octets rows) rows (rows ++ octets ∷ []) (has_parts octets rows ∙ or_from (has octets (take few rows)) (has octets (drop few rows)) unknown (ap (has octets) (drop_all few rows (omega arith)))))
@@ -105,7 +105,7 @@ pub not_among : (octets row : List ℕ) (front slice rows : List (List ℕ)) (to
 not_among octets row front slice rows told same_octets_ same_front same_rows is isnt =
     sym (λ i. list_any (same_octets (same_octets_ i)) ((same_front ∙ ap (take few) same_rows) i)) ∙ sym is ∙ isnt
 
--- what could not be added is there, and what was added was not
+-- an element is added exactly if not found
 pub was_there : (added_ found : Bool) → added_ ≡ not found → added_ ≡ false → found ≡ true
 was_there added_ true is isnt = refl
 was_there added_ false is isnt = sym isnt ∙ is

@@ -1,9 +1,9 @@
--- The walk leads from the asked name to its end, and the name servers next to it fit.
+-- The walk leads from the asked name to the walk's end, and the name servers next to the walk fit.
 use Rattle.std.proofs.Common.{◌≡◌, ℕ, zero, suc, ◌≤◌, Bool, true, false, cond, List, [], ◌∷◌, ◌++◌, length, Some, refl, sym, ap, ◌∙◌, subst, arith}
 use Rattle.std.specs.Prelude.{◌==◌, ◌&&◌, not}
 use Rattle.std.specs.List.{list_any, AllByRecursion}
 use Rattle.std.proofs.lemmas.Bool.{cond_both, and_parts, eqb-true, eq-eqb}
-use Rattle.dns_name.specs.Labels.{is_under, lowered}
+use Rattle.dns_message.specs.DnsName.Labels.{is_under, lowered}
 use Rattle.dns_message.specs.Values.{Question, Record}
 use Rattle.dns_message.specs.Messages.{AreShaped}
 use Rattle.suffix_routes.specs.Routes.{route_of}
@@ -14,7 +14,7 @@ use Rattle.trust_rank.specs.Laws.{IsCarriedFor, IsAliasTo, Lead, last_kind, IsLa
 use Rattle.trust_rank.proofs.PieceLaws.{set_shape, set_with_is_piece}
 use Rattle.trust_rank.proofs.Carrying.{Meets, meets, on_route_is}
 
--- the property of a walk from a name, on which this many aliases may be taken
+-- the property of a walk from a name, with at most this many aliases
 abbrev Ends : Reply → ℕ → List (List ℕ) → List Piece → End → Type 0
 Ends r most name pieces found = Closes r most name found pieces
 Ends r most name pieces ends_no_data = Closes r most name ends_no_data pieces
@@ -66,7 +66,7 @@ walk_well r (suc most) is_first name answers authority =
 
 -- ---- the first name
 
--- where the walk goes elsewhere an alias was taken
+-- a walk that goes elsewhere took an alias
 abbrev Moved : Walk → Type 0
 Moved w = (name : List (List ℕ)) → w.end ≡ elsewhere name → 1 ≤ length w.pieces
 
@@ -91,7 +91,7 @@ walk_moved r most name answers authority on = go_moved r name (λ target. walk_f
 
 -- ---- name servers
 
--- the walk itself has none
+-- the walk itself has no name servers
 behind_plain : (p : Piece) (w : Walk) → w.authority ≡ [] → (with_alias p w).authority ≡ []
 behind_plain p w e = cond_both (is_lame w.end) lame_walk (record { pieces = p ∷ w.pieces; authority = w.authority; end = w.end }) (λ (x : Walk). x.authority ≡ []) (λ _. refl) (λ _. e)
 

@@ -4,8 +4,8 @@ use Rattle.std.specs.Prelude.{min, ◌==◌, ◌&&◌, ◌≢◌}
 use Rattle.std.specs.List.{list_any, AllByRecursion}
 use Rattle.std.proofs.lemmas.Bool.{cases_Bool, cond-true, cond-false, cond_both, and_parts, eqb-true}
 use Rattle.std.proofs.lemmas.List.{length-append}
-use Rattle.plain_values.specs.Octets.{same_octets}
-use Rattle.dns_name.specs.Labels.{lowered, same, is_under}
+use Rattle.dns_message.specs.PlainValues.Octets.{same_octets}
+use Rattle.dns_message.specs.DnsName.Labels.{lowered, same, is_under}
 use Rattle.dns_message.specs.Values.{Question, Record}
 use Rattle.dns_message.specs.Data.{IsShaped, HasParts, more_parts}
 use Rattle.dns_message.specs.Shapes.{shape_of, soa_parts}
@@ -62,7 +62,7 @@ set_with_is_piece rank route first others kind is one all = record {
   lifetime = omega (arith, lifetime_short (min longest (seconds_of first.ttl)) others);
 }
 
--- what one pass gathers is a piece
+-- the gathered set is a piece
 pub gathered_is_piece : (rank route : ℕ) (first : Record) (q : Question) (others : List Record) (class kind : ℕ) (owner : List (List ℕ)) (sets : List (List ℕ)) (lifetime : ℕ) → kind ≡ first.kind
     → sets ≡ added_all q (first.rdata ∷ []) others → lifetime ≡ lowered_by_all q (min longest (seconds_of first.ttl)) others → IsShaped first.kind first.rdata → AreShaped others → first.kind ≡ q.kind
     → IsPiece (record { owner = owner; slot = record { key = lowered owner; class = class; kind = Some kind }; body = rows sets; lifetime = lifetime; rank = rank; route = route })
@@ -75,7 +75,7 @@ gathered_is_piece rank route first q others class kind owner sets lifetime same_
       lifetime = omega (arith, b ∙ lowered_by_all-is q (min longest (seconds_of first.ttl)) others, lifetime_short (min longest (seconds_of first.ttl)) (records_for q others));
     }
 
--- and it is the set
+-- the gathered set is the defined set
 pub gathered_is_set : (rank route : ℕ) (first : Record) (q : Question) (others : List Record) (class kind : ℕ) (owner : List (List ℕ)) (sets : List (List ℕ)) (lifetime : ℕ) → class ≡ first.class → kind ≡ first.kind → owner ≡ first.owner
     → sets ≡ added_all q (first.rdata ∷ []) others → lifetime ≡ lowered_by_all q (min longest (seconds_of first.ttl)) others
     → record { owner = owner; slot = record { key = lowered owner; class = class; kind = Some kind }; body = rows sets; lifetime = lifetime; rank = rank; route = route } ≡ set_with rank route first (records_for q others)
@@ -105,7 +105,7 @@ passed_over q all rest others first left is other = sym (cond-false (is_of q fir
 pub none_left : (q : Question) (rank route : ℕ) (all rest : List Record) → records_for q rest ≡ records_for q all → length rest ≡ 0 → None ≡ set_of rank route (records_for q all)
 none_left q rank route all rest left e = ap (λ (rs : List Record). set_of rank route (records_for q rs)) (sym (empty rest e)) ∙ ap (set_of rank route) left
 
--- data that is not of one record leads nowhere
+-- data of no or several records has no target
 pub no_target : (each : List (List ℕ)) → length each ≢ 1 → target_of (rows each) ≡ None
 no_target [] many = refl
 no_target (octets ∷ []) many = absurd (many refl)
@@ -113,7 +113,7 @@ no_target (octets ∷ other ∷ more) many = refl
 
 -- ---- denials
 
--- an SOA that was found is one
+-- the found SOA is an SOA
 pub found_is_soa : (name : List (List ℕ)) (class : ℕ) (authority : List Record) (soa : Record) → AreShaped authority → soa_for name class authority ≡ Some soa → IsSoa soa
 found_is_soa name class [] soa all e = absurd (cc)
 found_is_soa name class (r ∷ records) soa all e = ⊎_elim
@@ -138,12 +138,12 @@ soa_long octets (more_parts a r1 is_a (more_parts b r2 is_b (more_parts c r3 is_
       ap length e3 ∙ length-append c r3,
     )
 
--- the data of an SOA has its last number
+-- an SOA's data has the last number
 pub soa_has_minimum : (soa : Record) → IsSoa soa → 4 ≤ length soa.rdata
 unfolding shape_of
 soa_has_minimum soa is = soa_long soa.rdata is.shaped
 
--- no denial lives longer than a piece may
+-- a denial's lifetime is within the limit
 pub denial_short : (soa : Option Record) → denial_lifetime soa ≤ longest
 denial_short None = omega arith
 denial_short (Some soa) = omega arith

@@ -1,4 +1,4 @@
--- The walk, as one loop goes along it.
+-- The walk, as followed by a loop.
 use Rattle.std.proofs.Common.{◌≡◌, ℕ, suc, Bool, false, List, [], ◌∷◌, ◌++◌, refl, sym, ap, ◌∙◌}
 use Rattle.std.proofs.lemmas.Bool.{cond-false}
 use Rattle.std.proofs.lemmas.List.{append-nil}
@@ -22,7 +22,7 @@ before_end : (ps qs : List Piece) (end : End) → is_lame end ≡ false → befo
 before_end [] qs end e = refl
 before_end (x ∷ ps) qs end e = ap (with_alias x) (before_end ps qs end e) ∙ cond-false (is_lame end) lame_walk (ending (x ∷ (ps ++ qs)) end) e
 
--- on the way: the pieces so far, and what is left from here, are the whole
+-- on the way: the pieces so far and the walk from here are the whole walk
 abbrev pub GoesOn : Reply → List Piece → ℕ → Bool → List (List ℕ) → Walk → Type 0
 GoesOn r ps left is_first name whole = before ps (walk_from r left is_first name) ≡ whole
 
@@ -33,7 +33,7 @@ unfolding walk_from
 walk_here r ps left less is_first name met whole so_far is here =
     ap (λ (m : AtName). before ps (go_on (λ t. walk_from r less false t) name m)) here ∙ sym (ap (λ (n : ℕ). before ps (walk_from r n is_first name)) is) ∙ so_far
 
--- the walk ends here, before this piece or with it
+-- the walk ends here, before or with this piece
 pub ends_here : (r : Reply) (ps qs : List Piece) (left less : ℕ) (is_first : Bool) (name : List (List ℕ)) (met : AtName) (end : End) (whole : Walk) → GoesOn r ps left is_first name whole → left ≡ suc less
     → met ≡ met_at r is_first name → go_on (λ t. walk_from r less false t) name met ≡ ending qs end → is_lame end ≡ false → ending (ps ++ qs) end ≡ whole
 ends_here r ps qs left less is_first name met end whole so_far is here ends other =

@@ -1,10 +1,10 @@
--- The pieces that a reply carries can be written, where the reply can.
+-- The pieces of a reply can be written if the reply can.
 use Rattle.std.proofs.Common.{◌≡◌, ℕ, zero, suc, Bool, true, false, cond, List, [], ◌∷◌, ◌++◌, Option, Some, None, refl, sym, subst}
 use Rattle.std.specs.Prelude.{filter, ◌==◌, ◌&&◌, not, is_none}
 use Rattle.std.specs.List.{find, AllByRecursion}
 use Rattle.std.specs.Option.{IfSome}
 use Rattle.std.proofs.lemmas.Bool.{cond_both}
-use Rattle.dns_name.specs.Labels.{IsName}
+use Rattle.dns_message.specs.DnsName.Labels.{IsName}
 use Rattle.dns_message.specs.Values.{Record}
 use Rattle.dns_message.specs.Written.{IsQuestion, IsRecord}
 use Rattle.dns_message.proofs.CallerLemmas.{data_that_is_a_name}
@@ -47,7 +47,7 @@ answer_writable r kind name can = set_writable (rank_at r name) r.route (records
 soa_can : (r : Reply) (name : List (List ℕ)) → CanBeWritten r → IfSome (soa_for name r.question.class r.authority) IsRecord
 soa_can r name can = one_found IsRecord (is_soa_for name r.question.class) r.authority can.authority
 
--- ---- what is met at a name
+-- ---- the finding at a name
 
 abbrev MetWritable : AtName → Type 0
 MetWritable met_nothing = Unit {0}
@@ -57,7 +57,7 @@ MetWritable (met_name_error p) = IsWritable p
 MetWritable (met_alias p target) = IsWritable p × IsName target
 MetWritable met_lame = Unit {0}
 
--- the name that an alias leads to is one
+-- an alias's target is a name
 target_is_name : (b : Body) (target : List (List ℕ)) → target_of b ≡ Some target → IsName target
 target_is_name (rows []) target is = absurd (cc)
 target_is_name (rows (octets ∷ [])) target is = (data_that_is_a_name octets target is).0

@@ -1,7 +1,7 @@
 -- Denials: RFC 2308 2, 3 and 5.
 use Rattle.std.specs.Prelude.{ℕ, ◌-◌, Bool, ◌==◌, ◌&&◌, min, List, length, Option, Some, None}
 use Rattle.std.specs.List.{find}
-use Rattle.dns_name.specs.Labels.{lowered, is_under}
+use Rattle.dns_message.specs.DnsName.Labels.{lowered, is_under}
 use Rattle.dns_message.specs.Values.{Record}
 use Rattle.dns_message.specs.Numbers.{number32}
 use Rattle.trust_rank.specs.Values.{Body, no_data, denied, Piece}

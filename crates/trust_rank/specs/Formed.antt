@@ -2,7 +2,7 @@
 use Rattle.std.specs.Prelude.{◌≡◌, ◌≢◌, ℕ, ◌≤◌, List, [], Option, Some, None}
 use Rattle.std.specs.List.{AllByRecursion}
 use Rattle.std.specs.Option.{IfSome}
-use Rattle.dns_name.specs.Labels.{lowered}
+use Rattle.dns_message.specs.DnsName.Labels.{lowered}
 use Rattle.dns_message.specs.Values.{Record}
 use Rattle.dns_message.specs.Data.{IsShaped}
 use Rattle.dns_message.specs.Messages.{AreShaped}

@@ -4,7 +4,7 @@ use Rattle.std.specs.List.{list_any}
 use Rattle.std.specs.Ordering.{nat_cmp}
 use Rattle.std.specs.Cmp.Lexicographic.{slice_cmp}
 use Rattle.std.specs.BTreeSet.{BTreeSet, contains_by}
-use Rattle.plain_values.specs.Octets.{same_octets}
+use Rattle.dns_message.specs.PlainValues.Octets.{same_octets}
 use Rattle.dns_message.specs.Values.{Question, Record}
 use Rattle.trust_rank.specs.Sets.{is_of, with_data, seconds_of}
 use denote.Ref.{Bor}

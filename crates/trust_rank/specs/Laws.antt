@@ -1,7 +1,7 @@
 -- Statements about the walk of a reply.
 use Rattle.std.specs.Prelude.{◌≡◌, ◌≢◌, ℕ, ◌<◌, ◌≤◌, true, List, [], ◌∷◌, ◌++◌, length, Option, Some, None}
 use Rattle.std.specs.List.{AllByRecursion}
-use Rattle.dns_name.specs.Labels.{lowered, is_under}
+use Rattle.dns_message.specs.DnsName.Labels.{lowered, is_under}
 use Rattle.dns_message.specs.Values.{Question, Message}
 use Rattle.dns_message.specs.Messages.{HasShapes}
 use Rattle.dns_message.specs.Written.{IsQuestion, IsRecord}

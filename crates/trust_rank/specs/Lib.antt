@@ -7,3 +7,4 @@ pub mod Replacing
 pub mod Formed
 pub mod Writable
 pub mod Laws
+pub use Rattle.suffix_routes.specs as SuffixRoutes

@@ -2,7 +2,7 @@
 -- this rule.
 use Rattle.std.specs.Prelude.{ℕ, Bool, true, false, not, if◌then◌else◌, ◌==◌, ◌&&◌, ◌||◌, nat_le, Option, Some, None}
 use Rattle.std.specs.Prelude.{is_none}
-use Rattle.dns_name.specs.Labels.{same, is_under}
+use Rattle.dns_message.specs.DnsName.Labels.{same, is_under}
 use Rattle.trust_rank.specs.declared.slot.Slot.{Slot}
 use Rattle.trust_rank.specs.Values.{Piece}
 

@@ -2,9 +2,9 @@
 use Rattle.std.specs.Prelude.{ℕ, ◌^◌, Bool, if◌then◌else◌, ◌==◌, ◌&&◌, nat_le, min, List, [], ◌∷◌, ◌++◌, filter, Option}
 use Rattle.std.specs.Prelude.{Some, None}
 use Rattle.std.specs.List.{list_any}
-use Rattle.dns_name.specs.Labels.{lowered, same}
+use Rattle.dns_message.specs.DnsName.Labels.{lowered, same}
 use Rattle.dns_message.specs.Values.{Question, Record}
-use Rattle.plain_values.specs.Octets.{same_octets}
+use Rattle.dns_message.specs.PlainValues.Octets.{same_octets}
 use Rattle.trust_rank.specs.Values.{rows, Piece}
 
 -- the record has the question's type, class and name, letter case aside

@@ -3,7 +3,7 @@
 use Rattle.std.specs.Prelude.{ℕ, zero, suc, Bool, true, false, not, if◌then◌else◌, ◌==◌, ◌&&◌, nat_lt, List, [], ◌∷◌}
 use Rattle.std.specs.Prelude.{◌++◌, length, Option, Some, None, is_none}
 use Rattle.std.specs.List.{list_any}
-use Rattle.dns_name.specs.Labels.{same, is_under}
+use Rattle.dns_message.specs.DnsName.Labels.{same, is_under}
 use Rattle.dns_message.specs.Values.{Question, Record, Message}
 use Rattle.dns_message.specs.Data.{name_of_rdata}
 use Rattle.suffix_routes.specs.Values.{Config}

@@ -1,7 +1,7 @@
 -- The properties of a piece without which no text of it could be read.
 use Rattle.std.specs.Prelude.{◌<◌}
 use Rattle.std.specs.Option.{IfSome}
-use Rattle.dns_name.specs.Labels.{IsName}
+use Rattle.dns_message.specs.DnsName.Labels.{IsName}
 use Rattle.dns_message.specs.Written.{IsRecord}
 use Rattle.trust_rank.specs.Values.{Body, rows, no_data, denied, Piece}
 

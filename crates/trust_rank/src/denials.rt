@@ -2,7 +2,7 @@
 
 ghost use Rattle.std.specs.Prelude.{◌≡◌, Some, None, IfOk, MatchOption, length, ◌≤◌};
 ghost use Rattle.std.specs.Option.{IfSome};
-ghost use Rattle.dns_name.specs.Labels.{is_under};
+ghost use Rattle.dns_message.specs.DnsName.Labels.{is_under};
 ghost use Rattle.dns_message.specs.Messages.{AreShaped};
 ghost use Rattle.trust_rank.specs.Denials.{is_soa_for, soa_for, minimum_of, denial_lifetime, no_data_with};
 ghost use Rattle.trust_rank.specs.Denials.{name_error_with};
@@ -12,9 +12,8 @@ ghost use Rattle.trust_rank.specs.Values.{unboxed};
 use crate::piece::{Body, Piece, boxed_copy};
 use crate::sets::{SetKey, Source, seconds_from};
 use byteorder::{BigEndian, ByteOrder};
-use dns_message::Record;
 use dns_message::types::SOA;
-use dns_name::Name;
+use dns_message::{Name, Record};
 use std::alloc::{AllocError, Allocator};
 
 /// The longest lifetime of a denial, in seconds: three hours.

@@ -13,6 +13,7 @@ mod slot;
 mod walk;
 mod walking;
 
+pub use dns_message::types;
 pub use laws::{pieces_are_writable, servers_fit, walk_leads};
 pub use piece::{Body, Piece};
 pub use reply::target_of;

@@ -6,8 +6,7 @@ ghost use Rattle.trust_rank.specs.Values.{body_of, unboxed};
 
 use crate::rows::Rows;
 use crate::slot::Slot;
-use dns_message::Record;
-use dns_name::Name;
+use dns_message::{Name, Record};
 use std::alloc::{AllocError, Allocator, Global};
 use std::marker::Model;
 use suffix_routes::RouteId;
@@ -44,7 +43,7 @@ pub struct Piece<A: Allocator = Global> {
 }
 
 impl<A: Allocator> Model for Piece<A> {
-    ghost use Rattle.dns_name.specs.Labels.{lowered};
+    ghost use Rattle.dns_message.specs.DnsName.Labels.{lowered};
     ghost use Rattle.trust_rank.specs.Values.{Piece, body_of};
     ghost use Rattle.trust_rank.specs.Formed.{IsPiece};
 

@@ -13,10 +13,9 @@ ghost use Rattle.trust_rank.specs.Walks.{is_referral, denial_at, leads, set_met,
 use crate::denials::{name_error, no_data, soa_for};
 use crate::piece::{Body, Piece};
 use crate::sets::{SetKey, Source, is_same_name, set_among};
-use dns_message::Record;
 use dns_message::codes::NXDOMAIN;
 use dns_message::types::{CNAME, NS};
-use dns_name::Name;
+use dns_message::{Name, Record};
 use std::alloc::{AllocError, Allocator};
 use std::marker::Model;
 use suffix_routes::{Config, RouteId};

@@ -3,8 +3,7 @@
 ghost use Rattle.std.specs.Prelude.{◌≡◌, ◌≢◌, ◌∷◌, [], length, IfOk, MatchOption};
 ghost use Rattle.dns_message.specs.Borrowed.{data_of};
 
-use dns_message::{DataRef, Rdata};
-use plain_values::{FewList, PlainList};
+use dns_message::{DataRef, FewList, PlainList, Rdata};
 use std::alloc::{AllocError, Allocator, Global};
 use std::marker::Model;
 

@@ -10,9 +10,7 @@ use crate::denials::is_name_under;
 use crate::piece::Piece;
 use crate::reply::{Reply, is_name_server};
 use crate::sets::{SetKey, Source, is_same_name, set_with};
-use dns_message::Record;
-use dns_name::Name;
-use plain_values::PlainList;
+use dns_message::{Name, PlainList, Record};
 use std::alloc::{AllocError, Allocator};
 
 /// The sets of the fitting NS records of the authority section whose owners have no piece yet, in

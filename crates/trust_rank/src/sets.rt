@@ -2,8 +2,8 @@
 
 ghost use Rattle.std.specs.Prelude.{◌≡◌, [], ◌∷◌, ◌++◌, min, take, IfOk, OnOk};
 ghost use Rattle.std.specs.List.{list_any};
-ghost use Rattle.plain_values.specs.Octets.{same_octets};
-ghost use Rattle.dns_name.specs.Labels.{same};
+ghost use Rattle.dns_message.specs.PlainValues.Octets.{same_octets};
+ghost use Rattle.dns_message.specs.DnsName.Labels.{same};
 ghost use Rattle.dns_message.specs.Data.{IsShaped};
 ghost use Rattle.dns_message.specs.Messages.{AreShaped};
 ghost use Rattle.trust_rank.specs.Sets.{is_of, records_for, with_data, seconds_of, longest, set_with, set_of};
@@ -11,9 +11,7 @@ ghost use Rattle.trust_rank.specs.Gathering.{Indexes, few, added, added_all, low
 
 use crate::piece::{Body, Piece};
 use crate::rows::Rows;
-use dns_message::{Rdata, Record};
-use dns_name::Name;
-use plain_values::PlainList;
+use dns_message::{Name, PlainList, Rdata, Record};
 use std::alloc::{AllocError, Allocator};
 use std::collections::BTreeSet;
 use std::marker::Model;

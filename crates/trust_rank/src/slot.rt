@@ -1,6 +1,6 @@
 //! The slot of a piece.
 
-use dns_name::NameKey;
+use dns_message::NameKey;
 use std::hash::{Hash, Hasher};
 
 /// The key of a piece: a name and class with a type, or without a type for the denial of a whole
@@ -22,7 +22,7 @@ impl Hash for Slot {
     ghost use Rattle.std.specs.Option.{unwrap_or};
     ghost use Rattle.std.specs.Cmp.Rules.{hashing};
     ghost use Rattle.std.proofs.Common.{rules};
-    ghost use Rattle.dns_name.specs.Key.{key_octets, key_len, end_of_words};
+    ghost use Rattle.dns_message.specs.DnsName.Key.{key_octets, key_len, end_of_words};
 
     ghost hash_input = { λ s. take (end_of_words (key_len s.key)) (key_octets s.key)
         ∷ fed.u64 (65536 * s.class + unwrap_or s.kind 0) };

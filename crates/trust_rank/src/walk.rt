@@ -1,8 +1,7 @@
 //! The walk of a reply to a question: its pieces, and its end.
 
 use crate::piece::Piece;
-use dns_name::Name;
-use plain_values::PlainList;
+use dns_message::{Name, PlainList};
 use std::alloc::{Allocator, Global};
 use std::marker::Model;
 

@@ -10,8 +10,7 @@ use crate::piece::Piece;
 use crate::reply::{AtName, Reply};
 use crate::servers::servers_beside;
 use crate::walk::{End, Walk};
-use dns_message::{Message, Question};
-use plain_values::PlainList;
+use dns_message::{Message, PlainList, Question};
 use std::alloc::{AllocError, Allocator};
 use suffix_routes::{Config, RouteId};
 

@@ -7,7 +7,7 @@ use Rattle.std.proofs.lemmas.List.Elements.{All-contains, Contains-get_or}
 use Rattle.waiting_questions.specs.Settling.{earlier}
 use Rattle.waiting_questions.proofs.Lists.{pairs_head, pairs_tail, from_filter}
 
--- no more come before an earlier place
+-- no more passing keys come before an earlier place
 pub grows : (p : ℕ → Bool) (keys : List ℕ) (a b : ℕ) → a ≤ b → earlier p keys a ≤ earlier p keys b
 grows p keys zero b le = omega arith
 grows p [] (suc a) b le = omega arith
@@ -18,7 +18,7 @@ grows p (key ∷ keys) (suc a) (suc b) le = by (p key) (grows p keys a b (omega 
     by true rest = omega (arith, rest)
     by false rest = rest
 
--- fewer come before one that passes than before a place after it
+-- fewer come before a passing key than before a later place
 pub grows_past : (p : ℕ → Bool) (keys : List ℕ) (a b : ℕ) → a < b → a < length keys → p (slice_index keys a) ≡ true → earlier p keys a < earlier p keys b
 grows_past p [] a b less within passes = absurd (omega (arith, within))
 grows_past p (key ∷ keys) a zero less within passes = absurd (omega (arith, less))
@@ -33,7 +33,7 @@ grows_past p (key ∷ keys) (suc a) (suc b) less within passes = by (p key) (gro
     by true rest = omega (arith, rest)
     by false rest = rest
 
--- no more than all
+-- no more than all passing keys
 pub no_more : (p : ℕ → Bool) (keys : List ℕ) (a : ℕ) → earlier p keys a ≤ length (filter p keys)
 no_more p keys zero = omega arith
 no_more p [] (suc a) = omega arith
@@ -43,12 +43,12 @@ no_more p (key ∷ keys) (suc a) = by (p key) (no_more p keys a)
     by true rest = omega (arith, rest)
     by false rest = rest
 
--- a key is there once
+-- a key occurs once
 not_again : (p : ℕ → Bool) (key : ℕ) (keys : List ℕ) → AllPairs (λ j k. j ≢ k) (key ∷ keys) → (i : ℕ) → i < length (filter p keys) → key ≡ slice_index (filter p keys) i → ⊥
 not_again p key keys apart i within is =
     All-contains (λ k. key ≢ k) keys (slice_index (filter p keys) i) (pairs_head (λ j k. j ≢ k) key keys apart) (from_filter p keys (slice_index (filter p keys) i) (Contains-get_or (filter p keys) i 0 within)) is
 
--- as many of those that pass come before a key as before it among those that pass, and it passes
+-- a key among the passing keys passes, and as many passing keys come before it in the whole list
 pub counted : (p : ℕ → Bool) (keys : List ℕ) (t i : ℕ) → AllPairs (λ j k. j ≢ k) keys → t < length keys → i < length (filter p keys) → slice_index keys t ≡ slice_index (filter p keys) i
     → (earlier p keys t ≡ i) × (p (slice_index keys t) ≡ true)
 counted p [] t i apart t_in i_in is = absurd (omega (arith, t_in))
@@ -69,13 +69,13 @@ counted p (key ∷ keys) t i apart t_in i_in is = by t i (p key) refl (λ u j. c
         let both = rest t i (omega (arith, t_in)) i_in is in
         (ap (λ (c : Bool). length (cond c (key ∷ filter p (take t keys)) (filter p (take t keys)))) e ∙ both.0, both.1)
 
--- ---- a binary search among those that pass
+-- ---- a binary search among the passing keys
 
 module _ (p : ℕ → Bool) (arrivals keys : List ℕ) (start end : ℕ) (low : start ≤ end) (high : end ≤ length keys) (apart : AllPairs (λ j k. j ≢ k) arrivals) (are : filter p arrivals ≡ between start end keys) where
   pub total : length (filter p arrivals) ≡ end - start
   total = ap (λ (ks : List ℕ). length ks) are ∙ length-between keys start end high
 
-  -- the number of keys before one at a place between
+  -- the number of keys before a key between start and end
   pub stands_at : (middle arrival_rank : ℕ) → start ≤ middle → middle < end → arrival_rank < length arrivals → slice_index arrivals arrival_rank ≡ slice_index keys middle → (start + earlier p arrivals arrival_rank ≡ middle) × (p (slice_index arrivals arrival_rank) ≡ true)
   stands_at middle arrival_rank from less within is =
       let back : start + (middle - start) ≡ middle = omega (arith, from) in
@@ -94,7 +94,7 @@ module _ (p : ℕ → Bool) (arrivals keys : List ℕ) (start end : ℕ) (low : 
       let at = stands_at middle place from less within is in
       omega (arith, at.0, grows p arrivals arrival_rank place first)
 
--- the keys between are in turn
+-- the keys between start and end are in the order of taking
 pub listed_at : (arrivals keys : List ℕ) (start end middle key : ℕ) → end ≤ length keys → All (Contains arrivals) (between start end keys) → start ≤ middle → middle < end → key ≡ slice_index keys middle → Contains arrivals key
 listed_at arrivals keys start end middle key high listed from less is =
     let back : start + (middle - start) ≡ middle = omega (arith, from) in
@@ -102,9 +102,9 @@ listed_at arrivals keys start end middle key high listed from less is =
     get_or-between keys start end (middle - start) 0 (omega (arith, from, less)) ∙ ap (slice_index keys) back in
     subst (Contains arrivals) (here ∙ sym is) (listed (middle - start) 0 (omega (arith, length-between keys start end high, from, less)))
 
--- ---- one key more
+-- ---- one more key
 
--- a key that passes goes after those before it that pass
+-- a passing key comes after the passing keys before it
 pub filter_insert_at : (p : ℕ → Bool) (keys : List ℕ) (i key : ℕ) → p key ≡ true → filter p (insert keys i key) ≡ insert (filter p keys) (earlier p keys i) key
 filter_insert_at p keys zero key passes = ap (λ (c : Bool). cond c (key ∷ filter p keys) (filter p keys)) passes
 filter_insert_at p [] (suc i) key passes = ap (λ (c : Bool). cond c (key ∷ []) []) passes
@@ -115,13 +115,13 @@ filter_insert_at p (k ∷ keys) (suc i) key passes = by (p k) (filter_insert_at 
     by true rest = ap (λ (ks : List ℕ). k ∷ ks) rest
     by false rest = rest
 
--- a key that is put back where it was
+-- a key, put back at its place
 pub put_back : (keys : List ℕ) (t key : ℕ) → t < length keys → slice_index keys t ≡ key → insert (remove keys t) t key ≡ keys
 put_back [] t key within is = absurd (omega (arith, within))
 put_back (k ∷ keys) zero key within is = ap (λ (n : ℕ). n ∷ keys) (sym is)
 put_back (k ∷ keys) (suc t) key within is = ap (λ (ks : List ℕ). k ∷ ks) (put_back keys t key (omega (arith, within)) is)
 
--- the keys before it stay
+-- the keys before a removed key stay
 pub front_stays : {X : Type 0} (keys : List X) (t : ℕ) → take t (remove keys t) ≡ take t keys
 front_stays [] zero = refl
 front_stays [] (suc t) = refl

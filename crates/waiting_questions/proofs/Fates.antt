@@ -1,4 +1,4 @@
--- The last of those that wait for a question gets the last fate.
+-- The last question waiting for a question gets the last fate.
 use Rattle.std.proofs.Common.{◌≡◌, ℕ, zero, suc, ◌+◌, ◌<◌, ◌≤◌, List, [], ◌∷◌, ◌++◌, length, take, drop, slice_get, slice_index, true, Option, Some, IsSome, sym, ap, ◌∙◌, refl, subst, arith, length-append}
 use Rattle.std.specs.Prelude.{filter}
 use Rattle.std.specs.List.{Contains, cons_option}
@@ -21,7 +21,7 @@ pub none_left : (q : Question) (fates : List (Option Onward)) (xs : List Waiting
 none_left q [] xs none = all_stay q xs
 none_left q (fate ∷ fates) xs none = absurd (omega (arith, none))
 
--- the first of what waits, under the first keys
+-- the first n waiting questions, under the first n keys
 taken_under : (s : Slab Waiting) (keys : List ℕ) (n : ℕ) → ArePresent s keys → take n (waiting_under s keys) ≡ waiting_under s (take n keys)
 taken_under s keys zero present = refl
 taken_under s [] (suc n) present = refl

@@ -1,4 +1,4 @@
--- Searches of indexed questions, and the indexes after one more or less.
+-- Searches of indexed questions, and the indexes with one question more or less.
 use Rattle.std.proofs.Common.{◌≡◌, ℕ, zero, suc, ◌+◌, ◌-◌, ◌<◌, ◌≤◌, List, [], ◌∷◌, ◌++◌, length, take, drop, slice_get, slice_index, slice_index_or, Bool, true, false, cond, not, nat_lt, Option, Some, None, IsSome, refl, sym, ap, ◌∙◌, subst, subst₂, arith, get_or-take, get_or-drop, length-take, length-drop, lt-ltb, ◌==◌}
 use Rattle.std.specs.Prelude.{filter}
 use Rattle.std.specs.List.{All, AllByRecursion, Contains, insert, remove, remove_range, between, list_any, cons_option}
@@ -20,7 +20,7 @@ use Rattle.waiting_questions.proofs.Keys.{value_of, ArePresent, length_under, at
 use Rattle.waiting_questions.proofs.Numbered.{room_numbered}
 use Rattle.waiting_questions.proofs.Ranges.{waits_at, waits_itself, waits_among, passes_between, goes_behind, goes_before, none_behind, range_left}
 
--- what holds of all that waits holds of what waits under each key
+-- a property of all waiting questions holds of the question under each key
 under_all : (P : Waiting → Type 0) (s : Slab Waiting) (keys : List ℕ) → AllByRecursion P (waiting_under s keys) → All (λ key. (a : Waiting) → get s key ≡ Some a → P a) keys
 under_all P s [] all = λ k d less. absurd (omega arith)
 under_all P s (key ∷ keys) all = by (get s key) refl all (under_all P s keys)
@@ -54,7 +54,7 @@ table_room t t' slab questions arrivals indexed = record {
 }
 
 module _ (s : Slab Waiting) (by_question by_arrival : List ℕ) (indexed : AreIndexed s by_question by_arrival) where
-  -- ---- what waits for a question
+  -- ---- the questions waiting for a question
 
   module _ (q : Question) (i j : ℕ) (range : IsRange (to_question (question_key q)) s by_question i j) where
     pub in_range : filter (waits_at s q) by_arrival ≡ between i j by_question
@@ -69,7 +69,7 @@ module _ (s : Slab Waiting) (by_question by_arrival : List ℕ) (indexed : AreIn
     pub how_many : j - i ≡ length (filter (waits_for q) (waiting_under s by_arrival))
     how_many = sym (length-between by_question i j range.high) ∙ sym (length_under s (between i j by_question) those_present) ∙ ap length those_wait
 
-    -- the first of all comes first of those that wait for the same
+    -- the first of all comes first among the questions waiting for an equal question
     pub first_stands : (x : Waiting) → 0 < length by_arrival → get s (slice_index by_arrival 0) ≡ Some x → waits_for q x ≡ true → (i < length by_question) × (slice_index by_question i ≡ slice_index by_arrival 0)
     first_stands x some e waits = by by_arrival some e in_range
       where
@@ -94,11 +94,11 @@ module _ (s : Slab Waiting) (by_question by_arrival : List ℕ) (indexed : AreIn
       (subst (λ ks. Contains ks (slice_index by_question place)) (indexed.same q)
       (in_filter (waits_at s q) by_question (slice_index by_question place) (Contains-get_or by_question place 0 within) (ap (passes (waits_for q)) a.1 ∙ waits_itself a.0)))
 
-  -- none waits for the question
+  -- no question waits for the question
   pub none_wait : (q : Question) (i : ℕ) → IsRange (to_question (question_key q)) s by_question i i → filter (λ x. not (waits_for q x)) (waiting_under s by_arrival) ≡ waiting_under s by_arrival
   none_wait q i range = filter_fails (waits_for q) (waiting_under s by_arrival) (sym (those_wait q i i range) ∙ ap (waiting_under s) (between_none by_question i))
 
-  -- ---- one more
+  -- ---- one more question
 
   module _ (s' : Slab Waiting) (key : ℕ) (x : Waiting) (was : get s key ≡ None) (updates : Updates s s' key (Some x)) where
     pub put_items : waiting_under s' (by_arrival ++ key ∷ []) ≡ waiting_under s by_arrival ++ x ∷ []
@@ -137,7 +137,7 @@ module _ (s : Slab Waiting) (by_question by_arrival : List ℕ) (indexed : AreIn
       pub put_indexed : AreIndexed s' (insert by_question j key) (by_arrival ++ key ∷ [])
       put_indexed = record { questions = put_questions; arrivals = put_turns; same = put_same }
 
-  -- ---- one less
+  -- ---- one question less
 
   module _ (s' : Slab Waiting) (key : ℕ) (updates : Updates s s' key None) where
     left_same : (q : Question) → filter (waits_at s' q) (others key by_question) ≡ filter (waits_at s' q) (others key by_arrival)
@@ -166,7 +166,7 @@ module _ (s : Slab Waiting) (by_question by_arrival : List ℕ) (indexed : AreIn
           same_under s s' (remove by_arrival arrival_rank) (subst (λ ks. All (λ n. get s' n ≡ get s n) ks) (sym (removed by_arrival arrival_rank key t_in t_is indexed.arrivals.apart)) (stay_others IsByTaken s s' by_arrival indexed.arrivals key updates))
           ∙ remove_under s by_arrival arrival_rank indexed.arrivals.present t_in
 
-  -- one that waits for the question goes: the others are the same
+  -- without a question waiting for q, the questions not waiting for q stay
   pub others_stay : (q : Question) (i p arrival_rank : ℕ) → IsRange (to_question (question_key q)) s by_question i (suc p) → i ≤ p → arrival_rank < length by_arrival → slice_index by_question p ≡ slice_index by_arrival arrival_rank
       → filter (λ x. not (waits_for q x)) (remove (waiting_under s by_arrival) arrival_rank) ≡ filter (λ x. not (waits_for q x)) (waiting_under s by_arrival)
   others_stay q i p arrival_rank range le t_in one =
@@ -180,12 +180,12 @@ one_more : (n : ℕ) → nat_lt 0 n ≡ nat_lt 1 (suc n)
 one_more zero = refl
 one_more (suc n) = lt-ltb 0 (suc n) (omega arith) ∙ sym (lt-ltb 1 (suc (suc n)) (omega arith))
 
--- a byte for a truth
+-- the octet of a boolean
 pub byte_is : (b : Bool) → bool_byte b ≡ cond b 1 0
 byte_is true = refl
 byte_is false = refl
 
--- whether any but the first passes, by the number that do
+-- whether any but the first passes, by the number that pass
 pub any_but_first : (p : Waiting → Bool) (x : Waiting) (xs : List Waiting) (count : ℕ) → count ≡ length (filter p (x ∷ xs)) → list_any p xs ≡ nat_lt (cond (p x) 1 0) count
 any_but_first p x xs count is = by (p x) is
   where
@@ -196,7 +196,7 @@ any_but_first p x xs count is = by (p x) is
 -- ---- by the functions
 
 module _ (s : Slab Waiting) (by_question by_arrival : List ℕ) (indexed : AreIndexed s by_question by_arrival) where
-  -- the first of all, by the key of its question
+  -- the first of all, by its question's key
   pub first_stands_at : (x : Waiting) → slice_get (waiting_under s by_arrival) 0 ≡ Some x → (key : QuestionKey) → key ≡ question_key x.wanted → (i j : ℕ) → IsRange (to_question key) s by_question i j
       → (i < length by_question) × (slice_index by_question i ≡ slice_index by_arrival 0)
   first_stands_at x first key is i j range =
@@ -208,7 +208,7 @@ module _ (s : Slab Waiting) (by_question by_arrival : List ℕ) (indexed : AreIn
       by [] e = absurd (none-some x e)
       by (key ∷ keys) e = omega arith
 
-  -- those of a question, by its key
+  -- the questions waiting for q, by the key of q
   pub those_at : (q : Question) (key : QuestionKey) → key ≡ question_key q → (i j : ℕ) → IsRange (to_question key) s by_question i j
       → ArePresent s (between i j by_question) × (waiting_under s (between i j by_question) ≡ filter (waits_for q) (waiting_under s by_arrival))
   those_at q key is i j range =
@@ -224,10 +224,10 @@ module _ (s : Slab Waiting) (by_question by_arrival : List ℕ) (indexed : AreIn
       by [] count e = absurd (none-some x e)
       by (y ∷ xs) count e = ap (λ z. nat_lt (cond (waits_for q z) 1 0) (j - i)) (sym (same_Some y x e)) ∙ sym (any_but_first (waits_for q) y xs (j - i) count)
 
--- ---- those of a question go
+-- ---- the questions waiting for q go
 
--- The questions from one place up to an end have gone, though their keys are still in the order of
--- questions. Those that are left and wait for the same question come before them, from place i on.
+-- The questions from `place` up to `end` have gone, with their keys still in the order of
+-- questions. The questions left and waiting for q come before them, from place i on.
 pub record IsEnding (q : Question) (left : List Waiting) (s : Slab Waiting) (by_question by_arrival : List ℕ) (i place end : ℕ) : Type 0 where
   pub indexed : AreIndexed s (remove_range by_question place end) by_arrival
   pub waiting : filter (λ x. not (waits_for q x)) (waiting_under s by_arrival) ≡ left
@@ -236,7 +236,7 @@ pub record IsEnding (q : Question) (left : List Waiting) (s : Slab Waiting) (by_
   pub high : end ≤ length by_question
 
 module _ (q : Question) (left : List Waiting) (s : Slab Waiting) (by_question by_arrival : List ℕ) (i place end : ℕ) (ending : IsEnding q left s by_question by_arrival i place end) where
-  -- the newest of those that are left
+  -- the newest question left
   module _ (key : ℕ) (some : i < place) (read : key ≡ slice_index_or by_question (place - 1) key) where
     abbrev keys : List ℕ
     keys = remove_range by_question place end
@@ -270,7 +270,7 @@ module _ (q : Question) (left : List Waiting) (s : Slab Waiting) (by_question by
           high = ending.high;
         }
 
-  -- none is left
+  -- no question is left
   module _ (none : place ≤ i) (rest : List ℕ) (are : rest ≡ remove_range by_question i end) where
     at_start : place ≡ i
     at_start = omega (arith, none, ending.range.low)

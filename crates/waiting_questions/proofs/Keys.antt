@@ -1,4 +1,4 @@
--- The questions under keys, and one key more or less.
+-- Questions under keys, and one key more or less.
 use Rattle.std.proofs.Common.{◌≡◌, ◌≢◌, ℕ, zero, suc, ◌<◌, ◌≤◌, ◌==◌, List, [], ◌∷◌, ◌++◌, length, take, drop, slice_get, slice_index, Bool, true, false, cond, not, Option, Some, None, IsSome, refl, sym, ap, ◌∙◌, subst, arith}
 use Rattle.std.specs.Prelude.{filter}
 use Rattle.std.specs.List.{All, AllPairs, insert, remove, cons_option}
@@ -11,7 +11,7 @@ use Rattle.waiting_questions.specs.Values.{Waiting}
 use Rattle.waiting_questions.specs.Indexes.{waiting_under, passes, AreKeys}
 use Rattle.waiting_questions.proofs.Lists.{all_insert, pairs_insert, others, others_differ}
 
--- the value of an option that has one
+-- the value of an option with a value
 pub value_of : {X : Type 0} (o : Option X) → IsSome o → (x : X) × (o ≡ Some x)
 value_of None some = absurd (false≢true some)
 value_of (Some x) some = (x, refl)
@@ -22,9 +22,9 @@ is_some_of o x e = subst (λ o. IsSome o) (sym e) refl
 abbrev pub ArePresent : Slab Waiting → List ℕ → Type 0
 ArePresent s keys = All (λ key. IsSome (get s key)) keys
 
--- ---- what waits
+-- ---- the waiting questions
 
--- as many as keys
+-- as many questions as keys
 pub length_under : (s : Slab Waiting) (keys : List ℕ) → ArePresent s keys → length (waiting_under s keys) ≡ length keys
 length_under s [] present = refl
 length_under s (k ∷ keys) present =
@@ -41,23 +41,23 @@ at_under s (k ∷ keys) (suc i) present within =
     ap (λ o. slice_get (cons_option o (waiting_under s keys)) (suc i)) a.1
     ∙ at_under s keys i (All-tail (λ j. IsSome (get s j)) k keys present) (omega arith)
 
--- what waits under the first key is the first
+-- the question under the first key is the first
 pub first_under : (s : Slab Waiting) (keys : List ℕ) (key : ℕ) (x : Waiting) → slice_get keys 0 ≡ Some key → get s key ≡ Some x → slice_get (waiting_under s keys) 0 ≡ Some x
 first_under s [] key x first here = absurd (none-some key first)
 first_under s (k ∷ keys) key x first here = ap (λ o. slice_get (cons_option o (waiting_under s keys)) 0) (ap (get s) (same_Some k key first) ∙ here)
 
--- a place among what waits is one among the keys
+-- a place among the questions is a place among the keys
 pub place_under : (s : Slab Waiting) (keys : List ℕ) (items : List Waiting) (place : ℕ) → ArePresent s keys → waiting_under s keys ≡ items → place < length items → place < length keys
 place_under s keys items place present are within = omega (arith, within, length_under s keys present, ap length are)
 
--- slabs with equal values under these keys have equal questions there
+-- slabs with equal values under these keys have equal questions under them
 pub same_under : (s s' : Slab Waiting) (keys : List ℕ) → All (λ j. get s' j ≡ get s j) keys → waiting_under s' keys ≡ waiting_under s keys
 same_under s s' [] same = refl
 same_under s s' (k ∷ keys) same =
     ap (λ o. cons_option o (waiting_under s' keys)) (All-head (λ j. get s' j ≡ get s j) k keys same)
     ∙ ap (cons_option (get s k)) (same_under s s' keys (All-tail (λ j. get s' j ≡ get s j) k keys same))
 
--- those that pass a test
+-- the questions that pass a test
 pub filter_under : (p : Waiting → Bool) (s : Slab Waiting) (keys : List ℕ) → filter p (waiting_under s keys) ≡ waiting_under s (filter (λ j. passes p (get s j)) keys)
 filter_under p s [] = refl
 filter_under p s (k ∷ keys) = by (get s k) refl (filter_under p s keys)
@@ -72,12 +72,12 @@ filter_under p s (k ∷ keys) = by (get s k) refl (filter_under p s keys)
     by None e rest = rest
     by (Some a) e rest = inner a (p a) e rest
 
--- one more, last
+-- a further question, last
 pub put_under : (s s' : Slab Waiting) (keys : List ℕ) (key : ℕ) (x : Waiting) → waiting_under s' keys ≡ waiting_under s keys → get s' key ≡ Some x → waiting_under s' (keys ++ key ∷ []) ≡ waiting_under s keys ++ x ∷ []
 put_under s s' keys key x same e =
     filter_map-append (get s') keys (key ∷ []) ∙ ap (λ xs. xs ++ waiting_under s' (key ∷ [])) same ∙ ap (λ o. waiting_under s keys ++ cons_option o []) e
 
--- one less
+-- one question less
 pub remove_under : (s : Slab Waiting) (keys : List ℕ) (i : ℕ) → ArePresent s keys → i < length keys → waiting_under s (remove keys i) ≡ remove (waiting_under s keys) i
 remove_under s [] i present within = absurd (omega arith)
 remove_under s (k ∷ keys) zero present within =
@@ -89,7 +89,7 @@ remove_under s (k ∷ keys) (suc i) present within =
     ∙ ap (λ xs. a.0 ∷ xs) (remove_under s keys i (All-tail (λ j. IsSome (get s j)) k keys present) (omega arith))
     ∙ sym (ap (λ o. remove (cons_option o (waiting_under s keys)) (suc i)) a.1)
 
--- ---- one key more
+-- ---- one more key
 
 module _ (L : Waiting → Waiting → Type 0) (s s' : Slab Waiting) (keys : List ℕ) (are : AreKeys L s keys) (key : ℕ) (x : Waiting) (was : get s key ≡ None) (updates : Updates s s' key (Some x)) where
   pub not_among : All (λ j. j ≢ key) keys

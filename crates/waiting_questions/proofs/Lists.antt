@@ -18,7 +18,7 @@ module _ {X : Type 0} where
   pub pairs_tail : (R : X → X → Type 0) (x : X) (xs : List X) → AllPairs R (x ∷ xs) → AllPairs R xs
   pairs_tail R x xs all i j d less within = all (suc i) (suc j) d (omega arith) (omega arith)
 
-  -- an element between those that it may follow and those that may follow it
+  -- an element, put between its predecessors and its successors
   pub pairs_insert : (R : X → X → Type 0) (xs : List X) (i : ℕ) (y : X) → i ≤ length xs → AllPairs R xs → All (λ x. R x y) (take i xs) → All (R y) (drop i xs) → AllPairs R (insert xs i y)
   pairs_insert R xs zero y within all before later = AllPairs-cons R y xs later all
   pairs_insert R [] (suc i) y within all before later = absurd (omega arith)
@@ -65,7 +65,7 @@ module _ {X : Type 0} where
       by false true e f rest = cond-false (p x) (x ∷ filter p (filter q xs)) (filter p (filter q xs)) e ∙ rest
       by false false e f rest = rest
 
-  -- one more, after all that pass if it passes itself
+  -- one more element, after all passing elements if the element passes
   pub filter_insert : (p : X → Bool) (xs : List X) (i : ℕ) (y : X) → i ≤ length xs → (p y ≡ true → All (λ x. p x ≡ false) (drop i xs)) → filter p (insert xs i y) ≡ filter p xs ++ filter p (y ∷ [])
   filter_insert p xs zero y within none = by (p y) refl
     where
@@ -79,7 +79,7 @@ module _ {X : Type 0} where
       by true rest = ap (λ ys. x ∷ ys) rest
       by false rest = rest
 
-  -- those that pass are from place i up to place j
+  -- the passing elements are from place i up to place j
   pub filter_between : (p : X → Bool) (xs : List X) (i j : ℕ) (d : X) → i ≤ j → j ≤ length xs → ((k : ℕ) → k < i → p (slice_index_or xs k d) ≡ false) → ((k : ℕ) → i ≤ k → k < j → p (slice_index_or xs k d) ≡ true)
       → ((k : ℕ) → j ≤ k → k < length xs → p (slice_index_or xs k d) ≡ false) → filter p xs ≡ between i j xs
   filter_between p xs i j d low high before among later =
@@ -97,7 +97,7 @@ module _ {X : Type 0} where
       ∙ append-nil (filter p (between i j xs))
       ∙ middle
 
-  -- whether one passes, and the number that do
+  -- whether any element passes, by the number that pass
   pub any_counts : (p : X → Bool) (xs : List X) → list_any p xs ≡ nat_lt 0 (length (filter p xs))
   any_counts p [] = refl
   any_counts p (x ∷ xs) = by (p x) (any_counts p xs)
@@ -106,7 +106,7 @@ module _ {X : Type 0} where
       by true rest = sym (lt-ltb 0 (suc (length (filter p xs))) (omega arith))
       by false rest = rest
 
-  -- where none passes, all that fail are all
+  -- if no element passes, the failing elements are all
   pub filter_fails : (p : X → Bool) (xs : List X) → filter p xs ≡ [] → filter (λ x. not (p x)) xs ≡ xs
   filter_fails p [] none = refl
   filter_fails p (x ∷ xs) none = by (p x) refl none (filter_fails p xs)
@@ -115,13 +115,13 @@ module _ {X : Type 0} where
       by true e some rest = let long : suc (length (filter p xs)) ≡ 0 = ap length some in absurd (omega (arith, long))
       by false e some rest = ap (λ ys. x ∷ ys) (rest some)
 
-  -- one that fails is left out
+  -- a failing element is left out
   pub filter_remove : (p : X → Bool) (xs : List X) (i : ℕ) (x : X) → i < length xs → slice_get xs i ≡ Some x → p x ≡ false → filter p (remove xs i) ≡ filter p xs
   filter_remove p [] i x within is fails = absurd (omega arith)
   filter_remove p (y ∷ xs) zero x within is fails = sym (cond-false (p y) (y ∷ filter p xs) (filter p xs) (ap p (same_Some y x is) ∙ fails))
   filter_remove p (y ∷ xs) (suc i) x within is fails = ap (λ ys. cond (p y) (y ∷ ys) ys) (filter_remove p xs i x (omega arith) is fails)
 
-  -- an element that passes is among those that do
+  -- a passing element is among the passing elements
   passed : (p : X → Bool) (xs : List X) (i : ℕ) (x : X) → i < length xs → slice_index_or xs i x ≡ x → p x ≡ true → Contains (filter p xs) x
   passed p [] i x within is passes = absurd (omega arith)
   passed p (y ∷ xs) zero x within is passes = by (p y) (ap p is ∙ passes)
@@ -143,13 +143,13 @@ module _ {X : Type 0} where
 
   -- ---- without a range
 
-  -- the last of a front goes
+  -- the front without its last element
   front_left : (xs : List X) (p : ℕ) → p < length xs → remove (take (suc p) xs) p ≡ take p xs
   front_left [] p within = absurd (omega arith)
   front_left (x ∷ xs) zero within = refl
   front_left (x ∷ xs) (suc p) within = ap (λ ys. x ∷ ys) (front_left xs p (omega arith))
 
-  -- the range begins one place earlier
+  -- the range begins a place earlier
   pub range_grows : (xs : List X) (p j : ℕ) → p < length xs → remove (remove_range xs (suc p) j) p ≡ remove_range xs p j
   range_grows xs p j within =
       remove-append_left (take (suc p) xs) (drop j xs) p (omega (arith, length-take (suc p) xs))
@@ -161,7 +161,7 @@ module _ {X : Type 0} where
 
 -- ---- keys
 
--- the other keys
+-- all keys but one
 abbrev pub others : ℕ → List ℕ → List ℕ
 others key keys = filter (λ k. not (k == key)) keys
 

@@ -1,4 +1,4 @@
--- Keys with numbers: the keys alone, one more or less, and comparisons that the numbers decide.
+-- Keys with numbers: the keys alone, one key more or less, and comparisons decided by the numbers.
 use Rattle.std.proofs.Common.{◌≡◌, ℕ, suc, ◌+◌, ◌<◌, ◌≤◌, ◌==◌, List, ◌∷◌, ◌++◌, length, take, drop, slice_get, slice_index, slice_index_or, Bool, true, false, if◌then◌else◌, Some, None, IsSome, Ordering, Less, Equal, Greater, nat_cmp, is_eq, refl, sym, ap, ap₂, ◌∙◌, subst, arith}
 use Rattle.std.specs.Ordering.{ordering_then}
 use Rattle.std.specs.List.{between, insert, remove, remove_range}
@@ -26,7 +26,7 @@ length_keys items = length-map items (λ item. item.key)
 pub key_at : (items : List NumberedKey) (i : ℕ) (d : NumberedKey) (e : ℕ) → i < length items → slice_index_or (keys_of items) i e ≡ (slice_index_or items i d).key
 key_at items i d e within = get_or-map (λ (item : NumberedKey). item.key) items i d e within
 
--- as an index reads it
+-- the key read by an index
 pub key_read : (items : List NumberedKey) (i : ℕ) (item : NumberedKey) → i < length items → item ≡ slice_index_or items i item → item.key ≡ slice_index_or (keys_of items) i item.key
 key_read items i item within read = ap (λ (n : NumberedKey). n.key) read ∙ sym (key_at items i item item.key within)
 
@@ -49,7 +49,7 @@ keys_remove items i = keys_remove_range items i (suc i)
 abbrev IsNumber : Slab Waiting → NumberedKey → Type 0
 IsNumber s item = (a : Waiting) → get s item.key ≡ Some a → (question_key a.wanted).number ≡ item.number
 
--- one key more
+-- one more key
 pub numbers_put : (s s' : Slab Waiting) (items : List NumberedKey) → ArePresent s (keys_of items) → AreNumbered s items → (x : Waiting) (item : NumberedKey) → get s item.key ≡ None → Updates s s' item.key (Some x)
     → item.number ≡ (question_key x.wanted).number → (i : ℕ) → AreNumbered s' (insert items i item)
 numbers_put s s' items present numbered x item was updates number i = all_insert (IsNumber s') items i item new old
@@ -72,7 +72,7 @@ room_numbered s s' items items' slab same numbered =
     let more : AreNumbered roomy items = numbered in
     subst (λ (z : Slab Waiting). AreNumbered z items') (sym slab) (subst (AreNumbered roomy) (sym same) more)
 
--- a key less
+-- one key less
 pub numbers_left : (s s' : Slab Waiting) (items : List NumberedKey) (key : ℕ) → Updates s s' key None → AreNumbered s items → AreNumbered s' items
 numbers_left s s' items key updates numbered k d within a e =
     numbered k d within a (sym (updates.others (slice_index_or items k d).key (λ same. none-some a (sym updates.changed ∙ ap (get s') (sym same) ∙ e))) ∙ e)
@@ -82,7 +82,7 @@ numbers_without s items i j numbered = All-append (IsNumber s) (take i items) (d
 
 -- ---- comparisons
 
--- an order that distinguishes two decides alone
+-- an order decides alone unless equal
 then_alone : (o r : Ordering) → is_eq o ≡ false → ordering_then o r ≡ o
 then_alone Less r apart = refl
 then_alone Equal r apart = absurd (true≢false apart)
@@ -91,7 +91,7 @@ then_alone Greater r apart = refl
 numbers_tell : (a b : ℕ) → is_eq (nat_cmp a b) ≡ (a == b)
 numbers_tell a b = grind (arith, nat_tests)
 
--- by the number alone, where it differs
+-- the number decides alone if different
 by_item : (s : Slab Waiting) (q : QuestionKey) (item : NumberedKey) (a : Waiting) → get s item.key ≡ Some a → (question_key a.wanted).number ≡ item.number → compared_item q s item ≡ to_question q a
 by_item s q item a here number = by (item.number == q.number) refl
   where
@@ -102,14 +102,14 @@ by_item s q item a here number = by (item.number == q.number) refl
         ∙ sym (then_alone (nat_cmp (question_key a.wanted).number q.number) _ (numbers_tell (question_key a.wanted).number q.number ∙ ap (λ n. n == q.number) number ∙ e))
 
 module _ (s : Slab Waiting) (items : List NumberedKey) (present : ArePresent s (keys_of items)) (numbered : AreNumbered s items) (q : QuestionKey) where
-  -- the number decides as the question would
+  -- the numbered key and the question decide alike
   pub told_alike : (k : ℕ) (d : NumberedKey) (e : ℕ) → k < length items → compared_item q s (slice_index_or items k d) ≡ compared (to_question q) (get s (slice_index_or (keys_of items) k e))
   told_alike k d e within =
       let v = value_of (get s (slice_index_or (keys_of items) k e)) (present k e (omega (arith, within, length_keys items))) in
       let here : get s (slice_index_or items k d).key ≡ Some v.0 = ap (get s) (sym (key_at items k d e within)) ∙ v.1 in
       by_item s q (slice_index_or items k d) v.0 here (numbered k d within v.0 here) ∙ sym (ap (compared (to_question q)) v.1)
 
-  -- as an index reads the item
+  -- the item read by an index
   pub told_by_item : (k : ℕ) (item : NumberedKey) → k < length items → item ≡ slice_index_or items k item → compared_item q s item ≡ compared (to_question q) (get s (slice_index (keys_of items) k))
   told_by_item k item within read = ap (compared_item q s) read ∙ told_alike k item 0 within
 
@@ -117,7 +117,7 @@ module _ (s : Slab Waiting) (items : List NumberedKey) (present : ArePresent s (
   parted_items test parted i j d le within passed =
       ap test (told_alike i d 0 (omega arith)) ∙ parted i j 0 le (omega (arith, within, length_keys items)) (sym (ap test (told_alike j d 0 within)) ∙ passed)
 
-  -- a search of the numbered keys ends where one of the keys would
+  -- a search of the numbered keys ends like a search of the keys
   pub point_of_keys : (test : Ordering → Bool) (i : ℕ) → i ≤ length items
       → IsPartitionPoint (λ item. test (compared_item q s item) ≡ true) (λ item. test (compared_item q s item) ≡ false) items i
       → IsPartitionPoint (λ key. test (compared (to_question q) (get s key)) ≡ true) (λ key. test (compared (to_question q) (get s key)) ≡ false) (keys_of items) i
@@ -129,7 +129,7 @@ module _ (s : Slab Waiting) (items : List NumberedKey) (present : ArePresent s (
 
 -- ---- places
 
--- those whose keys are from place i up to place j
+-- the questions with keys from place i up to place j
 module _ (s : Slab Waiting) (items : List NumberedKey) (i j : ℕ) (are : ArePlaces s items i j) (those : List Waiting) (is : waiting_under s (between i j (keys_of items)) ≡ those) (place : ℕ) (within : place < length those) where
   among : place < length (between i j (keys_of items))
   among = place_under s (between i j (keys_of items)) those place are.present is within

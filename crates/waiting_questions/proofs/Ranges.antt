@@ -1,4 +1,4 @@
--- Ranges of keys: what a search finds, and what passes in it.
+-- Ranges of keys: the result of a search, and the passing keys.
 use Rattle.std.proofs.Common.{◌≡◌, ◌≢◌, ◌⊎◌, ℕ, suc, ◌+◌, ◌<◌, ◌≤◌, List, length, slice_index, slice_index_or, Bool, true, false, Some, None, Ordering, Less, Equal, Greater, is_eq, is_lt, is_le, refl, sym, ap, ◌∙◌, inl, inr, arith}
 use Rattle.std.specs.Prelude.{filter}
 use Rattle.std.specs.Ordering.{ordering_reverse}
@@ -20,7 +20,7 @@ use Rattle.waiting_questions.proofs.Keys.{value_of, ArePresent}
 
 -- ---- tests by a comparison
 
--- of two that are in order, the first comes no later than what the second comes before
+-- if b follows a in order, and b is below q, a is below q
 below : (a b : Waiting) (q : QuestionKey) → IsByQuestion a b → is_lt (to_question q b) ≡ true → is_lt (to_question q a) ≡ true
 below a b q in_order lower = by (key_cmp (question_key a.wanted) (question_key b.wanted)) (to_question q b) refl refl lower
   where
@@ -103,7 +103,7 @@ module _ (s : Slab Waiting) (keys : List ℕ) (are : AreKeys IsByQuestion s keys
       by (inr le) = le
       by (inl less) = absurd (false≢true (sym (upper.1 j 0 (omega arith) (omega (arith, i_in))) ∙ is_lt_le (told (slice_index keys j)) (lower.0 j 0 (omega arith) less)))
 
-  -- the first that comes after what is sought
+  -- the first key above the sought question
   pub ends_at : (j : ℕ) → j < length keys → ((k : ℕ) → k < j → is_le (told (slice_index keys k)) ≡ true) → is_le (told (slice_index keys j)) ≡ false
       → IsPartitionPoint (λ key. is_le (told key) ≡ true) (λ key. is_le (told key) ≡ false) keys j
   ends_at j j_in before later = (
@@ -115,11 +115,11 @@ module _ (s : Slab Waiting) (keys : List ℕ) (are : AreKeys IsByQuestion s keys
       by k d from within false e = e
       by k d from within true e = absurd (false≢true (sym (ap (λ key. is_le (told key)) (get_or_default keys j d 0 j_in) ∙ later) ∙ upper_parted j k d from within e))
 
-  -- those that are no earlier, and no later, up to here
+  -- keys below the sought question are no higher, up to here
   pub not_behind : (i : ℕ) → ((k : ℕ) → k < i → is_lt (told (slice_index keys k)) ≡ true) → (k : ℕ) → k < i → is_le (told (slice_index keys k)) ≡ true
   not_behind i lower k less = is_lt_le (told (slice_index keys k)) (lower k less)
 
--- ---- what passes
+-- ---- the passing keys
 
 pub waits_by_key : (q : Question) (a : Waiting) → waits_for q a ≡ is_eq (to_question (question_key q) a)
 waits_by_key q a = same_question_by_keys a.wanted q
@@ -150,9 +150,9 @@ module _ (s : Slab Waiting) (keys : List ℕ) (present : ArePresent s keys) (q :
       waits_among
       (λ k from within. test k Greater within (λ a. range.later k a from within))
 
--- ---- one key more
+-- ---- one more key
 
--- the range of what is put ends where it goes
+-- the range of a new question ends at the question's place
 module _ (s : Slab Waiting) (keys : List ℕ) (present : ArePresent s keys) (x : Waiting) (i j : ℕ) (range : IsRange (to_question (question_key x.wanted)) s keys i j) where
   pub goes_behind : (k : ℕ) (a : Waiting) → k < j → get s (slice_index keys k) ≡ Some a → IsByQuestion a x
   goes_behind k a less e is = by (cases_lt k i)
@@ -167,7 +167,7 @@ module _ (s : Slab Waiting) (keys : List ℕ) (present : ArePresent s keys) (x :
       let back : key_cmp (question_key x.wanted) (question_key a.wanted) ≡ Less = question_keys_are_ordered.antisymm (question_key x.wanted) (question_key a.wanted) ∙ ap ordering_reverse o in
       cc
 
-  -- also where it goes among those of its question
+  -- also for a place among the question's range
   pub goes_before_those : (k : ℕ) (a : Waiting) → i ≤ k → k < length keys → get s (slice_index keys k) ≡ Some a → IsByQuestion x a
   goes_before_those k a from within e is = by (cases_lt k j)
     where
@@ -178,7 +178,7 @@ module _ (s : Slab Waiting) (keys : List ℕ) (present : ArePresent s keys) (x :
           cc
       by (inr later) = goes_before k a later within e is
 
-  -- none that waits for the same comes after it
+  -- no question waiting for an equal question comes later
   pub none_behind : (q : Question) → waits_for q x ≡ true → (k : ℕ) → j ≤ k → k < length keys → waits_at s q (slice_index keys k) ≡ false
   none_behind q waits k from within =
       let a = value_of (get s (slice_index keys k)) (present k 0 within) in
@@ -194,7 +194,7 @@ module _ (s : Slab Waiting) (keys : List ℕ) (present : ArePresent s keys) (x :
 
 -- ---- one key less
 
--- the last of a range goes
+-- the last key of a range goes
 pub range_left : (L : Waiting → Waiting → Type 0) (s s' : Slab Waiting) (keys : List ℕ) (f : Waiting → Ordering) (i p : ℕ) → AreKeys L s keys → i ≤ p → IsRange f s keys i (suc p) → Updates s s' (slice_index keys p) None → IsRange f s' (remove keys p) i p
 range_left L s s' keys f i p are le range updates =
     let short : length (remove keys p) + 1 ≡ length keys = length-remove keys p (omega (arith, range.high)) in

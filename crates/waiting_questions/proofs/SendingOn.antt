@@ -1,4 +1,4 @@
--- A question that is sent on is sorted by its new question, and keeps its turn.
+-- A question sent on is sorted by its new question, and keeps its turn.
 use Rattle.std.proofs.Common.{◌≡◌, ◌≢◌, ℕ, zero, suc, ◌+◌, ◌-◌, ◌<◌, ◌≤◌, List, [], ◌∷◌, ◌++◌, length, take, drop, slice_get, slice_index, slice_index_or, Bool, true, false, Option, Some, None, IsSome, Ordering, Less, Equal, Greater, is_eq, refl, sym, ap, ◌∙◌, subst, arith, get_or-take, get_or-drop, length-take, length-drop}
 use Rattle.std.specs.Prelude.{filter}
 use Rattle.std.specs.List.{All, AllPairs, Contains, insert, remove, between, cons_option}
@@ -25,14 +25,14 @@ eq_from Less t = absurd (false≢true t)
 eq_from Equal t = refl
 eq_from Greater t = absurd (false≢true t)
 
--- the question that one waits for, by its own key
+-- if y waits for q, waiting for q is waiting for y's question
 same_waits : (q : Question) (y : Waiting) → waits_for q y ≡ true → (o : Option Waiting) → passes (waits_for q) o ≡ passes (waits_for y.wanted) o
 same_waits q y waits None = refl
 same_waits q y waits (Some a) =
     let same : key_cmp (question_key y.wanted) (question_key q) ≡ Equal = eq_from (key_cmp (question_key y.wanted) (question_key q)) (sym (waits_by_key q y) ∙ waits) in
     waits_by_key q a ∙ ap is_eq (sym (alike_right question_keys_are_ordered (question_key y.wanted) (question_key q) (question_key a.wanted) same)) ∙ sym (waits_by_key y.wanted a)
 
--- ---- one more, in a turn of its own
+-- ---- one more question, in its own turn
 
 module _ (s s' : Slab Waiting) (p t : List ℕ) (indexed : AreIndexed s p t) (key : ℕ) (y : Waiting) (was : get s key ≡ None) (updates : Updates s s' key (Some y)) (i j : ℕ) (range : IsRange (to_question (question_key y.wanted)) s p i j) (arrival_rank at : ℕ) (arrival_rank_in : arrival_rank ≤ length t)
     (at_is : at ≡ i + earlier (waits_at s y.wanted) t arrival_rank) where
@@ -44,7 +44,7 @@ module _ (s s' : Slab Waiting) (p t : List ℕ) (indexed : AreIndexed s p t) (ke
   at_within : at ≤ length p
   at_within = omega (arith, at_in, range.high)
 
-  -- the number of its question's keys before it
+  -- the number of earlier keys of its question
   before_it : earlier (waits_at s y.wanted) p at ≡ earlier (waits_at s y.wanted) t arrival_rank
   before_it =
       let long : length (take at p) ≡ at = omega (arith, length-take at p, at_within) in
@@ -98,14 +98,14 @@ module _ (s s' : Slab Waiting) (p t : List ℕ) (indexed : AreIndexed s p t) (ke
     same = placed_same;
   }
 
--- ---- taken out, and put back
+-- ---- removed, and put back
 
 got : (keys : List ℕ) (i : ℕ) → i < length keys → slice_get keys i ≡ Some (slice_index keys i)
 got [] i within = absurd (omega (arith, within))
 got (k ∷ keys) zero within = refl
 got (k ∷ keys) (suc i) within = got keys i (omega (arith, within))
 
--- the question under a key is another now
+-- the question under a key changes
 changed_under : (s s' : Slab Waiting) (key : ℕ) (y : Waiting) (keys : List ℕ) (arrival_rank : ℕ) → ArePresent s keys → AllPairs (λ j k. j ≢ k) keys → arrival_rank < length keys → slice_index keys arrival_rank ≡ key → get s' key ≡ Some y → ((n : ℕ) → n ≢ key → get s' n ≡ get s n)
     → waiting_under s' keys ≡ with_at (waiting_under s keys) arrival_rank (Some y)
 changed_under s s' key y [] arrival_rank present apart within is now stays = absurd (omega (arith, within))
@@ -130,7 +130,7 @@ module _ (s s1 : Slab Waiting) (p t : List ℕ) (indexed : AreIndexed s p t) (ke
   out_questions = taken_out.questions
 
   module _ (i j : ℕ) (range : IsRange (to_question (question_key y.wanted)) s1 (remove p place) i j) where
-    -- those of its new question, in turn
+    -- the keys of its new question, in turn
     pub in_turns : filter (waits_at s1 y.wanted) t ≡ between i j (remove p place)
     in_turns =
         sym (filter_remove (waits_at s1 y.wanted) t arrival_rank key t_in (got t arrival_rank t_in ∙ ap (λ (n : ℕ). Some n) t_is) (ap (passes (waits_for y.wanted)) gone.changed))

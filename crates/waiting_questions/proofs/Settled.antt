@@ -14,16 +14,16 @@ pub all_stay : (q : Question) (xs : List Waiting) → settled q [] xs ≡ xs
 all_stay q [] = refl
 all_stay q (x ∷ xs) = refl
 
--- one that waits for another question stays
+-- a question waiting for another question stays
 passed_over : (q : Question) (fates : List (Option Onward)) (x : Waiting) (xs : List Waiting) → waits_for q x ≡ false → settled q fates (x ∷ xs) ≡ x ∷ settled q fates xs
 passed_over q [] x xs other = ap (λ (ys : List Waiting). x ∷ ys) (sym (all_stay q xs))
 passed_over q (fate ∷ fates) x xs other = cond-false (waits_for q x) (cons_option (left_by fate x) (settled q fates xs)) (x ∷ settled q (fate ∷ fates) xs) other
 
--- one that waits for it gets the first fate
+-- a question waiting for q gets the first fate
 gets_first : (q : Question) (fate : Option Onward) (fates : List (Option Onward)) (x : Waiting) (xs : List Waiting) → waits_for q x ≡ true → settled q (fate ∷ fates) (x ∷ xs) ≡ cons_option (left_by fate x) (settled q fates xs)
 gets_first q fate fates x xs waits = cond-true (waits_for q x) (cons_option (left_by fate x) (settled q fates xs)) (x ∷ settled q (fate ∷ fates) xs) waits
 
--- the last fate is that of the one before which as many wait as there are other fates
+-- the last fate is for the question with as many waiting before it as there are other fates
 pub last_fate : (q : Question) (fates : List (Option Onward)) (fate : Option Onward) (xs : List Waiting) (t : ℕ) (x : Waiting) → slice_get xs t ≡ Some x → waits_for q x ≡ true
     → length (filter (waits_for q) (take t xs)) ≡ length fates → settled q (fates ++ fate ∷ []) xs ≡ settled q fates (with_at xs t (left_by fate x))
 last_fate q fates fate [] t x is waits count = absurd (none-some x is)
@@ -48,7 +48,7 @@ last_fate q fates fate (y ∷ xs) (suc t) x is waits count = by fates (waits_for
         ∙ ap (λ (ys : List Waiting). y ∷ ys) (rest fs count)
         ∙ sym (passed_over q fs y (with_at xs t (left_by fate x)) e)
 
--- where each has the fate that a function gives, each gets it
+-- if a function gives each fate, each question gets its fate
 pub settled_each : (q : Question) (f : Waiting → Option Onward) (xs : List Waiting) → settled q (map f (filter (waits_for q) xs)) xs ≡ settled_by q f xs
 settled_each q f [] = refl
 settled_each q f (x ∷ xs) = by (waits_for q x) refl (settled_each q f xs)

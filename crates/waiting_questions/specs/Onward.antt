@@ -1,7 +1,7 @@
 -- Redirected questions, which wait for the question at the end of their aliases.
 use Rattle.std.specs.Prelude.{List, [], Option, Some, None}
 use Rattle.dns_message.specs.Values.{Question}
-use Rattle.record_cache.specs.Values.{Held}
+use Rattle.answer_builder.specs.RecordCache.Values.{Held}
 use Rattle.waiting_questions.specs.Values.{Waiting}
 
 -- the held aliases, and the question that is wanted now

@@ -2,7 +2,7 @@
 use Rattle.std.specs.Prelude.{ℕ, Bool, List}
 use Rattle.dns_message.specs.Values.{Question}
 use Rattle.dns_message.specs.Questions.{same_question}
-use Rattle.record_cache.specs.Values.{Held}
+use Rattle.answer_builder.specs.RecordCache.Values.{Held}
 use Rattle.answer_builder.specs.Values.{Asked}
 use Rattle.step_values.specs.declared.event.Client.{Client}
 

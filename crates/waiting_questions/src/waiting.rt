@@ -3,9 +3,8 @@
 ghost use Rattle.std.specs.Prelude.{◌≡◌, ◌<◌, ◌≤◌, length, IfOk};
 ghost use Rattle.waiting_questions.specs.Onward.{waits_on};
 
-use answer_builder::AskedRef;
+use answer_builder::{AskedRef, Held};
 use dns_message::{Header, Question, QuestionRef};
-use record_cache::Held;
 use std::alloc::{AllocError, Allocator, Global};
 use std::marker::Model;
 use step_values::Client;

@@ -2,7 +2,7 @@
 use Rattle.std.specs.Prelude.{◌≡◌, ℕ, ◌-◌, ◌^◌, ◌<◌, ◌≤◌, Bool, List, [], ◌∷◌, ◌++◌, Option, Some, None, option_map}
 use Rattle.std.specs.Prelude.{Result, Ok, Err}
 use Rattle.suffix_routes.specs.declared.peer.Peer.{Peer}
-use Rattle.outstanding.specs.declared.ask.Path.{Path}
+use Rattle.step_values.specs.Outstanding.declared.ask.Path.{Path}
 use Rattle.step_values.specs.Values.{Action}
 use Rattle.wires.specs.declared.wire.Arrival.{Arrival as OwnedArrival}
 use Rattle.wires.specs.declared.wire.Arrival.TheVariants.{Nothing, ClientDatagram, ClientStream, ClientClosed}

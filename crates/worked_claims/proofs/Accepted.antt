@@ -1,5 +1,5 @@
--- A worked reply, whole: the ask that it matches, why it is accepted, and the pieces that it
--- carried; and the answer that it justifies.
+-- A worked reply, whole: the matched ask, the reasons to accept the reply, the carried pieces, and
+-- the client's justified answer.
 use Rattle.std.proofs.Common.{◌≡◌, ℕ, List, [], ◌∷◌, Some, Ok, refl, inl, inr, arith}
 use Rattle.dns_message.specs.Names.{step as name_step, walk_in, name_within}
 use Rattle.dns_message.specs.Data.{octets_within, parts_at, data_at}
@@ -28,13 +28,13 @@ use Rattle.worked_claims.proofs.Texts.{question_text, client, step_of}
 use Rattle.worked_claims.proofs.Silent.{nothing_heard}
 use Rattle.worked_claims.proofs.ReplyTo.{ReachesAsk, matches_ask}
 
--- ---- a question for the address of a.e, and its reply
+-- ---- a question for the address of a.e, and the reply
 
 abbrev pub asked : Step
 asked = step_of 1000 (524296 ∷ []) (from_client client (question_text 7 1))
     (ask_udp 1032 server (question_text 8 1) ∷ [])
 
--- an answer with this identifier, these octets of flags, and the address with this time to live
+-- an answer with this identifier, these octets of flags, and the address with this TTL
 abbrev pub answer_with : ℕ → ℕ → ℕ → ℕ → List ℕ
 answer_with id high low ttl =
     0 ∷ id ∷ high ∷ low ∷ 0 ∷ 1 ∷ 0 ∷ 1 ∷ 0 ∷ 0 ∷ 0 ∷ 0 ∷ 1 ∷ 97 ∷ 1 ∷ 101 ∷ 0 ∷ 0 ∷ 1 ∷ 0 ∷ 1 ∷ 192 ∷ 12 ∷ 0 ∷ 1 ∷ 0
@@ -44,7 +44,7 @@ answer_with id high low ttl =
 abbrev pub reply_text : List ℕ
 reply_text = answer_with 8 133 0 60
 
--- the client's answer from it: RD and RA
+-- the client's answer from the reply: RD and RA
 abbrev pub client_text : List ℕ
 client_text = answer_with 7 129 128 60
 
@@ -52,7 +52,7 @@ abbrev pub answered : Step
 answered = step_of 1020 [] (delivery (Udp 1032) server reply_text)
     (close_udp 1032 ∷ send_reply client client_text Answered ∷ [])
 
--- a message that says so, with this header's identifier and flags
+-- the answer as a message, with this header's identifier and flags
 abbrev pub says : ℕ → Message
 says ttl = record {
   header = header_in (answer_with 8 133 0 ttl);
@@ -81,7 +81,7 @@ unfolding message_at header_of counted question_at octets_end record_at data_at 
     name_within walk_in name_step
 answer_is_read = refl
 
--- ---- it is accepted, and carried the address
+-- ---- the reply is accepted, and carried the address
 
 abbrev pub ask : ShownAsk
 ask = record { path = Udp 1032; server = server; octets = question_text 8 1; moment = 1000 }
@@ -100,7 +100,8 @@ piece = record {
 abbrev pub with_limits : ℕ → ℕ → Config
 with_limits tries stale_s = record config { limits = record config.limits { tries = tries; stale_s = stale_s } }
 
--- in each step in which the reply reaches the ask, it matches, is accepted, and carries the address
+-- in each step bringing the reply to the ask, the reply matches, is accepted, and carries the
+-- address
 pub reply_matches : (c : Config) (s : Step) (past : List Step) → ReachesAsk c s past ask reply_text
     → Matches c s past ask reply_text (address a)
 unfolding first_question question_at octets_end name_within walk_in name_step
@@ -132,7 +133,7 @@ accepts tries stale_s = reply_accepted tries stale_s answered (asked ∷ []) (re
 pub carries : (tries stale_s : ℕ) → Carries (with_limits tries stale_s) answered (asked ∷ []) (piece ∷ [])
 carries tries stale_s = reply_carries tries stale_s answered (asked ∷ []) (refl, refl, omega arith)
 
--- ---- it justifies the answer
+-- ---- the reply justifies the answer
 
 abbrev pub held : Held
 held = record { piece = piece; accepted = 1020 }
@@ -144,11 +145,11 @@ carried_before tries stale_s = inr (inl (refl, nothing_heard (with_limits tries 
 pub carried_now : (tries stale_s : ℕ) → CarriedInEra (with_limits tries stale_s) (answered ∷ asked ∷ []) (held ∷ [])
 carried_now tries stale_s = inr (inr (refl, piece ∷ [], [], carries tries stale_s, carried_before tries stale_s, refl))
 
--- the question, seen from the step of its reply
+-- the question, seen from the reply's step
 abbrev pub seen : Look
 seen = record { config = config; asked = asked; before = []; now = answered ∷ asked ∷ [] }
 
--- a piece that came while the client waited may serve it
+-- a piece carried while the client waited may serve the client
 pub justified : Justified seen a held
 unfolding route_of
 justified = record {

@@ -1,5 +1,5 @@
--- The definitions of the laws about actions, computed: a step that gives up a path, replies and
--- asks; and actions of no step.
+-- The definitions of the laws about actions, computed: a step giving up a path, replying and
+-- asking; and actions of no step.
 use Rattle.std.proofs.Common.{◌≡◌, ◌≤◌, List, [], ◌∷◌, length, refl, sym, arith}
 use Rattle.std.proofs.lemmas.Bool.{true≢false}
 use Rattle.outstanding.specs.declared.ask.Path.TheVariants.{Udp, Tcp}
@@ -13,7 +13,7 @@ use Rattle.worked_claims.proofs.Texts.{question_text, client}
 abbrev actions : List Action
 actions = close_udp 1032 ∷ send_reply client [] Answered ∷ ask_tcp 3 server (question_text 8 1) ∷ []
 
--- one ask by TCP, and one port
+-- a single ask by TCP, and a single port
 one_of_each : (asks_in actions ≡ record { path = Tcp 3; server = server; octets = question_text 8 1 } ∷ [])
     × (closed_in actions ≡ Udp 1032 ∷ [])
 one_of_each = (refl, refl)

@@ -1,5 +1,5 @@
--- How many aliases lead on, computed: by a reply that says a.e to be an alias of itself, eight lead
--- to an answer or a further name, and nine are too many; a question for aliases follows none.
+-- The number of aliases followed, computed: in a reply making a.e an alias of itself, eight lead to
+-- an answer or a further name, and nine are too many; a question for aliases follows none.
 use Rattle.std.proofs.Common.{◌≡◌, ◌≢◌, ℕ, ◌≤◌, zero, suc, List, [], ◌∷◌, length, Some, Ok, refl, sym, ap}
 use Rattle.std.proofs.Common.{◌∙◌, inl, inr, arith}
 use Rattle.dns_message.specs.Names.{step as name_step, walk_in, name_within}
@@ -50,7 +50,7 @@ unfolding message_at header_of counted question_at octets_end record_at data_at 
     name_within walk_in name_step
 reply_is_read = refl
 
--- the question is sent on to the same name
+-- the question is sent on, to its own name
 abbrev pub redirected : Step
 redirected = step_of 1020 (1048592 ∷ []) (delivery (Udp 1032) server reply_text)
     (close_udp 1032 ∷ ask_udp 1040 server (question_text 16 1) ∷ [])
@@ -68,7 +68,7 @@ alias = record {
 abbrev pub loop : Held
 loop = record { piece = alias; accepted = 1020 }
 
--- a walk takes it eight times
+-- a walk takes the alias eight times
 pub carries : (tries stale_s : ℕ)
     → Carries (with_limits tries stale_s) redirected (asked ∷ []) (alias ∷ alias ∷ alias ∷ alias ∷ alias ∷ alias ∷ alias ∷ alias ∷ [])
 unfolding first_question question_at octets_end name_within walk_in name_step route_of walk_from servers_from
@@ -83,7 +83,7 @@ carries tries stale_s = record {
   are = refl;
 }
 
--- this many copies of it
+-- this many copies of the alias
 abbrev pub loops : ℕ → List Held
 loops zero = []
 loops (suc n) = loop ∷ loops n
@@ -152,7 +152,7 @@ ten_aliases_are_not_told_as_nine : (l : Look) (octets : List ℕ) (h : FollowsTo
 ten_aliases_are_not_told_as_nine l octets h these = let many : 10 ≡ 9 = ap length (sym these) ∙ h.many in
     omega (arith, many)
 
--- where no server was heard, no chain is too long
+-- if no server was heard, no chain is too long
 abbrev unheard : Look
 unheard = record seen { now = step_of 1020 [] tick [] ∷ asked ∷ [] }
 
@@ -177,11 +177,11 @@ no_alias_is_followed_for_aliases_past_ends : (l : Look) (os : List Held) (last :
     → FollowsStale l for_alias (loop ∷ os) last → ⊥
 no_alias_is_followed_for_aliases_past_ends l os last h = h.0 refl
 
--- it stays at its own name
+-- the question stays at its own name
 asked_for_at_its_own_name : FollowsAliases seen for_alias [] for_alias
 asked_for_at_its_own_name = refl
 
--- an alias leads to no other name than its own
+-- the alias leads to its own name alone
 an_alias_leads_to_its_own_name : (l : Look) (last : Question) → FollowsAliases l (address a) (loop ∷ []) last
     → last ≡ address a
 unfolding name_of_rdata name_within walk_in name_step

@@ -1,5 +1,5 @@
--- Why neither `question` nor `reads` of `Tried` fails alone: whatever the identifier of an ask, each
--- of the two fields follows from the other field.
+-- The fields `question` and `reads` of `Tried` never fail alone: whatever the identifier of an ask,
+-- each field follows from the other.
 use Rattle.std.proofs.Common.{◌≡◌, ℕ, ◌/◌, ◌%◌, List, [], ◌∷◌, Some, Ok, Err, sym, ap, ◌∙◌, subst, arith}
 use Rattle.std.specs.Prelude.{Result}
 use Rattle.dns_message.specs.declared.names.fault.Fault.{Fault}
@@ -11,7 +11,7 @@ use Rattle.dns_message.specs.Written.{IsQuestion}
 use Rattle.dns_message.proofs.CallerLemmas.{first_question_read_stands, standing_name_is_name}
 use Rattle.outstanding.specs.Draws.{ask_message}
 use Rattle.step_history.specs.History.{Reads}
-use Rattle.theorem_sound.proofs.AskText.{ask_reads}
+use Rattle.theorem_use.proofs.TheoremSound.AskText.{ask_reads}
 use Rattle.worked_claims.proofs.Brought.{question_is}
 
 -- ---- two octets have 16 bits of a number
@@ -25,11 +25,11 @@ low_octet n = omega arith
 same_octets : (n : ℕ) → octets16 (n % 65536) ≡ octets16 n
 same_octets n = λ i. high_octet n i ∷ low_octet n i ∷ []
 
--- the question with 16 bits of its type and of its class
+-- the question with its type and class cut to 16 bits
 abbrev cut : Question → Question
 cut q = record { name = q.name; kind = q.kind % 65536; class = q.class % 65536 }
 
--- the text of an ask by these octets of identifier, type and class
+-- an ask's text with these octets of identifier, type and class
 abbrev text_by : List ℕ → List (List ℕ) → List ℕ → List ℕ → List ℕ
 text_by id name kind class =
     ((as_is id ▹ as_is (octets16 256) ▹ as_is (octets16 1) ▹ as_is (octets16 0) ▹ as_is (octets16 0)
@@ -52,13 +52,13 @@ reads_follows id q question =
     subst (λ (octets : List ℕ). Reads octets q) (text_of_small_id id q)
     (ask_reads (id % 65536) q question (omega arith)).0
 
--- ---- a question that is read from its text has a name, and numbers of 16 bits
+-- ---- a question read from its text has a name, and numbers of 16 bits
 
 read_first : (r : Result Question Fault) (q : Question) → question_read r ≡ Some q → r ≡ Ok q
 read_first (Ok read) q is = cc
 read_first (Err fault) q is = absurd cc
 
--- the text counts one question
+-- the text counts a single question
 first_is : (id : ℕ) (q : Question) → Reads (written (ask_message id q)) q
     → first_question (written (ask_message id q)) ≡ Ok q
 unfolding written ◌▹◌ each

@@ -1,6 +1,5 @@
--- Which asks may be listed side by side, and what one has to say, computed: apart in path and
--- question, no more than may be open, with the identifier and the port of the step's own word, and
--- to a server of the name's route.
+-- Asks listed together, and the content of an ask, computed: different paths and questions, no more
+-- than the limit, the identifier and port of the step's own word, and a server of the name's route.
 use Rattle.std.proofs.Common.{◌≡◌, ℕ, ◌≤◌, ◌%◌, true, false, List, [], ◌∷◌, get_or, Option, Some, None}
 use Rattle.std.proofs.Common.{refl, sym, ap, arith}
 use Rattle.std.proofs.lemmas.Bool.{true≢false}
@@ -34,7 +33,7 @@ ask_on path octets = record { path = path; server = server; octets = octets; mom
 abbrev named : ℕ → Question
 named letter = address ((letter ∷ []) ∷ (101 ∷ []) ∷ [])
 
--- the one question that a text reads as
+-- the question read from a text is unique
 the_same : (q r : Question) → Some q ≡ Some r → q ≡ r
 the_same q r is = cc
 
@@ -52,7 +51,7 @@ two_names_on_two_ports = (
   (tt, tt),
 )
 
--- a port and a connection of one number are two paths
+-- a port and a connection of equal number are two paths
 by_udp_and_by_tcp : AreApart (ask_on (Udp 1032) (at_name 8 97) ∷ ask_on (Tcp 1032) (at_name 8 98) ∷ [])
 unfolding first_question question_at octets_end name_within walk_in name_step
 by_udp_and_by_tcp = (
@@ -87,7 +86,7 @@ nor_with_one_between h = true≢false (h.0.1.0.question (named 97) (named 97) re
 
 -- ---- as many as may be open
 
--- this many inquiries may be open
+-- at most this many inquiries may be open
 abbrev open_at_most : ℕ → Config
 open_at_most inquiries = record config { limits = record config.limits { inquiries = inquiries } }
 
@@ -156,7 +155,7 @@ no_more_asks_than_may_be_open h = let few : 2 ≤ 1 = h.2 in omega (arith, few)
 
 -- ---- identifier and port
 
--- an identifier is that of the step's first word with a free port
+-- an ask has the identifier of the step's first word with a free port
 drawn_from_the_word : IsDrawn first [] 8 (Udp 1032) × IsDrawn second (first ∷ []) 16 (Udp 1040)
 drawn_from_the_word = (refl, refl)
 
@@ -177,14 +176,14 @@ an_identifier_of_another_word h =
     let low : 9 ≡ h.id % 256 = ap (λ (octets : List ℕ). get_or octets 1 0) h.text in
     omega (arith, drawn, low)
 
--- it goes out from another port than the word's
+-- the ask goes out from a port different from the word's
 a_port_of_another_word : AsksRight config first [] (record { path = Udp 1033; server = server; octets = at_name 8 97 })
     → ⊥
 a_port_of_another_word h =
     let port : 1032 ≡ 1033 = ap port_in h.drawn_so in
     omega (arith, port)
 
--- the second word, though the first one's port is free
+-- the second word, with the first word's port free
 abbrev of_two_words : Step
 of_two_words = step_of 1000 (524296 ∷ 1048592 ∷ []) (from_client client (at_name 7 97)) []
 
@@ -204,7 +203,7 @@ by_tcp = refl
 by_tcp_with_another_number : IsDrawn first [] 8 (Tcp 1) → ⊥
 by_tcp_with_another_number drawn = let number : 0 ≡ 1 = ap port_in drawn in omega (arith, number)
 
--- a port is busy from its ask until the step that gives it up
+-- a port is busy from its ask until given up by a step
 listed_on_the_port : is_busy (Udp 1032) (ask_on (Udp 1032) (at_name 8 97) ∷ []) [] ≡ true
 listed_on_the_port = refl
 

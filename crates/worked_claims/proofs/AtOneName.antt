@@ -1,6 +1,6 @@
--- What a reply says at one name, in worked replies: a set, an alias alone, nothing, the asked set,
--- and a name error (RFC 1034 3.6.2, RFC 2181 10.1, RFC 2308 2.1). Each field of a definition has a
--- neighbour that fails in this field alone, or a lemma by which the other fields decide it.
+-- The finding of a reply at a name, in worked replies: a set, an alias alone, nothing, the asked
+-- set, and a name error (RFC 1034 3.6.2, RFC 2181 10.1, RFC 2308 2.1). Each field of a definition
+-- has a neighbour failing in this field alone, or a lemma deciding the field from the rest.
 use Rattle.std.proofs.Common.{◌≡◌, ℕ, true, inl, inr, List, [], ◌∷◌, length, Option, Some, None}
 use Rattle.std.proofs.Common.{refl, sym, ap, ◌∙◌, subst, arith}
 use Rattle.dns_name.specs.Labels.{lowered, IsSame}
@@ -23,7 +23,7 @@ use Rattle.worked_claims.proofs.Neighbours.{HoldsButFor}
 abbrev pub answering : List Record → Reply
 answering answers = seen (message true 0 answers [])
 
--- the address of a.e, and a second alias of a.e, next to that to b.e
+-- the address of a.e, and a second alias of a.e, next to the alias to b.e
 abbrev pub of_a : Record
 of_a = host a 300 5
 
@@ -52,7 +52,7 @@ piece_of owner kind body = record {
 abbrev addresses : List (List ℕ) → Piece
 addresses owner = piece_of owner (Some 1) (rows (ip 5 ∷ []))
 
--- its owner is spelled otherwise
+-- the set's owner is spelled A.e
 set_of_a : IsSetAt 1 a (addresses (below_e 65))
 set_of_a = record { owner = refl; kind_is = refl; each = ip 5 ∷ []; body = refl }
 
@@ -139,7 +139,7 @@ leads_not_to_e = (
     by : Some b ≡ Some e → ⊥
     by is = let same : b ≡ e = cc in let labels : 2 ≡ 1 = ap length same in omega (arith, labels)
 
--- The field `other` has no neighbour: a question for aliases lacks no alias that the name has.
+-- The field `other` has no neighbour: a question for aliases lacks no alias of the name.
 alias_is_not_asked : (r : Reply) (name : List (List ℕ)) (datum : List ℕ) → LacksAt r r.question.kind name
     → AreDataOf (question_at r 5 name) r.answers (datum ∷ []) → r.question.kind ≡ 5 → ⊥
 alias_is_not_asked r name datum none alone five =
@@ -212,7 +212,7 @@ finds_two_aliases = (
 
 -- ---- a name error
 
--- a reply with this code, these answers and no more
+-- a reply with this code and these answers alone
 abbrev pub coded : ℕ → List Record → Reply
 coded rcode answers = seen (message true rcode answers [])
 

@@ -1,5 +1,5 @@
--- Shared by the worked histories: a step that brings a client's question for the address of a.e. This
--- question alone is looked up, and is wanted. And a question that waits alone for its ask.
+-- Shared by the worked histories: a step bringing a client's question for the address of a.e, with
+-- this question alone looked up and wanted; and a question waiting alone for its ask.
 use Rattle.std.proofs.Common.{◌≡◌, ℕ, List, [], ◌∷◌, length, Option, Some, None, true, refl, sym, ap, ◌∙◌, subst}
 use Rattle.std.proofs.Common.{◌⊎◌, inl, inr, arith}
 use Rattle.std.specs.List.{AllByRecursion}
@@ -20,7 +20,7 @@ use Rattle.theorem_use.specs.Asking.{AnyByRecursion, Wants, EachWants, Asks, Was
 use Rattle.theorem_use.specs.Use.{AsksToLookUp}
 use Rattle.worked_claims.proofs.Texts.{question_text, client, none_listed}
 
--- ---- one message, and one question
+-- ---- a single message, and a single question
 
 pub request_is : (r s : Request) → Some r ≡ Some s → r ≡ s
 request_is r s is = cc
@@ -76,7 +76,7 @@ wants_it c s id past now brings in_era = record {
   leads = record { few = omega arith; follows = refl };
 }
 
--- ---- one question waits, and its ask alone is listed
+-- ---- a single question waits, and its ask alone is listed
 
 pub waits_for_one : (c : Config) (s : Step) (past : List Step) (owners : List ℕ) (x : ShownAsk) (q : Question) (i : ℕ)
     → listed (s ∷ past) ≡ x ∷ [] → unanswered (s ∷ past) owners ≡ i ∷ [] → Wants c (s ∷ past) i q → Asks x q

@@ -1,5 +1,5 @@
--- A history carried one list of pieces, so every claim about a worked history means the same list.
--- After a restart it is empty.
+-- A history carried a single list of pieces, so all claims about a worked history mean the same
+-- list. After a restart the list is empty.
 use Rattle.std.proofs.Common.{◌≡◌, ◌∙◌, ℕ, List, [], ◌∷◌, ◌++◌, length, Some, refl, sym, ap, subst, inl, inr, arith}
 use Rattle.std.proofs.lemmas.Bool.{true≢false}
 use Rattle.dns_message.specs.Messages.{Spells}
@@ -24,7 +24,7 @@ use Rattle.worked_claims.proofs.Accepted.{asked, answered, held, carried_now}
 pub some_is : {X : Type 0} (x y : X) → Some x ≡ Some y → x ≡ y
 some_is x y is = cc
 
--- a step carries one list of pieces
+-- a step carries a single list of pieces
 pub one_carriage : (c : Config) (s : Step) (past : List Step) (ps qs : List Piece) → AllDiffer c.routes
     → Carries c s past ps → Carries c s past qs → ps ≡ qs
 one_carriage c s past ps qs differ k j =
@@ -62,7 +62,7 @@ one_carriage c s past ps qs differ k j =
         (subst (λ (octets : List ℕ). Spells octets one.message) (ap (λ (d : Delivered). d.octets) came) one.spells)
         other.spells
 
--- and an era one list
+-- and an era a single list
 pub one_era : (c : Config) (now : List Step) (os ps : List Held) → AllDiffer c.routes → CarriedInEra c now os
     → CarriedInEra c now ps → os ≡ ps
 one_era c [] os ps differ one other = one ∙ sym other
@@ -87,7 +87,7 @@ restarted = step_of 2000 [] restart []
 abbrev passes : Step
 passes = step_of 2001 [] tick []
 
--- the pieces of the era before it are gone, and stay so
+-- the pieces of the era before are gone, and stay gone
 nothing_is_kept : CarriedInEra config (restarted ∷ answered ∷ asked ∷ []) []
     × CarriedInEra config (passes ∷ restarted ∷ answered ∷ asked ∷ []) []
 nothing_is_kept = (

@@ -1,6 +1,5 @@
--- A worked denial by the configuration, whole: a.e is denied, and the reply says so at once; a step
--- later, for a name that is not denied, for another opcode and for a type that is not served, no
--- such answer is right.
+-- A worked denial by the configuration, whole: a.e is denied at once. No such answer is right a
+-- step later, for a name not denied, for an opcode other than 0, or for a type not served.
 use Rattle.std.proofs.Common.{◌≡◌, ℕ, List, [], ◌∷◌, length, Some, Ok, refl, sym, ap, ◌∙◌, arith}
 use Rattle.std.proofs.lemmas.Bool.{true≢false}
 use Rattle.dns_message.specs.Names.{step as name_step, walk_in, name_within}
@@ -80,7 +79,7 @@ a_step_later request octets h =
     (nothing_followed later h.question to.last h.answers.aliases (refl, (refl, tt)) to.leads.follows).0) in
     omega (arith, steps)
 
--- where the root's servers are asked for it
+-- the root's servers are asked for a.e
 abbrev not_denied : Look
 not_denied = record at_once { config = config }
 

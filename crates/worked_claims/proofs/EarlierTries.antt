@@ -1,5 +1,5 @@
--- What is known of a listed ask, `Tried`, computed of the second ask of an inquiry: the first one
--- failed, and the next server was asked. Neighbours count a try less or more, or have another
+-- `Tried`, the facts about a listed ask, computed for the second ask of an inquiry: the first ask
+-- failed, and the next server was asked. Neighbours count a try less or more, or have a wrong
 -- identifier, route or server, or a question with a type above 16 bits.
 use Rattle.std.proofs.Common.{◌≡◌, ℕ, ◌<◌, List, [], ◌∷◌, false, Option, Some, refl, ap, subst, inl, inr}
 use Rattle.std.proofs.Common.{arith}
@@ -25,7 +25,7 @@ use Rattle.step_history.specs.Causes.{ClosesAsk, FailedSoFar}
 use Rattle.step_history.specs.History.{Reads}
 use Rattle.step_table.proofs.Played.{a, address, server, other_server, config}
 use Rattle.step_table.specs.Attempts.{peer_at}
-use Rattle.theorem_sound.specs.Explains.{Tried}
+use Rattle.theorem_use.specs.TheoremSound.Explains.{Tried}
 use Rattle.worked_claims.proofs.Neighbours.{HoldsButFor}
 use Rattle.worked_claims.proofs.Texts.{question_text, client, step_of}
 use Rattle.worked_claims.proofs.Silent.{nothing_heard}
@@ -34,7 +34,7 @@ use Rattle.worked_claims.proofs.AskTexts.{reads_follows, question_follows}
 use Rattle.worked_claims.proofs.Brought.{question_is}
 use Rattle.worked_claims.proofs.Failures.{begun, the_first_closes_none}
 
--- ---- the ask of a.e at 1000 is over at 2500, and the other server is asked
+-- ---- the ask of a.e at 1000 is over at 2500, and the second server is asked
 
 abbrev retries : Step
 retries = step_of 2500 (1048592 ∷ []) tick (close_udp 1032 ∷ ask_udp 1040 other_server (question_text 16 1) ∷ [])
@@ -59,7 +59,7 @@ try_by used id route peer = record {
 abbrev try : ℕ → Ask
 try used = try_by used 16 0 other_server
 
--- so many tries before it failed
+-- all tries before try number `used` failed
 abbrev FailedBefore : Config → ℕ → Type 0
 FailedBefore c used = (before : ℕ) × (used ≡ suc before) × FailedSoFar c (address a) past before
 
@@ -67,7 +67,7 @@ closes_first : ClosesAsk (address a) retries (asked ∷ [])
 unfolding first_question question_at octets_end name_within walk_in name_step
 closes_first = record { ask = ask; asked = address a; is_listed = refl; closed = refl; reads = refl; same = refl }
 
--- in a configuration with these routes
+-- the configuration with these routes
 abbrev with_routes : List Route → Config
 with_routes routes = record config { routes = routes }
 
@@ -92,7 +92,7 @@ label letter = record { some = omega arith; short = omega arith }
 name_of_a : IsName a
 name_of_a = record { each = (label 97, (label 101, tt)); short = omega arith }
 
--- ---- it is the second try
+-- ---- the ask is the second try
 
 tried_if : (routes : List Route) (used id route : ℕ) (peer : Peer)
     → (header_in (written (ask_message id (address a)))).id ≡ id
@@ -118,7 +118,7 @@ tried_so used failed = tried_if config.routes used 16 0 other_server refl refl r
 second_try : Tried config past (try 2)
 second_try = tried_so 2 (1, refl, one_failed config.routes)
 
--- as the first try: the step of its ask closed the first one, and so did not begin to ask
+-- as the first try: the ask's step closed the first ask, and so did not begin to ask
 none_failed : FailedSoFar config (address a) past 0 → ⊥
 unfolding first_question question_at octets_end name_within walk_in name_step
 none_failed h = elim h.1 [
@@ -137,7 +137,7 @@ as_the_first_try = (
       none_failed (subst (λ (n : ℕ). FailedSoFar config (address a) past n) none h.failed),
 )
 
--- as the third try: of the first ask there was no earlier one
+-- as the third try: no ask came before the first
 two_failed : FailedSoFar config (address a) past 2 → ⊥
 two_failed h = elim h.1 [
   | inl fails ↦ first fails.2
@@ -160,9 +160,9 @@ as_the_third_try = (
 
 -- ---- the ask itself
 
--- An ask for a type above 16 bits; the ask's text reads as type 1. So `question` and `reads` fail,
--- and neither field fails alone: each follows from the other (`AskTexts`). No octets read as such a
--- type, so the text in the history has a number above 255.
+-- An ask for a type above 16 bits; the ask's text is read as type 1. So `question` and `reads`
+-- fail, and neither field fails alone: each follows from the other (`AskTexts`). No octets are read
+-- as such a type, so the text in the history has a number above 255.
 abbrev odd : Question
 odd = record (address a) { kind = 65537 }
 
@@ -209,7 +209,7 @@ of_another_question = (
       omega (arith, kinds)),
 )
 
--- its identifier is larger than its two octets, which have the rest
+-- the identifier is larger than two octets, and the text has the rest
 of_another_identifier : HoldsButFor (◌≡◌ {A = ℕ} 16 65552) (Tried config past (try_by 2 65552 0 other_server))
 unfolding written ◌▹◌ each name_text route_of
 of_another_identifier = (
@@ -217,7 +217,7 @@ of_another_identifier = (
   λ h. omega (arith, h.identifier),
 )
 
--- a second route, of the names under z, with the same servers
+-- a second route, for the names under z, with the same servers
 abbrev two_routes : List Route
 two_routes = record { suffix = []; deny = false; servers = server ∷ other_server ∷ [] } ∷ record {
   suffix = (122 ∷ []) ∷ [];
@@ -236,7 +236,7 @@ of_another_route = (
     by : ◌≡◌ {A = Option ℕ} (Some 0) (Some 1) → ⊥
     by is = let places : ◌≡◌ {A = ℕ} 0 1 = cc in omega (arith, places)
 
--- the second server by its place, and the first one by its address
+-- the second server by place, and the first server by address
 of_another_server : HoldsButFor (Some other_server ≡ Some server) (Tried config past (try_by 2 16 0 server))
 unfolding written ◌▹◌ each name_text route_of
 of_another_server = (

@@ -1,6 +1,6 @@
 -- The limit of eight aliases, in replies with a chain of aliases: asked for b.e, such a reply leads
--- along one alias less than asked for a.e. With seven aliases before the last name the reply may
--- say something of that name; with eight it has to be asked for; and nine are too many.
+-- along one alias less than asked for a.e. After seven aliases the reply may answer for the last
+-- name; after eight the last name has to be asked for; and nine are too many.
 use Rattle.std.proofs.Common.{◌≡◌, ◌⊎◌, ℕ, ◌+◌, ◌<◌, ◌≤◌, zero, suc, true, false, inl, inr, List, [], ◌∷◌, ◌++◌}
 use Rattle.std.proofs.Common.{length, Option}
 use Rattle.std.proofs.Common.{Some, refl, sym, ap, ◌∙◌, subst, arith, length-append}
@@ -25,7 +25,7 @@ use Rattle.cache_laws.proofs.WalkOnly.{own_walk_only}
 use Rattle.cache_laws.proofs.Worked.{server, below_e, data_of, ip, host, alias, message, differ}
 use Rattle.worked_claims.proofs.Neighbours.{HoldsButFor}
 
--- ---- aliases of nine names of one letter, from a to i, each to the next
+-- ---- aliases of nine names of a letter, from a to i, each to the next
 
 abbrev i : List (List ℕ)
 i = below_e 105
@@ -46,18 +46,18 @@ config = record { listen = server; limits = default_limits; routes = routes }
 abbrev link : ℕ → Record
 link letter = alias (below_e letter) (data_of (letter + 1))
 
--- the aliases of a.e to h.e, and behind them these records
+-- the aliases of a.e to h.e, and then these records
 abbrev section : List Record → List Record
 section more = link 97 ∷ link 98 ∷ link 99 ∷ link 100 ∷ link 101 ∷ link 102 ∷ link 103 ∷ link 104 ∷ more
 
 abbrev question : ℕ → ℕ → Question
 question letter kind = record { name = below_e letter; kind = kind; class = 1 }
 
--- the reply to the question for the address of the name of this letter
+-- the reply to the question for the address of the name with this letter
 abbrev to : ℕ → List Record → Reply
 to asked more = reply_of config (message true 0 (section more) []) (question asked 1) 0
 
--- the names to which this many aliases lead from a letter on, and the last of them
+-- the targets of this many aliases from a letter on, and the last target
 abbrev targets : ℕ → ℕ → List (List (List ℕ))
 targets letter zero = []
 targets letter (suc n) = below_e (letter + 1) ∷ targets (letter + 1) n
@@ -66,15 +66,14 @@ abbrev last : ℕ → ℕ → List (List ℕ)
 last letter zero = below_e letter
 last letter (suc n) = last (letter + 1) n
 
--- the pieces of these aliases, of which the first is the asked name's
+-- the pieces of these aliases, the asked name's first
 abbrev pieces : ℕ → ℕ → ℕ → List Piece
 pieces rank letter zero = []
 pieces rank letter (suc n) = set_with rank 0 (link letter) [] ∷ pieces 1 (letter + 1) n
 
 -- ---- each leads to the next
 
--- what is computed of a name: its route, its addresses and aliases in the section, and the next
--- name
+-- the computed facts about a name: route, addresses and aliases in the section, and next name
 abbrev Told : Type 0
 Told = Option ℕ × List Record × List Record × Option (List (List ℕ))
 
@@ -150,7 +149,7 @@ finds_it asked = record {
   one = λ five. absurd (omega (arith, five));
 }
 
--- seven aliases lead to it, and the set is found
+-- seven aliases lead to i.e, and the set is found
 after_seven : ClosesAt (to 98 of_i) 7 i (set ∷ []) (IsFoundAt (to 98 of_i) i)
 after_seven = record { few = omega arith; on_route = i_on_route 98 of_i; p = set; alone = refl; is = finds_it 98 }
 
@@ -195,7 +194,7 @@ found_after_eight = (
       omega (arith, many, all, sum, one, few),
 )
 
--- so its name has to be asked for
+-- so i.e has to be asked for
 asked_for_after_eight : IsWalked (to 97 of_i) (pieces 3 97 8) (elsewhere i)
 asked_for_after_eight = record {
   targets = targets 97 8;
@@ -208,7 +207,7 @@ asked_for_after_eight = record {
   ends = (omega arith, refl, refl, inl refl);
 }
 
--- for no other reason: the name is on the route, and the reply has its address
+-- for no other reason: the name is on the route, and the reply has the address
 no_other_reason : (asked count : ℕ) → (IsOnRoute (to asked of_i) i → ⊥) ⊎ IsLeftOpen (to asked of_i) count i → ⊥
 no_other_reason asked count (inl off) = off (i_on_route asked of_i)
 no_other_reason asked count (inr left) =
@@ -286,7 +285,7 @@ lame_there asked count = inr (inl (record {
   lost = inl (has_two asked);
 }))
 
--- seven aliases lead to it, and the reply is lame
+-- seven aliases lead to i.e, and the reply is lame
 lame_after_seven : IsLame (to 98 twice)
 lame_after_seven = record {
   targets = targets 98 7;
@@ -300,7 +299,7 @@ lame_after_seven = record {
 routes_differ : AllDiffer routes
 routes_differ = ((λ is. true≢false (sym ((same_decides [] j).1 is)), tt), (tt, tt))
 
--- after eight it counts for nothing, and the name is asked for
+-- after eight the records of i.e count for nothing, and the name is asked for
 goes_on_after_eight : own_walk (to 97 twice) ≡ ending (pieces 3 97 8) (elsewhere i)
 unfolding walk_from route_of name_of_rdata name_within walk_in name_step
 goes_on_after_eight = refl
@@ -321,7 +320,7 @@ lame_after_eight = (
       absurd (let wrong : elsewhere i ≡ lame = ap (λ (w : Walk). w.end) (sym goes_on_after_eight ∙ is) in cc),
 )
 
--- ---- an alias of i.e to j.e, which is on another route
+-- ---- an alias of i.e to j.e, on another route
 
 abbrev to_j : List Record
 to_j = link 105 ∷ []
@@ -338,7 +337,7 @@ j_off_route asked h = by h.route h.there (h.most 1 route_of_j refl ((is_under_de
     by r is long = let one : record { suffix = []; deny = false; servers = server ∷ [] } ≡ r = cc in
         omega (arith, long, ap (λ (x : Route). length x.suffix) one)
 
--- eight aliases lead to it
+-- eight aliases lead to j.e
 eight_lead_off : IsWalked (to 98 to_j) (pieces 3 98 8) (elsewhere j)
 eight_lead_off = record {
   targets = targets 98 8;

@@ -1,4 +1,4 @@
--- A question, its reply and a restart, seen as a history.
+-- A history of a question, its reply and a restart.
 use Rattle.std.proofs.Common.{◌≡◌, ℕ, List, [], ◌∷◌, false, refl}
 use Rattle.suffix_routes.specs.declared.peer.Peer.{Peer}
 use Rattle.outstanding.specs.declared.ask.Path.TheVariants.{Udp}

@@ -1,5 +1,5 @@
--- Why a question fails in the end, computed: all tries, its deadline, and an answer that is too
--- large; with neighbours a try, a step, a question, a millisecond or an octet away.
+-- The final failures of a question, computed: all tries, the deadline, and an answer too large;
+-- with neighbours a try, a step, a question, a millisecond or an octet away.
 use Rattle.std.proofs.Common.{◌≡◌, ℕ, ◌+◌, ◌<◌, ◌≤◌, List, [], ◌∷◌, ◌++◌, length, Bool, Some, true, false, refl, sym, ap, ◌∙◌, subst, inl, inr, arith, length-append}
 use Rattle.std.proofs.lemmas.Bool.{true≢false}
 use Rattle.dns_message.specs.Names.{step as name_step, walk_in, name_within}
@@ -50,7 +50,7 @@ closes_it : ClosesAsk (address a) gave_up (asked ∷ [])
 unfolding first_question question_at octets_end name_within walk_in name_step
 closes_it = record { ask = ask; asked = address a; is_listed = refl; closed = refl; reads = refl; same = refl }
 
--- its 1,500 milliseconds are over
+-- the ask's 1,500 milliseconds are over
 time_is_over : MayFail (with_tries 1) gave_up (asked ∷ []) ask (address a)
 time_is_over = inr (inr (refl, omega arith))
 
@@ -78,14 +78,14 @@ one_try_failed = record {
 pub the_first_closes_none : (q : Question) → ClosesAsk q asked [] → ⊥
 the_first_closes_none q h = none_listed h.is_listed
 
--- one ask is none of two tries
+-- a single failed ask is not two failed tries
 one_of_two_tries_failed : Cause (after 2 (gave_up ∷ asked ∷ [])) client (question_text 7 1) 0 Exhausted → ⊥
 one_of_two_tries_failed h = elim h.failed.1.1 [
   | inl failed ↦ the_first_closes_none h.last failed.0.closes
   | inr left ↦ left.1
 ]
 
--- an ask that an accepted reply closes did not fail
+-- an ask closed by an accepted reply did not fail
 the_accepted_did_not_fail : LastFailed config (address a) (answered ∷ asked ∷ []) 1 → ⊥
 unfolding first_question question_at octets_end name_within walk_in name_step
 the_accepted_did_not_fail h = elim h.1 [
@@ -128,7 +128,7 @@ at_the_deadline = record { passed = refl; late = omega arith }
 a_millisecond_early : Cause (after 4 (passes 8999 ∷ asked ∷ [])) client (question_text 7 1) 0 Deadline → ⊥
 a_millisecond_early h = let late : 9000 ≤ 8999 = h.late in omega (arith, late)
 
--- octets came from a server at the same moment
+-- octets came from a server at this moment
 abbrev hears : Step
 hears = step_of 9000 [] (delivery (Udp 1032) server reply_text) []
 
@@ -141,9 +141,9 @@ is_tick e = false
 by_a_delivery : Cause (after 4 (hears ∷ asked ∷ [])) client (question_text 7 1) 0 Deadline → ⊥
 by_a_delivery h = true≢false (sym (ap is_tick h.passed))
 
--- ---- an answer that is too large
+-- ---- an answer too large
 
--- a set of one record of type 1000, of which nothing is known, with this data
+-- a set of a single record of type 1000, with this opaque data
 abbrev pub large : List ℕ → Held
 large octets = record {
   piece = record {
@@ -202,7 +202,7 @@ as_large_as_may_be l octets h none end many =
     let passes_it : 65535 < length (answer_of octets (moment_at l.now)) = subst (λ (n : ℕ). 65535 < n) text h.large in
     omega (arith, takes, many, passes_it)
 
--- an expired set takes as many octets, where it is sent once all tries failed, within the window
+-- an expired set takes as many octets, if sent within the window after all tries failed
 stale_answer_takes : (octets : List ℕ) (t : ℕ)
     → length (full_text (asked_in (header_in text_of_1000) (Some of_1000)) (stale_sections t [] [] (large octets)))
     ≡ 33 + length octets

@@ -1,5 +1,5 @@
--- Which fault is the first, computed: of names in messages, of names, numbers and texts in data,
--- and of names in text.
+-- The first fault found, computed: in names of messages, in names, numbers and texts of data, and
+-- in names of texts.
 use Rattle.std.proofs.Common.{◌≡◌, ℕ, List, [], ◌∷◌, ◌++◌, replicate, Some, None, Ok, Err, refl}
 use Rattle.dns_name.specs.declared.fault.NameFault.TheVariants as name_fault
 use Rattle.dns_name.specs.Text.{written_label_fault, name_in}
@@ -10,8 +10,8 @@ use Rattle.dns_message.specs.Shapes.{shape_of}
 
 -- ---- names in messages
 
--- a pointer's second octet is not there; where it is, the pointer leads nowhere; and one that leads
--- back ends the root's name
+-- a pointer lacks the second octet; with a second octet the pointer leads to itself; and a pointer
+-- back to the root ends the name
 second_octet_absent : name_at (0 ∷ 192 ∷ []) 1 ≡ Err Short
 unfolding name_within walk_in name_step
 second_octet_absent = refl
@@ -24,7 +24,7 @@ pointer_back : name_at (0 ∷ 192 ∷ 0 ∷ []) 1 ≡ Ok ([], 3)
 unfolding name_within walk_in name_step
 pointer_back = refl
 
--- a label of this many octets
+-- a label with this many octets
 abbrev label : ℕ → List ℕ
 label n = n ∷ replicate n 97
 
@@ -35,7 +35,7 @@ three = label 63 ++ (label 63 ++ label 63)
 abbrev labels_of : ℕ → List (List ℕ)
 labels_of last = replicate 63 97 ∷ replicate 63 97 ∷ replicate 63 97 ∷ replicate last 97 ∷ []
 
--- a fourth one of 62 octets would make 256: but its last octet is not there, and that fault comes
+-- a fourth label of 62 octets would make 256, but the last octet is missing, and this fault comes
 -- first
 end_before_length : name_at (three ++ (62 ∷ replicate 61 97)) 0 ≡ Err Short
 unfolding name_within walk_in name_step
@@ -64,8 +64,8 @@ pointer_in_data : data_at 5 (0 ∷ 192 ∷ 0 ∷ []) 1 2 ≡ Ok (0 ∷ [], 3)
 unfolding data_at shape_of parts_at name_within walk_in name_step
 pointer_in_data = refl
 
--- a name of 255 octets is at 0, and an alias leads to it; with a label before the pointer it is too
--- long
+-- a name of 255 octets is at 0, and an alias leads there; a label before the pointer makes the name
+-- too long
 abbrev longest : List ℕ
 longest = three ++ (label 61 ++ 0 ∷ [])
 
@@ -77,14 +77,14 @@ longest_in_data : data_at 5 (longest ++ 192 ∷ 0 ∷ []) 255 2 ≡ Ok (longest,
 unfolding data_at shape_of parts_at name_within walk_in name_step
 longest_in_data = refl
 
--- a label that goes on after the data is its fault, even where it is too long
+-- a label continued after the data is the data's fault, even in a name too long
 data_before_length : data_at 5 (longest ++ 1 ∷ 98 ∷ 62 ∷ []) 255 3 ≡ Err Rdata
 unfolding data_at shape_of parts_at name_within walk_in name_step
 data_before_length = refl
 
 -- ---- numbers and texts in data
 
--- a number of an MX has one octet of two in its data, though the message goes on
+-- a number of an MX has a single octet of two in the data, though the message goes on
 number_cut : data_at 15 (0 ∷ 10 ∷ 0 ∷ []) 0 1 ≡ Err Rdata
 unfolding data_at shape_of parts_at octets_within
 number_cut = refl
@@ -114,7 +114,7 @@ soa_numbers_cut : data_at 6 (soa 20) 0 21 ≡ Err Rdata
 unfolding data_at shape_of parts_at octets_within name_within walk_in name_step
 soa_numbers_cut = refl
 
--- a NAPTR has three texts: here of one octet, and two of none; then the root
+-- a NAPTR has three texts, here of one octet and twice none, and then the root
 abbrev naptr : ℕ → List ℕ
 naptr n = 0 ∷ 1 ∷ 0 ∷ 2 ∷ n ∷ 115 ∷ 0 ∷ 0 ∷ 0 ∷ []
 
@@ -122,7 +122,7 @@ texts : data_at 35 (naptr 1) 0 9 ≡ Ok (naptr 1, 9)
 unfolding data_at shape_of parts_at octets_within text_within name_within walk_in name_step
 texts = refl
 
--- a text that would go on after the data, and one that would begin there
+-- a text continued after the data, and a text begun there
 text_too_long : data_at 35 (naptr 5) 0 9 ≡ Err Rdata
 unfolding data_at shape_of parts_at octets_within text_within name_within walk_in name_step
 text_too_long = refl
@@ -131,14 +131,14 @@ text_missing : data_at 35 (naptr 1) 0 7 ≡ Err Rdata
 unfolding data_at shape_of parts_at octets_within text_within name_within walk_in name_step
 text_missing = refl
 
--- where the octets of the data are not all there, that comes first
+-- if octets of the data are missing, this fault comes first
 end_before_shape : data_at 15 (0 ∷ 10 ∷ 64 ∷ []) 0 4 ≡ Err Short
 unfolding data_at
 end_before_shape = refl
 
 -- ---- names in text
 
--- 64 characters, one of them no character of labels: that is the fault, and not the length
+-- 64 characters, one not allowed in labels: the fault is this character, not the length
 abbrev with_a_star : List ℕ
 with_a_star = replicate 63 97 ++ 42 ∷ []
 
@@ -154,7 +154,7 @@ long_enough = refl
 in_a_text : (name_in with_a_star ≡ Err name_fault.BadCharacter) × (name_in (replicate 64 97) ≡ Err name_fault.LabelLong)
 in_a_text = (refl, refl)
 
--- but the first label's fault comes before those of the labels after it
+-- but the first label's fault comes before the later labels' faults
 the_first_label_first : (name_in (replicate 64 97 ++ (46 ∷ 42 ∷ [])) ≡ Err name_fault.LabelLong)
     × (name_in (42 ∷ 46 ∷ replicate 64 97) ≡ Err name_fault.BadCharacter)
 the_first_label_first = (refl, refl)

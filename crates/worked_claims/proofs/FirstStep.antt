@@ -1,5 +1,5 @@
--- A first step: a client asks for the address of a.e, and these actions are put. Its ask is right,
--- nothing is known before it, and it uses no slot.
+-- A first step: a client asks for the address of a.e, with these actions. The step's ask is right,
+-- nothing is known before, and no slot is used.
 use Rattle.std.proofs.Common.{◌≡◌, ℕ, List, [], ◌∷◌, Bool, refl, sym, subst, inl, inr}
 use Rattle.std.proofs.Common.{arith}
 use Rattle.std.specs.Prelude.{zero, suc}
@@ -25,7 +25,7 @@ use Rattle.worked_claims.proofs.Texts.{question_text, client}
 use Rattle.worked_claims.proofs.Accepted.{ask}
 use Rattle.worked_claims.proofs.Brought.{looks_up_no_other, wants_it, waits_for_new}
 
--- ---- a first step: a client asks for the address of a.e, and this is done
+-- ---- a first step: a client asks for the address of a.e, with these actions
 
 abbrev pub first : Bool → List ℕ → List Action → Step
 first more words actions = record {
@@ -33,14 +33,14 @@ first more words actions = record {
   outcome = record { actions = actions; unkept = 0; more = more };
 }
 
--- its word, and the ask that goes by it
+-- the step's word, and the ask by this word
 abbrev pub word : List ℕ
 word = 524296 ∷ []
 
 abbrev pub asks_it : List Action
 asks_it = ask_udp 1032 server (question_text 8 1) ∷ []
 
--- this many questions may wait
+-- at most this many questions may wait
 abbrev pub with_questions : ℕ → Config
 with_questions questions = record config { limits = record config.limits { questions = questions } }
 
@@ -80,7 +80,7 @@ asks_right questions more = (
   ),
 )
 
--- before it nothing was carried, so nothing is known
+-- before the step nothing was carried, so nothing is known
 pub uses_nothing : (c : Config) (more : Bool) (words : List ℕ) (actions : List Action) (is : List ℕ)
     → UsesWhatStands c (first more words actions ∷ []) (is ∷ [])
 unfolding first_question question_at octets_end name_within walk_in name_step
@@ -101,7 +101,7 @@ none_recent c n zero q (o, end) = end.ready.recent
 none_recent c n (suc more) q (inl (o, end)) = end.ready.recent
 none_recent c n (suc more) q (inr (o, name, alias, rest)) = alias.ready.recent
 
--- a first step that answers nothing uses no slot
+-- a first step without an answer uses no slot
 pub uses_no_slot : (c : Config) (more : Bool) (words : List ℕ) (actions : List Action) (is : List ℕ)
     → ((octets : List ℕ) → Replies actions octets → ⊥)
     → UsesWhatIsRecent c (first more words actions ∷ []) (is ∷ []) ([] ∷ [])

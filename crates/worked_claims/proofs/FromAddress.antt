@@ -1,5 +1,5 @@
--- Shared by the worked histories: a.e is asked for at 2000, and answered from cache with the address
--- that came at 1020. The answer is right after any steps that leave the address standing.
+-- Shared by the worked histories: a.e is asked for at 2000, and answered from cache with the
+-- address from 1020. The answer is right after any steps, if the address still stands.
 use Rattle.std.proofs.Common.{◌≡◌, ℕ, ◌≤◌, List, [], ◌∷◌, length, Some, Ok, refl, sym, ◌∙◌, subst, inl, inr, arith}
 use Rattle.std.specs.Prelude.{map}
 use Rattle.dns_message.specs.Names.{step as name_step, walk_in, name_within}
@@ -54,7 +54,7 @@ unfolding message_at header_of counted question_at octets_end record_at data_at 
     name_within walk_in name_step
 is_read = refl
 
--- the client's question, and the answer that these pieces would give at this moment
+-- the client's question, and its answer from these pieces at this moment
 abbrev own_question : Asked
 own_question = asked_in (header_in (question_text 7 1)) (Some (address a))
 
@@ -138,9 +138,9 @@ answers_at_once before owners stands asker request sends =
       right = right before stands (length (unanswered before owners));
     })
 
--- ---- the slots that were used
+-- ---- the used slots
 
--- the slots along which the look-up led, if the answer is written from these pieces
+-- a look-up led along these slots, if the answer is written from these pieces
 pub looked : (before : List Step) (ts : List Touched) (pieces : List Held)
     → LeadsAlong (AnswersNothing hit) (moment_at (hit ∷ before)) ts (address a) pieces → length pieces ≤ 9
     → ((octets : List ℕ) → Replies hit.outcome.actions octets → octets ≡ text_from (moment_at (hit ∷ before)) pieces)

@@ -1,5 +1,5 @@
--- When an answer from cache is the same as an earlier one, computed: at the same moment and to an
--- equal question it has to be.
+-- Repeated answers from cache, computed: at a single moment, answers to equal questions have to be
+-- the same.
 use Rattle.std.proofs.Common.{◌≡◌, ℕ, List, [], ◌∷◌, Bool, Some, None, true, false, refl, sym, ap, subst, inl, inr}
 use Rattle.std.proofs.Common.{arith}
 use Rattle.std.proofs.lemmas.Bool.{true≢false}
@@ -16,7 +16,7 @@ use Rattle.worked_claims.proofs.Texts.{question_text, client, step_of}
 use Rattle.worked_claims.proofs.Silent.{nothing_heard}
 use Rattle.worked_claims.proofs.SameAnswers.{answer, other_identifiers_are_the_same, other_ttls_are_not_the_same}
 
--- an answer at 2000, and a later one
+-- an answer at 2000, and a later answer
 abbrev hit : Step
 hit = step_of 2000 [] (from_client client (question_text 7 1)) (send_reply client (answer 9 128 60 5 6) Answered ∷ [])
 
@@ -40,12 +40,12 @@ a_local_denial_is_not_from_cache q octets hit = by hit.1
     by (inl is) = true≢false (sym (ap is_answered is.0))
     by (inr more) = more
 
--- its one answer
+-- the step's only answer
 the_answer : (octets : List ℕ) → Replies hit.outcome.actions octets → answer 9 128 60 5 6 ≡ octets
 the_answer octets (inl is) = is.1
 the_answer octets (inr more) = absurd more
 
--- with another identifier it is the same
+-- with a different identifier the answer is the same
 the_same_again : SameAsEarlierFromCache config 2000 (address a) (answer 7 128 60 5 6) (hit ∷ [])
 the_same_again runs now quiet = (
   λ q octets from same. subst (SameSections (answer 7 128 60 5 6))
@@ -53,14 +53,14 @@ the_same_again runs now quiet = (
   tt,
 )
 
--- with other TTLs it is not
+-- with different TTLs the answers differ
 with_another_ttl : SameAsEarlierFromCache config 2000 (address a) (answer 7 128 59 5 6) (hit ∷ []) → ⊥
 unfolding first_question question_at octets_end name_within walk_in name_step
 with_another_ttl h =
     other_ttls_are_not_the_same
     ((h refl refl (nothing_heard config hit [] refl)).0 (address a) (answer 9 128 60 5 6) is_from_cache refl)
 
--- a second later it may have other TTLs
+-- a second later the answer may have different TTLs
 a_second_later : SameAsEarlierFromCache config 3000 (address a) (answer 7 128 59 5 6) (hit ∷ [])
 a_second_later runs now quiet = absurd (let moments : 2000 ≡ 3000 = now in omega (arith, moments))
 
@@ -86,13 +86,13 @@ with_another_ttl_two_steps_back : SameAsEarlierFromCache config 2000 (address a)
 with_another_ttl_two_steps_back h =
     with_another_ttl (h refl refl (nothing_heard config passes (hit ∷ []) refl)).1
 
--- ---- two answers from cache in one era
+-- ---- two answers from cache in a single era
 
--- a second one at the same moment, with these octets
+-- a second answer at this moment, with these octets
 abbrev hit_again : List ℕ → Step
 hit_again octets = step_of 2000 [] (from_client client (question_text 7 1)) (send_reply client octets Answered ∷ [])
 
--- with other TTLs than the first they are not sound, whoever owns them
+-- with TTLs different from the first the answers are not sound, for any owners
 they_differ : (w : List (List ℕ)) → Sound config (hit_again (answer 7 128 59 5 6) ∷ hit ∷ []) w → ⊥
 unfolding first_question question_at octets_end name_within walk_in name_step
 they_differ [] s = s

@@ -1,5 +1,5 @@
--- Which tries are of one inquiry, computed: an ask that a deadline closed, and an inquiry before
--- it, count for nothing; and a try counts if a reply, a failed path or its time ended it.
+-- The tries of an inquiry, computed: an ask closed by a deadline, and an inquiry before, count for
+-- nothing; a try counts if ended by a reply, a failed path or its time.
 use Rattle.std.proofs.Common.{◌≡◌, ◌∙◌, ℕ, List, [], ◌∷◌, Option, Some, None, refl, sym, ap, subst}
 use Rattle.std.proofs.Common.{inl, inr, arith, ◌⊎◌, ◌+◌, ◌≤◌, true}
 use Rattle.std.proofs.lemmas.Bool.{true≢false}
@@ -30,7 +30,7 @@ use Rattle.worked_claims.proofs.Accepted.{asked, ask, answered, answer_with, pie
 abbrev c : Config
 c = with_limits 2 600
 
--- ---- an ask failed, the next one was closed at a deadline
+-- ---- an ask failed, the next ask was closed at a deadline
 
 abbrev retries : Step
 retries = step_of 2500 [] tick (close_udp 1032 ∷ ask_udp 1040 server (question_text 16 1) ∷ [])
@@ -38,7 +38,7 @@ retries = step_of 2500 [] tick (close_udp 1032 ∷ ask_udp 1040 server (question
 abbrev second_ask : ShownAsk
 second_ask = record { path = Udp 1040; server = server; octets = question_text 16 1; moment = 2500 }
 
--- the client's time is over, and nobody else waits
+-- the client's time is over, and no other client waits
 abbrev overdue : Step
 overdue = step_of 3000 [] tick (close_udp 1040 ∷ send_reply client (failure_with 7 2) Deadline ∷ [])
 
@@ -53,7 +53,7 @@ closes_second s same = record {
   same = refl;
 }
 
--- ---- a new client asks, and one reply comes: the server failed
+-- ---- a new client asks, and a reply comes: the server failed
 
 abbrev asks_again : Step
 asks_again = step_of 3100 [] (from_client other_client (question_text 9 1))
@@ -124,7 +124,7 @@ two_of_the_era = (
   ),
 )
 
--- but one is of the inquiry
+-- but only a single try is of the inquiry
 one_of_the_inquiry : (q : Question) → TriesFailed c q (fails_at_once ∷ ended) 2 → ⊥
 unfolding first_question question_at octets_end name_within walk_in name_step
 one_of_the_inquiry q h =
@@ -207,7 +207,7 @@ exhausted_after_two = record {
 
 -- ---- why an ask failed
 
--- its path fails, or its time is over
+-- the ask's path fails, or the ask's time is over
 second_fails : (s : Step) → s.outcome.actions ≡ overdue.outcome.actions → NothingAccepted c s (retries ∷ asked ∷ [])
     → MayFail c s (retries ∷ asked ∷ []) second_ask (address a) → FailsAsk c (address a) s (retries ∷ asked ∷ [])
 unfolding closes_second
@@ -224,7 +224,7 @@ with_its_time : FailsAsk c (address a) (ends_with 4000 tick) (retries ∷ asked 
 with_its_time = second_fails (ends_with 4000 tick) refl
     (nothing_heard c (ends_with 4000 tick) (retries ∷ asked ∷ []) refl) (inr (inr (refl, omega arith)))
 
--- a millisecond sooner a tick closes it with a question alone
+-- a millisecond sooner a tick closes the ask only together with a question
 sooner : (q : Question) → FailsAsk c q (ends_with 3999 tick) (retries ∷ asked ∷ []) → ⊥
 sooner q h = by h.why
   where
@@ -243,9 +243,9 @@ sooner q h = by h.why
 an_accepted_reply : FailsAsk c (address a) answered (asked ∷ []) → ⊥
 an_accepted_reply h = h.quiet (piece ∷ []) (carries 2 600)
 
--- ---- where the tries of an inquiry begin
+-- ---- the beginning of an inquiry's tries
 
--- the accepted reply is one to the question of the only ask
+-- the accepted reply is to the question of the only ask
 its_question : (h : Carries c answered (asked ∷ []) (piece ∷ [])) → address a ≡ h.accepts.asked
 unfolding first_question question_at octets_end name_within walk_in name_step
 its_question h =
@@ -254,7 +254,7 @@ its_question h =
     ap (λ (x : ShownAsk). one_question x.octets) is ∙ h.accepts.matches.ask_reads in
     cc
 
--- a reply to it is accepted
+-- a reply to the question is accepted
 accepted_for_it : AcceptsFor c (address a) answered (asked ∷ [])
 accepted_for_it = record {
   pieces = piece ∷ [];
@@ -271,7 +271,7 @@ accepted_for_another h =
     let own : address a ≡ h.carries.accepts.asked = cc in
     true≢false (sym h.same ∙ ap (λ (z : Question). same_question z (record (address a) { kind = 28 })) (sym own))
 
--- while an ask is open, another one begins nothing
+-- while an ask is open, a further ask begins nothing
 abbrev asks_twice : Step
 asks_twice = step_of 1010 [] (from_client other_client (question_text 9 1))
     (ask_udp 1040 server (question_text 16 1) ∷ [])
@@ -289,11 +289,11 @@ sent_besides h = elim h.1 [
   | inr left ↦ left.0.1 (inl (address a, refl, refl))
 ]
 
--- a step that asks nothing begins nothing
+-- a step without an ask begins nothing
 asks_nothing : (q : Question) → BeginsToAsk c q (step_of 1000 [] tick []) [] → ⊥
 asks_nothing q h = h.0
 
--- an ask that failed is followed at once by the next one of its inquiry
+-- a failed ask is followed at once by the inquiry's next ask
 abbrev stops : Step
 stops = step_of 2500 [] tick (close_udp 1032 ∷ [])
 

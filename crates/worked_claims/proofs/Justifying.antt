@@ -1,5 +1,6 @@
--- Whom a carried piece may serve, computed: it is alive when the client asks, nothing carried until
--- then took its place, and it is of the name's route. Of each neighbour one of these fails alone.
+-- The questions a carried piece may serve, computed: the piece is alive when the client asks, is
+-- not replaced until then, and is of the name's route. Each neighbour fails in one of these fields
+-- alone.
 use Rattle.std.proofs.Common.{◌≡◌, ℕ, ◌+◌, ◌*◌, ◌<◌, List, [], ◌∷◌, ◌++◌, length, false, Option, Some, refl, sym, ap, subst, ◌⊎◌}
 use Rattle.std.proofs.Common.{inl, inr, arith}
 use Rattle.dns_message.proofs.CallerLemmas.{message_read_is_spelled}
@@ -31,7 +32,7 @@ asks_at now = step_of now [] (from_client client (question_text 7 1)) []
 abbrev at_once : Config → ℕ → List Step → Look
 at_once c now before = record { config = c; asked = asks_at now; before = before; now = asks_at now ∷ before }
 
--- a piece that it justifies came before it, was not replaced, and was alive
+-- a piece justified at once was carried before, not replaced, and alive
 justified_before : (c : Config) (now : ℕ) (before : List Step) (os : List Held) (name : List (List ℕ)) (o : Held)
     → AllDiffer c.routes → CarriedInEra c before os → Justified (at_once c now before) name o
     → NotReplaced o os × (moment_at (asks_at now ∷ before) < o.accepted + 1000 * o.piece.lifetime)
@@ -109,7 +110,7 @@ but_for_its_place o route kept alive = justified_at_once c (asks_at 3000) renewe
 the_newer_one : Justified (at_once c 3000 renewed) a newer
 the_newer_one = but_for_its_place newer refl (inl refl) (omega arith)
 
--- the older one would live on
+-- the older piece would still be alive
 but_for_the_newer_one : NotReplaced held (newer ∷ held ∷ []) → Justified (at_once c 3000 renewed) a held
 but_for_the_newer_one kept = but_for_its_place held refl kept (omega arith)
 
@@ -122,7 +123,7 @@ the_older_one j = by (justified_before c 3000 renewed (newer ∷ held ∷ []) a 
 
 -- ---- on the name's route
 
--- b.e has a route of its own
+-- b.e has its own route
 abbrev two_routes : Config
 two_routes = record config {
   routes = record { suffix = []; deny = false; servers = server ∷ [] }

@@ -1,6 +1,7 @@
--- Why a reply is lame at a name: the name has no set of the asked type, and two aliases or one
--- without target (RFC 2181 10.1); or the reply refers to further servers (RFC 2308 2.2). Each field
--- has a neighbour that fails in this field alone, or a lemma by which the other fields decide it.
+-- The reasons for a lame reply at a name: the name has no set of the asked type, and two aliases or
+-- an alias without target (RFC 2181 10.1); or the reply refers to further servers (RFC 2308 2.2).
+-- Each field has a neighbour failing in this field alone, or a lemma deciding the field from the
+-- rest.
 use Rattle.std.proofs.Common.{◌≡◌, ◌≢◌, ◌⊎◌, ℕ, true, false, inl, inr, List, [], ◌∷◌, Some, None, refl, sym, ap, ◌∙◌}
 use Rattle.std.proofs.Common.{subst, arith}
 use Rattle.std.proofs.lemmas.Bool.{true≢false}
@@ -22,7 +23,7 @@ use Rattle.worked_claims.proofs.AtOneName.{answering, of_a, to_e}
 
 -- ---- the way is lost
 
--- two aliases, and behind them these answers
+-- two aliases, and then these answers
 abbrev two_and : List Record → Reply
 two_and more = answering (to_b ∷ to_e ∷ more)
 
@@ -62,7 +63,7 @@ lost_next_to_a_set = (
   λ h. h.no_set of_a (record { there = inr (inr (inl refl)); kind = refl; class = refl; name = refl }),
 )
 
--- a single alias, with its target
+-- a single alias, with a target
 lost_by_one_alias : HoldsButFor (HasTwoAliases (answering (to_b ∷ [])) a ⊎ HasNoTarget (answering (to_b ∷ [])) a)
     (LosesItsWay (answering (to_b ∷ [])) a)
 unfolding name_of_rdata name_within walk_in name_step
@@ -76,7 +77,7 @@ lost_by_one_alias = (
   ],
 )
 
--- The field `other` has no neighbour: a question for aliases lacks no alias that the name has.
+-- The field `other` has no neighbour: a question for aliases lacks no alias of the name.
 way_is_not_asked_for : (r : Reply) (name : List (List ℕ)) → LacksAt r r.question.kind name
     → HasTwoAliases r name ⊎ HasNoTarget r name → r.question.kind ≡ 5 → ⊥
 way_is_not_asked_for r name none lost five =
@@ -107,7 +108,7 @@ referred_on = record {
   refers = record { clear = refl; s = ns e 1; there = inl refl; kind = refl };
 }
 
--- of a name to which one alias led
+-- for a name after an alias
 referred_on_later : HoldsButFor (◌≡◌ {A = ℕ} 1 0) (IsReferredOn silent 1 a)
 referred_on_later = (
   λ first. record {
@@ -120,7 +121,7 @@ referred_on_later = (
   λ h. omega (arith, h.first),
 )
 
--- of a name that is said not to be there
+-- for a name denied by the reply
 referred_on_by_an_error : HoldsButFor (◌≢◌ {A = ℕ} 3 3) (IsReferredOn (seen (message false 3 [] servers)) 0 a)
 referred_on_by_an_error = (
   λ other. record {

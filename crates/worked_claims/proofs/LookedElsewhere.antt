@@ -1,5 +1,5 @@
--- Neighbours of the history in `LookedOn`, of which all else holds: a slot that no look-up used, that of
--- the alias that came with the reply; and a reply that leads to no further name.
+-- Neighbours of the history in `LookedOn`, with all else holding: a slot used by no look-up (the
+-- reply's own alias), and a reply leading to no further name.
 use Rattle.std.proofs.Common.{◌≡◌, ℕ, List, [], ◌∷◌, ◌++◌, Option, Some, refl, sym, ap, subst, inl, inr}
 use Rattle.std.specs.Prelude.{map, flat_map}
 use Rattle.std.specs.List.{AllByRecursion}
@@ -17,7 +17,7 @@ use Rattle.worked_claims.proofs.LookedOn.{asks_b, before, leads_on, alias, Looke
 use Rattle.worked_claims.proofs.OnlyThis.{leads_nowhere}
 use Rattle.worked_claims.proofs.Whole.{history}
 
--- ---- the slot of the alias, which came with the reply
+-- ---- the slot of the alias in the reply
 
 but_for_what_it_uses : LooksAlong (Unit {0}) 2020 touched_before (address a) (alias.piece.slot ∷ [])
     → LookedOn (alias.piece.slot ∷ [])
@@ -83,7 +83,7 @@ it_uses_not_the_alias looked = by (looked touched_before touched_before_is)
         let kinds : ◌≡◌ {A = Option ℕ} (Some 1) (Some 5) = ap (λ (slot : Slot). slot.kind) all.0 in
         absurd cc
 
--- ---- a reply that leads to no further name: all else holds of it, and it uses nothing
+-- ---- a reply leading to no further name: all else holds, and no slot is used
 
 abbrev LookedOnAt : Type 0
 LookedOnAt = (name : List (List ℕ)) × ((accepts 4 0).end ≡ elsewhere name)

@@ -1,6 +1,6 @@
--- A history that serves truly, whole: the address of a.e is asked for and answered, then that of
--- b.e, of which a reply says that it is an alias of a.e. The look-up of this name uses the slot of
--- the address, and the answer has both. `LookedElsewhere` has its neighbours.
+-- A history that serves truly, whole: the address of a.e is asked for and answered, then the
+-- address of b.e; the reply makes b.e an alias of a.e. The look-up of a.e uses the slot of the
+-- address, and the answer has alias and address. `LookedElsewhere` has the neighbours.
 use Rattle.std.proofs.Common.{◌≡◌, ◌≢◌, ◌∙◌, ℕ, zero, suc, List, [], ◌∷◌, Option, Some, Ok}
 use Rattle.std.proofs.Common.{refl, sym, ap, subst, inl, inr, arith}
 use Rattle.std.specs.Prelude.{flat_map}
@@ -133,7 +133,7 @@ unfolding first_question question_at octets_end name_within walk_in name_step
 matches = matches_ask config leads_on before ask reply_text (address b) (refl, refl, omega arith)
     (omega arith, omega arith, refl, refl, refl, refl, refl, refl)
 
--- it is accepted, and leads to a.e
+-- the reply is accepted, and leads to a.e
 abbrev AcceptsSo : Type 0
 AcceptsSo = (k : Accepts config leads_on before (alias.piece ∷ []) []) × (k.asked ≡ address b) × (k.end ≡ elsewhere a)
 
@@ -300,7 +300,7 @@ waits_on = (
   record { wanted = []; each = tt; asked = tt; wanting = tt; spelled = tt },
 )
 
--- ---- b.e was not known before, and nothing recent answers it
+-- ---- b.e was not known before, and nothing recent answers the question
 
 asks_for_b : (asker : Client) (q : Question) → AsksToLookUp config asks_b asker q → address b ≡ q
 unfolding first_question question_at octets_end name_within walk_in name_step
@@ -360,7 +360,7 @@ none_ready (suc more) (inr (o, name, leads, rest)) =
     no_alias name (subst (λ (h : Held). IsReadyAlias config 2000 touched (address b) h name)
     (sym (came o (recent_came 4096 touched o leads.ready.slots leads.ready.recent))) leads)
 
--- ---- all else holds, whatever slots the look-up is said to have used
+-- ---- all else holds, whatever the slots claimed as used
 
 -- look-ups of the newest step used these slots
 abbrev pub LookedOn : List Slot → Type 0

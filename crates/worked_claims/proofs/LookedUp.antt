@@ -1,5 +1,5 @@
--- Which messages are looked up, which question an owner wants, and how many pieces a look-up may lead
--- along, computed; of each neighbour one part fails.
+-- Messages to look up, the question wanted by an owner, and the number of pieces along a look-up,
+-- computed; in each neighbour a single part fails.
 use Rattle.std.proofs.Common.{◌≡◌, ◌∙◌, ℕ, zero, suc, List, [], ◌∷◌, length, Option, Some, None, refl, sym, ap}
 use Rattle.std.proofs.Common.{inl, inr, arith}
 use Rattle.std.specs.Prelude.{map}
@@ -31,7 +31,7 @@ use Rattle.worked_claims.proofs.Aliases.{alias, loop, loops, no_alias_asked}
 use Rattle.worked_claims.proofs.Reasons.{denies_a}
 use Rattle.worked_claims.proofs.Brought.{request_is, question_is, looks_up, wants_it}
 
--- ---- messages that are looked up
+-- ---- messages to look up
 
 abbrev brings : List ℕ → Step
 brings octets = step_of 1000 [] (from_client client octets) []
@@ -39,7 +39,7 @@ brings octets = step_of 1000 [] (from_client client octets) []
 a_standard_query : AsksToLookUp config (brings (question_text 7 1)) client (address a)
 a_standard_query = looks_up (brings (question_text 7 1)) 7 refl
 
--- the octets are those of the event
+-- the octets are the event's
 own_octets : (c : Config) (octets : List ℕ) (asker : Client) (q : Question)
     (asks : AsksToLookUp c (brings octets) asker q) → octets ≡ asks.octets
 own_octets c octets asker q asks = ap (λ (r : Request). r.octets)
@@ -52,7 +52,7 @@ another_opcode asker q asks =
     ∙ asks.opcode in
     omega (arith, opcode)
 
--- a reply, which is dropped
+-- a reply, to be dropped
 abbrev reply_text : List ℕ
 reply_text = with_flags 7 129 0 1
 
@@ -70,7 +70,7 @@ every_type asker q asks =
     (ap one_question (own_octets config (question_text 7 255) asker q asks) ∙ asks.reads) in
     true≢false (ap is_unserved is ∙ asks.served)
 
--- a name that no route serves
+-- a name without a serving route
 a_denied_name : (asker : Client) (q : Question) → AsksToLookUp denies_a (brings (question_text 7 1)) asker q → ⊥
 unfolding first_question question_at octets_end name_within walk_in name_step route_of
 a_denied_name asker q asks =
@@ -80,7 +80,7 @@ a_denied_name asker q asks =
     ∙ asks.on_route in
     absurd cc
 
--- ---- the question that an owner wants: its own, where no alias was carried
+-- ---- the question wanted by an owner: its own, if no alias was carried
 
 abbrev one_asked : List Step
 one_asked = asked ∷ []

@@ -1,6 +1,5 @@
--- Which octets match a listed ask, and which match is accepted, computed: the reply that does, and
--- neighbours that differ in one thing: server, path, identifier, flags, question, result code, and
--- pieces.
+-- Octets matching a listed ask, and matches to accept, computed: the reply, and neighbours with a
+-- single difference: server, path, identifier, flags, question, result code, or pieces.
 use Rattle.std.proofs.Common.{◌≡◌, ℕ, ◌+◌, ◌<◌, ◌≤◌, List, [], ◌∷◌, length, get_or, Option, Some, None, Ok, true, false, Bool, refl, sym, ap, ◌∙◌, ◌⊎◌, inl, inr, arith}
 use Rattle.std.proofs.lemmas.Bool.{true≢false}
 use Rattle.dns_message.specs.Names.{step as name_step, walk_in, name_within}
@@ -29,9 +28,9 @@ use Rattle.worked_claims.proofs.Texts.{with_flags, step_of, the_only_ask, none_l
 use Rattle.worked_claims.proofs.ReplyTo.{matches_ask}
 use Rattle.worked_claims.proofs.Accepted.{asked, ask, answer_with, reply_text, answered, piece, matches, accepts}
 
--- ---- deliveries, and the ask that they match
+-- ---- deliveries, and the matched ask
 
--- octets that come from a peer on a path
+-- octets from a peer on a path
 abbrev comes : Path → Peer → List ℕ → Step
 comes path from octets = step_of 1020 [] (delivery path from octets) []
 
@@ -51,12 +50,12 @@ abbrev from_in : Option Delivered → ℕ
 from_in None = 0
 from_in (Some d) = get_or d.from.ip 3 0
 
--- one ask is listed, so it is that one
+-- a single ask is listed, so this ask is matched
 the_ask : (s : Step) (x : ShownAsk) (octets : List ℕ) (q : Question) → Matches config s (asked ∷ []) x octets q
     → x ≡ ask
 the_ask s x octets q h = sym (the_only_ask _ ask x h.is_listed)
 
--- the octets are those that came
+-- the matched octets are the delivered octets
 the_octets : (path : Path) (from : Peer) (octets read : List ℕ) (x : ShownAsk) (q : Question)
     → Matches config (comes path from octets) (asked ∷ []) x read q → read ≡ octets
 the_octets path from octets read x q h = sym (ap octets_in h.delivered)
@@ -118,7 +117,8 @@ too_short : (s : Step) (x : ShownAsk) (q : Question)
     → Matches config s (asked ∷ []) x (0 ∷ 8 ∷ 133 ∷ 0 ∷ 0 ∷ 1 ∷ 0 ∷ 0 ∷ 0 ∷ 0 ∷ 0 ∷ []) q → ⊥
 too_short s x q h = let long : 12 ≤ 11 = h.long_enough in omega (arith, long)
 
--- as long as a message may be, and an octet longer: octets whose header and question match
+-- octets of the greatest length of a message, and an octet longer, with matching header and
+-- question
 as_long_as_may_be : (octets : List ℕ) → length octets ≡ 65535 → (header_in octets).qr ≡ true
     → (header_in octets).opcode ≡ 0 → (header_in octets).id ≡ 8 → one_question octets ≡ Some (address a)
     → Matches config (comes (Udp 1032) server octets) (asked ∷ []) ask octets (address a)
@@ -131,7 +131,7 @@ too_long : (s : Step) (x : ShownAsk) (q : Question) (octets : List ℕ) → leng
     → Matches config s (asked ∷ []) x octets q → ⊥
 too_long s x q octets long h = let most = h.not_too_long in omega (arith, long, most)
 
--- for type 28 where type 1 was asked for
+-- for type 28 instead of type 1
 to_another_question : (s : Step) (x : ShownAsk) (q : Question)
     → Matches config s (asked ∷ []) x (with_flags 8 133 0 28) q → ⊥
 unfolding first_question question_at octets_end name_within walk_in name_step
@@ -170,7 +170,7 @@ abbrev is_cut : Option Header → Bool
 is_cut None = false
 is_cut (Some h) = h.tc
 
--- the header of an accepted reply is that of the octets that came
+-- the header of an accepted reply is the delivered octets' header
 the_header : (octets : List ℕ) (pieces servers : List Piece)
     (h : Accepts config (comes (Udp 1032) server octets) (asked ∷ []) pieces servers)
     → header_of octets ≡ Some h.message.header

@@ -1,6 +1,6 @@
--- How a history explains the cache and the lists, computed: entries that mirror the standing pieces,
--- recent pieces that are still entries, and asks and waiting questions that serve each other. Of each
--- neighbour one part fails alone.
+-- Histories explaining the cache and the lists, computed: entries mirroring the standing pieces,
+-- recent pieces still among the entries, and asks and waiting questions serving each other. In each
+-- neighbour a single part fails.
 use Rattle.std.proofs.Common.{◌≡◌, ◌∙◌, ℕ, ◌+◌, ◌*◌, ◌<◌, ◌≤◌, List, [], ◌∷◌, Bool, true, false, Some, refl, sym, ap, subst, ◌⊎◌}
 use Rattle.std.proofs.Common.{inl, inr, arith}
 use Rattle.std.specs.Prelude.{◌&&◌}
@@ -75,7 +75,7 @@ writable : (letter moment lifetime : ℕ) → IsWritable (of ((letter ∷ []) �
 writable letter moment lifetime =
     record { owner = name_below letter; class = omega arith; kind = omega arith; body = tt }
 
--- ---- entries that mirror the standing pieces, from a moment on
+-- ---- entries mirroring the standing pieces, from a moment on
 
 one_entry : Mirrors 2000 (of_a ∷ []) (of_a ∷ [])
 one_entry = record {
@@ -94,7 +94,7 @@ one_entry = record {
     by true h among = among
     by false h among = absurd among
 
--- an entry that was not carried, though it has expired
+-- an expired entry, never carried
 never_carried : Mirrors 70000 (of_a ∷ []) (of_a ∷ of_b ∷ []) → ⊥
 never_carried h = by (h.was_carried of_b (inr (inl refl)))
   where
@@ -102,7 +102,7 @@ never_carried h = by (h.was_carried of_b (inr (inl refl)))
     by (inl same) = b_is_not_a (sym same)
     by (inr never) = never
 
--- an entry that a newer one took the place of
+-- an entry replaced by a newer entry
 abbrev again : Held
 again = of a 1500 60
 
@@ -117,7 +117,7 @@ replaced h = by (h.stands 2000 (omega arith) of_a (inr (inl refl)) refl)
 lost_one : Mirrors 2000 (of_a ∷ []) [] → ⊥
 lost_one h = h.held 2000 (omega arith) of_a (inl refl)
 
--- ---- recent pieces that are still entries, after entries of the slots touched since
+-- ---- recent pieces still among the entries, after entries of the slots touched since
 
 after_another : ComesAfter (of_b.piece.slot ∷ []) of_a (of_b ∷ of_a ∷ [])
 after_another = inr (inl refl, inl refl)
@@ -131,11 +131,11 @@ after_an_untouched_one (inr (inr never, more)) = never
 abbrev carrying : Held → Touched
 carrying o = record { carried = o ∷ []; used = []; unkept = 0 }
 
--- a reply carried the address of a.e, a later one that of b.e
+-- a reply carried the address of a.e, a later reply the address of b.e
 abbrev two_came : List Touched
 two_came = carrying of_b ∷ carrying of_a ∷ []
 
--- of the entries, with or without more behind them
+-- among the entries, with or without more at the end
 in_order : (more : List Held) (o : Held) (slots : List Slot) → IsRecent 4096 two_came o slots
     → ComesAfter slots o (of_b ∷ of_a ∷ more)
 in_order more o slots (few, touches, inl brings) = inl (the_one_brought brings).0
@@ -171,7 +171,7 @@ both_kept = record {
   order = λ o slots recent alive. in_order [] o slots recent;
 }
 
--- an entry that no reply carried, behind them
+-- an entry carried by no reply, at the end
 abbrev of_nobody : Held
 of_nobody = of ((120 ∷ []) ∷ (101 ∷ []) ∷ []) 1040 60
 
@@ -209,7 +209,7 @@ carried_by_nobody h = by h.kept.1.1.0.not_replaced
     by (inr (keeps, inl same)) = other of_a 97 refl (λ letters. omega (arith, letters)) same
     by (inr (keeps, inr never)) = never.1
 
--- the address of a.e came last: each entry was carried, but the other one is in front of it
+-- the address of a.e came last: each entry was carried, but b.e's is in front of a.e's
 abbrev turned_round : List Touched
 turned_round = carrying of_a ∷ carrying of_b ∷ []
 
@@ -284,11 +284,11 @@ nothing_touched = record {
 a_recent_entry_from_nowhere : HasRecent config [] [] (with_entry of_a) → ⊥
 a_recent_entry_from_nowhere h = (h.keeps [] refl).kept.0.not_replaced
 
--- so nothing explains it
+-- so no history explains the entry
 an_unexplained_entry : FullyExplains config [] [] (with_entry of_a) → ⊥
 an_unexplained_entry h = an_entry_from_nowhere h.mirrored
 
--- ---- what one step carried
+-- ---- the pieces carried by a step
 
 abbrev quiet_step : Step
 quiet_step = record { input = record { now = 0; words = []; event = tick }; outcome = record { actions = []; unkept = 0; more = false } }

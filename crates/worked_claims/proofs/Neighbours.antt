@@ -1,5 +1,5 @@
--- How a neighbour is told from an example.
+-- Neighbours of an example: a single part fails.
 
--- with this part the whole holds, and it does not hold: the part alone fails
+-- the whole fails, but would hold with this part: the part alone fails
 abbrev pub HoldsButFor : Type 0 → Type 0 → Type 0
 HoldsButFor part whole = (part → whole) × (whole → ⊥)

@@ -1,5 +1,5 @@
--- NODATA of a name, in worked replies (RFC 2308 2.2), and neighbours that fail in one field alone.
--- The neighbours of the other two fields, of the code and the SOA, are in `cache_laws`.
+-- NODATA of a name, in worked replies (RFC 2308 2.2), and neighbours failing in a single field. The
+-- neighbours for the code and for the SOA are in `cache_laws`.
 use Rattle.std.proofs.Common.{◌≡◌, ◌⊎◌, ℕ, inl, inr, List, [], ◌∷◌, Option, Some, None, refl, ap, arith}
 use Rattle.std.proofs.lemmas.Bool.{true≢false}
 use Rattle.dns_name.specs.Labels.{lowered}
@@ -12,7 +12,7 @@ use Rattle.cache_laws.proofs.Worked.{a, b, names_differ}
 use Rattle.worked_claims.proofs.Neighbours.{HoldsButFor}
 use Rattle.worked_claims.proofs.AtOneName.{of_a, kinds_are, piece_of, coded, nothing_at_a}
 
--- the reply has no SOA, is no referral, and the name is the asked one
+-- the reply has no SOA and is no referral, and the name is the asked name
 told_by_a : (rcode : ℕ) (answers : List Record)
     → HasSoaFor (coded rcode answers) a ⊎ (◌≡◌ {A = ℕ} 0 0 × (IsReferral (coded rcode answers) → ⊥))
 told_by_a rcode answers = inr (refl, λ h. true≢false h.clear)

@@ -1,6 +1,6 @@
--- For each field of `ServesTruly` but those on use a history of which all else holds: a wrong
--- reply, a wrong report, too many questions that wait, a wrong ask, and a question for which
--- nothing is asked.
+-- For each field of `ServesTruly`, except for the fields on use, a history with all else holding: a
+-- wrong reply, a wrong report, too many waiting questions, a wrong ask, and a question without an
+-- ask.
 use Rattle.std.proofs.Common.{◌≡◌, ℕ, ◌≤◌, List, [], ◌∷◌, true, false, Option, Some, None, refl, sym, ap, ◌∙◌, subst}
 use Rattle.std.proofs.Common.{inl, inr, arith}
 use Rattle.std.specs.Prelude.{zero, suc, length}
@@ -33,7 +33,7 @@ use Rattle.worked_claims.proofs.Brought.{looks_up_no_other, wants_it}
 use Rattle.worked_claims.proofs.FirstStep.{first, word, asks_it, with_questions, asked_for, asks_right}
 use Rattle.worked_claims.proofs.FirstStep.{uses_nothing, uses_no_slot, only_asks}
 
--- ---- a reply that is not right: the failure of a deadline, in a step that is no tick
+-- ---- a wrong reply: the failure of a deadline, without a tick
 
 abbrev fails_early : Step
 fails_early = first false word (send_reply client [] Deadline ∷ [])
@@ -49,7 +49,7 @@ not_sound h = by h.sound.owners h.sound.sound
     by ([] ∷ w) s = s.1
     by ((i ∷ is) ∷ w) s = let own = s.1.0 in no_tick own.right.1.passed
 
--- it is no answer
+-- the reply is no answer
 only_fails : (octets : List ℕ) → Replies fails_early.outcome.actions octets → ⊥
 only_fails octets (inl (is, same)) = absurd cc
 only_fails octets (inr never) = never
@@ -64,7 +64,7 @@ but_for_soundness sound = record {
   recent = uses_no_slot config false word (send_reply client [] Deadline ∷ []) (0 ∷ []) only_fails;
 }
 
--- ---- a step that reports more due, where nothing is
+-- ---- a step reporting more due, with nothing due
 
 abbrev tells_more : Step
 tells_more = first true word asks_it
@@ -89,7 +89,7 @@ but_for_what_it_tells tells = record {
   recent = uses_no_slot config true word asks_it [] only_asks;
 }
 
--- ---- two questions, where one may wait
+-- ---- two questions, with room for one
 
 abbrev one_may_wait : Config
 one_may_wait = with_questions 1
@@ -97,7 +97,7 @@ one_may_wait = with_questions 1
 abbrev joins : Step
 joins = step_of 1010 [] (from_client client (question_text 9 1)) []
 
--- where no reply is sent, none owns one
+-- without a reply, no question owns a reply
 none_owned : (c : Config) (w : List (List ℕ)) → Sound c (joins ∷ first false word asks_it ∷ []) w → w ≡ [] ∷ [] ∷ []
 none_owned c [] s = absurd s
 none_owned c (is ∷ []) s = absurd s.0
@@ -193,7 +193,7 @@ but_for_how_many_wait few = record {
   recent = joins_recent;
 }
 
--- ---- an ask that no word gives
+-- ---- an ask drawn from no word
 
 not_asking_well : ServesTruly config (first false [] asks_it ∷ []) → ⊥
 not_asking_well h = none_drawn h.asks.3.0.0.drawn_so
@@ -211,7 +211,7 @@ but_for_its_ask asks_so = record {
   recent = uses_no_slot config false [] asks_it [] only_asks;
 }
 
--- ---- a question that waits, and nothing is asked
+-- ---- a waiting question, with nothing asked
 
 not_asked_for : ServesTruly config (first false word [] ∷ []) → ⊥
 not_asked_for h = by h.sound.owners h.sound.sound h.waiting

@@ -1,4 +1,4 @@
--- The worked reply carried its piece, and nothing else; and it leads to no further name.
+-- The worked reply carried its piece alone, and leads to no further name.
 use Rattle.std.proofs.Common.{◌≡◌, ◌∙◌, ℕ, List, [], ◌∷◌, ◌++◌, Some, Ok, Result, sym, ap, subst}
 use Rattle.dns_message.specs.declared.names.fault.Fault.{Fault}
 use Rattle.dns_message.specs.Names.{step as name_step, walk_in, name_within}
@@ -70,6 +70,6 @@ module _ (pieces servers : List Piece) (k : Accepts config answered (asked ∷ [
   pub leads_nowhere : (name : List (List ℕ)) → k.end ≡ elsewhere name → ⊥
   leads_nowhere name on = let same : found ≡ elsewhere name = end_is ∙ on in absurd (cc)
 
--- a step like it carried this piece alone
+-- the step carried this piece alone
 pub carries_this : (ps : List Piece) → Carries config answered (asked ∷ []) ps → ps ≡ piece ∷ []
 carries_this ps k = k.are ∙ pieces_are k.pieces k.servers k.accepts

@@ -1,5 +1,5 @@
--- Which step may own a reply, computed: a question owns one reply, of the client that asked it, in
--- its own era; and a message that is dropped owns none.
+-- The owner of a reply, computed: a question owns a single reply, sent to its own client, in its
+-- own era; a dropped message owns none.
 use Rattle.std.proofs.Common.{◌≡◌, ℕ, List, [], ◌∷◌, length, get_or, Option, Some, None, true, false, refl, sym, ap}
 use Rattle.std.proofs.Common.{◌∙◌, ◌⊎◌, inl, inr, arith}
 use Rattle.std.proofs.lemmas.Bool.{true≢false}
@@ -20,7 +20,7 @@ use Rattle.worked_claims.proofs.Accepted.{asked}
 use Rattle.worked_claims.proofs.Texts.{question_text, status_text, with_flags, failure_with, client, other_client}
 use Rattle.worked_claims.proofs.Texts.{step_of, in_one, in_two}
 
--- ---- one reply for each question
+-- ---- a single reply for each question
 
 -- opcode 2, RD, QR, RA, result code 4, and no question
 abbrev refusal : List ℕ
@@ -29,7 +29,7 @@ refusal = 0 ∷ 7 ∷ 145 ∷ 132 ∷ 0 ∷ 0 ∷ 0 ∷ 0 ∷ 0 ∷ 0 ∷ 0 ∷ 
 abbrev refuses : Action
 refuses = send_reply client refusal BadOpcode
 
--- a message of another opcode, with these replies at once
+-- a message with opcode 2, and these replies at once
 abbrev told : List Action → Step
 told actions = step_of 1000 [] (from_client client (status_text 7)) actions
 
@@ -52,11 +52,11 @@ owns_its_reply actions = record {
 one_question_owns_one_reply : EachOwned config (told (refuses ∷ []) ∷ []) (refuses ∷ []) [] (0 ∷ [])
 one_question_owns_one_reply = (owns_its_reply (refuses ∷ []), refl, refl)
 
--- in a history of one step there is one number
+-- a history of a single step has a single number
 number_in_one : (s : Step) (owners : List ℕ) (i : ℕ) (r : SentReply) → Owns config (s ∷ []) owners i r → i ≡ 0
 number_in_one s owners i r h = h.number ∙ ap length (in_one s h.asked h.before h.in_era).1
 
--- neither in one step
+-- neither in a single step
 one_question_owns_no_two_replies : (is : List ℕ)
     → EachOwned config (told (refuses ∷ refuses ∷ []) ∷ []) (refuses ∷ refuses ∷ []) [] is → ⊥
 one_question_owns_no_two_replies [] h = h
@@ -68,7 +68,7 @@ one_question_owns_no_two_replies (i ∷ j ∷ is) h =
     let again : among j (i ∷ []) ≡ true = λ k. among (second k) (first k ∷ []) in
     true≢false (sym again ∙ h.2.1)
 
--- nor in a later one
+-- nor in a later step
 an_owner_owns_no_later_reply : EachOwned config (told (refuses ∷ []) ∷ told (refuses ∷ []) ∷ []) (refuses ∷ [])
     (0 ∷ []) (0 ∷ [])
     → ⊥
@@ -83,7 +83,7 @@ a_reply_has_an_owner h = h
 abbrev overdue_reply : Client → SentReply
 overdue_reply to = record { client = to; octets = failure_with 7 2; why = Deadline }
 
--- eight seconds later the client, or another one, gets the reply that it waited too long
+-- eight seconds later this client gets the failure at the deadline
 abbrev overdue : Client → Step
 overdue to = step_of 9000 [] tick (send_reply to (failure_with 7 2) Deadline ∷ [])
 
@@ -103,7 +103,7 @@ a_question_of_its_era_owns_its_reply = record {
   right = ((address a, refl, refl), record { passed = refl; late = omega arith });
 }
 
--- a step that no client sent owns nothing
+-- a step without a client's message owns nothing
 a_tick_owns_nothing : {r : Request} → request_in tick ≡ Some r → ⊥
 a_tick_owns_nothing is = absurd cc
 
@@ -123,7 +123,7 @@ no_owner_before_a_restart i r h = by h.in_era
     by (inl same) = let step : h.asked ≡ overdue client = cc in a_tick_owns_nothing (sent (overdue client) step)
     by (inr later) = behind later.1
 
--- the question of a history of two steps, where the newer one is a tick
+-- the question in a history of two steps, with a tick as the newer
 asked_before_a_tick : (to : Client) (s : Step) (owners : List ℕ) (i : ℕ) (r : SentReply)
     (h : Owns config (overdue to ∷ s ∷ []) owners i r)
     → h.asked ≡ s
@@ -156,17 +156,17 @@ another_client_owns_no_reply i h =
 
 -- ---- how many wait
 
--- those that own no reply, by their numbers; a restart forgets them
+-- the questions without a reply, by number; a restart forgets them
 who_waits : (unanswered (asked ∷ []) [] ≡ 0 ∷ []) × (unanswered (asked ∷ []) (0 ∷ []) ≡ [])
     × (unanswered (restarted ∷ asked ∷ []) [] ≡ [])
     × (unanswered (asked ∷ restarted ∷ asked ∷ []) [] ≡ 2 ∷ [])
 who_waits = (refl, refl, refl, refl)
 
--- one question may wait
+-- at most one question may wait
 abbrev for_one : Config
 for_one = record config { limits = record config.limits { questions = 1 } }
 
--- a second one comes, and gets the reply that no more may wait
+-- a second question comes, and is refused for lack of room
 abbrev is_full : SentReply
 is_full = record { client = other_client; octets = failure_with 9 2; why = QuestionsFull }
 
@@ -187,7 +187,7 @@ as_many_wait_as_may = record {
   right = ((address a, refl, refl), (refl, refl));
 }
 
--- where the first one owns a reply, none waits
+-- if the first question owns a reply, none waits
 the_first_was_answered : (i : ℕ) → Owns for_one (second ∷ asked ∷ []) (0 ∷ []) i is_full → ⊥
 the_first_was_answered i h = by (in_two second asked h.asked h.before h.in_era)
   where
@@ -200,9 +200,9 @@ the_first_was_answered i h = by (in_two second asked h.asked h.before h.in_era)
     by (inl newest) = let few : 0 ≡ 1 = waiting (asked ∷ []) newest.1 in omega (arith, few)
     by (inr older) = let few : 0 ≡ 1 = waiting [] older.2 in omega (arith, few)
 
--- ---- messages that are dropped
+-- ---- dropped messages
 
--- a message that is itself a reply, and one of 11 octets
+-- a message marked as a reply, and a message of 11 octets
 abbrev is_reply : Step
 is_reply = step_of 1000 [] (from_client client (with_flags 7 129 0 1)) []
 

@@ -1,5 +1,5 @@
--- Why a question gets no answer at once, computed: for each reason the history that shows it, and
--- neighbours a step, a question, an ask or a port away.
+-- The reasons for no answer at once, computed: for each reason a history, and neighbours a step, a
+-- question, an ask or a port away.
 use Rattle.std.proofs.Common.{◌≡◌, ℕ, ◌-◌, ◌^◌, List, [], ◌∷◌, length, Option, Some, None, true, false, refl, sym, ap, ◌∙◌, inl, inr, arith}
 use Rattle.std.proofs.lemmas.Bool.{true≢false}
 use Rattle.dns_message.specs.Names.{step as name_step, walk_in, name_within}
@@ -50,7 +50,7 @@ a_query_has_no_other_opcode h = h.1 refl
 another_opcode_is_told_at_once : Cause (a_step_later config (status_text 7)) client (status_text 7) 0 BadOpcode → ⊥
 another_opcode_is_told_at_once h = no_step_is_none passes (asks_so (status_text 7)) h.0
 
--- ---- a format that can't be read
+-- ---- an unreadable format
 
 -- two questions are counted
 abbrev two_counted : List ℕ
@@ -80,7 +80,7 @@ no_format_is_told_at_once h = no_step_is_none passes (asks_so two_counted) h.0
 the_opcode_comes_before_the_format : (l : Look) → Cause l client (status_text 7) 0 BadFormat → ⊥
 the_opcode_comes_before_the_format l h = let opcode : 2 ≡ 0 = h.1 in omega (arith, opcode)
 
--- ---- types that are not served
+-- ---- types not served
 
 -- a question for this type at a.e
 abbrev of_type : ℕ → Question
@@ -108,7 +108,7 @@ what_is_not_served_is_told_at_once h = no_step_is_none passes (asks_so (question
 abbrev for_b : Config
 for_b = record config { routes = record { suffix = b; deny = false; servers = server ∷ [] } ∷ [] }
 
--- a.e has one that denies it
+-- a.e has a denying route
 abbrev pub denies_a : Config
 denies_a = record config { routes = record { suffix = a; deny = true; servers = [] } ∷ [] }
 
@@ -126,7 +126,7 @@ a_has_no_route = record {
   at_once = λ none. refl;
 }
 
--- where no server was heard, the name in question is the client's own
+-- if no server was heard, the name in question is the client's own
 own_name : (l : Look) → IsSilent l.now → (h : HasNoRoute l (question_text 7 1)) → h.last ≡ address a
 unfolding first_question question_at octets_end name_within walk_in name_step
 own_name l silent h =
@@ -144,7 +144,7 @@ a_has_a_route h =
     (sym (own_name (at_once config (question_text 7 1)) (refl, tt) h))
     ∙ (none_serves_exactly.each config h.last.name h.none).0)
 
--- a denied name does not fail as one without a route
+-- a denied name does not fail for lack of a route
 a_is_denied : Cause (at_once denies_a (question_text 7 1)) client (question_text 7 1) 0 NoRoute → ⊥
 unfolding route_of
 a_is_denied h =
@@ -176,7 +176,7 @@ too_many_questions_are_told_at_once h = no_step_is_none passes (asks_so (questio
 
 -- ---- as many asks as may be listed
 
--- one inquiry may be open
+-- at most one inquiry may be open
 abbrev for_one : Config
 for_one = record config { limits = record config.limits { inquiries = 1 } }
 
@@ -184,7 +184,7 @@ for_one = record config { limits = record config.limits { inquiries = 1 } }
 abbrev text_of_b : List ℕ
 text_of_b = 0 ∷ 9 ∷ 1 ∷ 0 ∷ 0 ∷ 1 ∷ 0 ∷ 0 ∷ 0 ∷ 0 ∷ 0 ∷ 0 ∷ 1 ∷ 98 ∷ 1 ∷ 101 ∷ 0 ∷ 0 ∷ 1 ∷ 0 ∷ 1 ∷ []
 
--- it comes after other steps, with these words and actions
+-- the question comes after earlier steps, with these words and actions
 abbrev asks_for_b : List ℕ → List Action → Step
 asks_for_b words actions = step_of 1010 words (from_client client text_of_b) actions
 
@@ -216,20 +216,20 @@ too_many_asks_are_told_at_once h = let steps : 3 ≡ 2 = ap length h.0 in omega 
 
 -- ---- no path
 
--- the one word's port, 1032, is that of the listed ask
+-- the only word gives port 1032, the listed ask's
 no_port_is_free : Cause (behind config (asks_for_b (524296 ∷ []) []) (asked ∷ [])) client text_of_b 1 NoPort
 no_port_is_free = inl refl
 
 nothing_drawn : {x : ℕ × ℕ} → ◌≡◌ {A = Option (ℕ × ℕ)} (Some x) None → ⊥
 nothing_drawn is = absurd cc
 
--- a second word has the port 1040, which is free
+-- a second word gives port 1040, still free
 one_port_is_free : Cause (behind config (asks_for_b (524296 ∷ 1048592 ∷ []) []) (asked ∷ [])) client text_of_b 1 NoPort
     → ⊥
 one_port_is_free (inl none) = nothing_drawn none
 one_port_is_free (inr many) = omega (arith, many)
 
--- the port is free where its ask was closed before, or is given up in this step
+-- the port is free if its ask was closed before, or is given up in this step
 the_port_was_given_up : Cause
     (behind config (asks_for_b (524296 ∷ []) []) (gave_up ∷ asked ∷ [])) client text_of_b 1 NoPort
     → ⊥

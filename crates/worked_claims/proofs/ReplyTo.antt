@@ -1,4 +1,4 @@
--- Shared by the worked histories: octets that reply to an ask match the ask while the ask is open.
+-- Shared by the worked histories: octets in reply to an ask match while the ask is open.
 use Rattle.std.proofs.Common.{◌≡◌, ℕ, ◌+◌, ◌<◌, ◌≤◌, List, ◌∷◌, length, true, Some}
 use Rattle.dns_message.specs.Header.{header_in}
 use Rattle.dns_message.specs.Questions.{same_question}
@@ -7,7 +7,7 @@ use Rattle.suffix_routes.specs.Values.{Config}
 use Rattle.step_values.specs.Values.{Step}
 use Rattle.step_history.specs.History.{ShownAsk, listed, on_path, moment_at, Reads, Delivers, Matches}
 
--- a reply of 12 to 65,535 octets, with the identifier and the question of this text of an ask
+-- a reply of 12 to 65,535 octets, with the identifier and the question of this ask's text
 abbrev pub IsReplyTo : List ℕ → List ℕ → Question → Type 0
 IsReplyTo query octets q = (12 ≤ length octets) × (length octets ≤ 65535) × ((header_in octets).qr ≡ true)
     × ((header_in octets).opcode ≡ 0) × ((header_in octets).id ≡ (header_in query).id) × Reads query q

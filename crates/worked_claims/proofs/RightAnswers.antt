@@ -1,5 +1,4 @@
--- When an answer is right, computed: the client's message has opcode 0, and asks for a type and
--- class that are served.
+-- Right answers, computed: the client's message has opcode 0, and asks for a served type and class.
 use Rattle.std.proofs.Common.{◌≡◌, ℕ, List, Some, refl, ap, ◌∙◌, arith}
 use Rattle.std.proofs.lemmas.Bool.{true≢false}
 use Rattle.dns_message.specs.Names.{step as name_step, walk_in, name_within}

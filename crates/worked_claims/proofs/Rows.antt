@@ -1,5 +1,5 @@
--- Each row asks once at most, and gives up one path at most, that of a listed ask; a question gets
--- nothing but replies.
+-- Each row asks at most once, and gives up at most one path, a listed ask's; a question gets only
+-- replies.
 use Rattle.std.proofs.Common.{◌≡◌, ℕ, ◌≤◌, List, [], ◌∷◌, ◌++◌, length, Bool, true, false, cond, refl, sym, ap, ◌∙◌, subst, arith, Option, Some, None, Result, Ok, Err, ◌⊎◌, inl, inr}
 use Rattle.std.specs.Prelude.{map, nat_le, nat_lt, ◌==◌, IsSome}
 use Rattle.std.specs.List.{find, list_any, filter, cons_option, AllByRecursion}
@@ -136,7 +136,7 @@ past_all : {Y : Type 0} (f : List Action → Y) → Passes f → (fates : List F
 past_all f over [] h rest = refl
 past_all f over (v ∷ fates) h rest = past_one f over v h.0 (replies fates) rest (past_all f over fates h.1 rest)
 
--- ---- asks that are listed
+-- ---- listed asks
 
 abbrev IsIn : Ask → List Ask → Type 0
 IsIn a [] = ⊥
@@ -153,7 +153,7 @@ found_is_in test listed [] each = tt
 found_is_in test listed (a ∷ more) each =
     both (IsInIfAny listed) (test a) (each a (inl refl)) (found_is_in test listed more (λ b h. each b (inr h)))
 
--- an ask of the list is listed on its path
+-- an ask in the list is listed on its path
 is_listed : (a : Ask) (listed : List Ask) → IsIn a listed → IsListedOn listed a.path
 is_listed a [] h = absurd h
 is_listed a (b ∷ others) (inl same) =

@@ -1,5 +1,5 @@
--- When two answers from cache have the same sections, computed: other identifiers make no
--- difference, other TTLs, another order and another result code do.
+-- Answers from cache with equal sections, computed: different identifiers make no difference; a
+-- different TTL, order or result code does.
 use Rattle.std.proofs.Common.{◌≡◌, ℕ, List, [], ◌∷◌, get_or, Ok, false, refl, sym, ap, ◌∙◌, arith}
 use Rattle.dns_message.specs.Names.{step as name_step, walk_in, name_within}
 use Rattle.dns_message.specs.Data.{octets_within, parts_at, data_at}
@@ -62,9 +62,9 @@ unfolding message_at header_of counted question_at octets_end record_at data_at 
     name_within walk_in name_step
 reads_other_code = refl
 
--- ---- which are the same
+-- ---- equal answers
 
--- the octets spell this message
+-- octets read as m and spelling n: the messages are equal
 is_this : (octets : List ℕ) (m n : Message) → message_of octets ≡ Ok m → Spells octets n → m ≡ n
 is_this octets m n reads spells = one_message_is_spelled octets m n (message_read_is_spelled octets m reads) spells
 

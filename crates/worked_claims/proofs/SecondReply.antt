@@ -1,5 +1,5 @@
--- A second reply to a later ask of a.e: the address again, for 5 seconds. Histories with expired
--- sets and with several tries cite it.
+-- A second reply to a later ask of a.e: the address again, for 5 seconds. Used for histories with
+-- expired sets and with several tries.
 use Rattle.std.proofs.Common.{◌≡◌, ℕ, ◌+◌, ◌<◌, List, [], ◌∷◌, Some, Ok, refl}
 use Rattle.std.proofs.Common.{inl, arith}
 use Rattle.dns_message.specs.Names.{step as name_step, walk_in, name_within}
@@ -25,7 +25,7 @@ use Rattle.worked_claims.proofs.Texts.{question_text, client, step_of}
 use Rattle.worked_claims.proofs.Accepted.{answer_with, held, with_limits}
 use Rattle.worked_claims.proofs.ReplyTo.{matches_ask}
 
--- one try, and a window of 600 seconds
+-- a single try, and a window of 600 seconds
 abbrev pub c : Config
 c = with_limits 1 600
 
@@ -62,7 +62,7 @@ newer now = record { piece = five_seconds; accepted = now }
 abbrev second_ask : ℕ → ShownAsk
 second_ask moment = record { path = Udp 1040; server = server; octets = question_text 16 1; moment = moment }
 
--- it carried that, to whatever step's ask on that port, as long as it was open
+-- the reply carried the address, in answer to any open ask on this port
 pub second_carries : (now asked_at : ℕ) (before : List Step)
     → on_path (Udp 1040) (listed before) ≡ Some (second_ask asked_at)
     → moment_at (heard_again now ∷ before) < asked_at + 1500

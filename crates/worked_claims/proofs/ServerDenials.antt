@@ -1,6 +1,6 @@
--- Denials by a server, whole: a.e has no address, or is not there; both are accepted, carried, and
--- answer the client. Pieces that end a look-up, and pieces of another type, class or name that
--- don't.
+-- Denials by a server, whole: a.e has no address, or does not exist; both denials are accepted,
+-- carried, and answer the client. Pieces ending a look-up; pieces of a wrong type, class or name
+-- end none.
 use Rattle.std.proofs.Common.{◌≡◌, ℕ, List, [], ◌∷◌, Some, None, Ok, refl, inl, inr, arith}
 use Rattle.std.proofs.lemmas.Bool.{false≢true}
 use Rattle.dns_message.specs.Names.{step as name_step, walk_in, name_within}
@@ -35,18 +35,17 @@ use Rattle.worked_claims.proofs.ReplyTo.{ReachesAsk, matches_ask}
 
 -- ---- a denial with e's SOA
 
--- SOA data: the root twice and five numbers, the last of which, MINIMUM, is 30 (RFC 1035 3.3.13)
+-- SOA data: the root twice and five numbers, with 30 as the last, MINIMUM (RFC 1035 3.3.13)
 abbrev soa_data : List ℕ
 soa_data = 0 ∷ 0 ∷ 0 ∷ 0 ∷ 0 ∷ 1 ∷ 0 ∷ 0 ∷ 0 ∷ 2 ∷ 0 ∷ 0 ∷ 0 ∷ 3 ∷ 0 ∷ 0 ∷ 0 ∷ 4 ∷ 0 ∷ 0 ∷ 0 ∷ 30 ∷ []
 
--- a message with this identifier, these octets of flags, the question, and the SOA with this time
--- to live
+-- a message with this identifier, these octets of flags, the question, and the SOA with this TTL
 abbrev denial_with : ℕ → ℕ → ℕ → ℕ → List ℕ
 denial_with id high low ttl =
     0 ∷ id ∷ high ∷ low ∷ 0 ∷ 1 ∷ 0 ∷ 0 ∷ 0 ∷ 1 ∷ 0 ∷ 0 ∷ 1 ∷ 97 ∷ 1 ∷ 101 ∷ 0 ∷ 0 ∷ 1 ∷ 0 ∷ 1 ∷ 192 ∷ 14 ∷ 0 ∷ 6 ∷ 0
     ∷ 1 ∷ 0 ∷ 0 ∷ 0 ∷ ttl ∷ 0 ∷ 22 ∷ soa_data
 
--- the server's reply, authoritative, with this result code, and the client's answer from it
+-- the server's reply, authoritative, with this result code, and the client's answer from the reply
 abbrev pub server_text : ℕ → List ℕ
 server_text code = denial_with 8 133 code 60
 
@@ -254,7 +253,7 @@ unfolding first_question question_at octets_end name_within walk_in name_step
 error_is_right =
     record { opcode = refl; question = address a; reads = refl; served = refl; answers = answers_with_error }
 
--- ---- pieces that end no look-up
+-- ---- pieces ending no look-up
 
 abbrev of_type : ℕ → Question
 of_type kind = record (address a) { kind = kind }
@@ -265,7 +264,7 @@ of_class class = record (address a) { class = class }
 a_set_ends_it : EndsChain (address a) piece piece.body
 a_set_ends_it = record { name = refl; class = refl; kind = refl }
 
--- the slot that a question asks for
+-- the slot for a question
 abbrev slot_for : Question → Slot
 slot_for q = record { key = q.name; class = q.class; kind = Some q.kind }
 
@@ -287,7 +286,7 @@ no_data_of_another_class h = false≢true (slot_test no_address.piece.slot (slot
 no_data_of_another_name : EndsChain (address ((98 ∷ []) ∷ a)) no_address.piece no_address.piece.body → ⊥
 no_data_of_another_name h = false≢true (slot_test no_address.piece.slot (slot_for (address ((98 ∷ []) ∷ a))) h)
 
--- a name error denies each type, at its name and under it
+-- a name error denies each type, at its name and under the name
 an_error_denies_each_type : EndsChain (of_type 28) name_error.piece name_error.piece.body
     × EndsChain (address ((98 ∷ []) ∷ a)) name_error.piece name_error.piece.body
 an_error_denies_each_type = ((([], a, refl, refl), refl), (((98 ∷ []) ∷ [], a, refl, refl), refl))

@@ -1,5 +1,5 @@
--- Name servers beside the walk of a reply, and which piece is of a reply. Each field has a
--- neighbour that fails in this field alone.
+-- Name servers next to the walk of a reply, and pieces of a reply. Each field has a neighbour
+-- failing in this field alone.
 use Rattle.std.proofs.Common.{◌≡◌, ◌∙◌, ℕ, true, false, inl, inr, List, [], ◌∷◌, Option, Some, refl, sym, ap, arith}
 use Rattle.std.proofs.lemmas.Bool.{false≢true}
 use Rattle.dns_name.specs.Labels.{lowered, IsSame, is_under, IsUnder}
@@ -32,7 +32,7 @@ asked = seen (message true 0 (host a 300 5 ∷ []) authority)
 abbrev address : Piece
 address = set_with 3 0 (host a 300 5) []
 
--- on its walk there is the address alone
+-- the walk has the address alone
 abbrev walked : List Piece
 walked = address ∷ []
 
@@ -116,7 +116,7 @@ server_of_an_answered_name = (
 
 -- ---- a set of name servers
 
--- the set of the name servers of this name, with this rank and on this route
+-- the set of the owner's name servers, with this rank and on this route
 abbrev servers : ℕ → ℕ → List (List ℕ) → Piece
 servers rank route owner = set_with rank route (ns owner 1) []
 

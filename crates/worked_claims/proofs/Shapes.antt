@@ -1,5 +1,5 @@
--- Which types have names in their data, of all there are: these numbers, and no other one; so the
--- data of any other type is opaque octets (RFC 3597).
+-- The types with names in their data: exactly these numbers; the data of any other type is opaque
+-- octets (RFC 3597).
 use Rattle.std.proofs.Common.{◌≡◌, ℕ, List, [], ◌∷◌, Bool, true, false, cond, Option, Some, None, Ok, refl}
 use Rattle.std.specs.Prelude.{◌==◌, ◌||◌, is_some, map}
 use Rattle.std.specs.List.{list_any}
@@ -28,7 +28,7 @@ not_in_the_table kind (row ∷ rows) none = by (kind == row.kind) none (not_in_t
     by true none onward = absurd (true≢false none)
     by false none onward = onward none
 
--- and no other number has one
+-- and no other number has a shape
 no_other_has_a_shape : (kind : ℕ) → list_any (λ (number : ℕ). kind == number) numbers ≡ false → shape_of kind ≡ None
 unfolding shape_of
 no_other_has_a_shape kind none = not_in_the_table kind table none
@@ -61,8 +61,8 @@ cname_has_one : shape_of 5 ≡ None → ⊥
 unfolding shape_of
 cname_has_one = some_is_none
 
--- the name in an alias is written out, that in a DNAME stays as it is: a.e at 0, and at 5 a pointer
--- to it
+-- the name in an alias is written out, the name in a DNAME is unchanged: a.e at 0, and at 5 a
+-- pointer there
 abbrev octets : List ℕ
 octets = 1 ∷ 97 ∷ 1 ∷ 101 ∷ 0 ∷ 192 ∷ 0 ∷ []
 

@@ -1,4 +1,4 @@
--- Where no server was heard, nothing was carried, and no alias leads on. A piece carried before may
+-- If no server was heard, nothing was carried, and no alias leads on. A piece carried before may
 -- serve at once.
 use Rattle.std.proofs.Common.{◌≡◌, ℕ, ◌<◌, List, [], ◌∷◌, ◌++◌, false, None, refl, sym, ◌∙◌, subst, ◌⊎◌, inl, inr}
 use Rattle.suffix_routes.specs.Values.{Config}
@@ -13,7 +13,7 @@ use Rattle.step_history.specs.Carried.{CarriedInEra, NotReplaced, Justified}
 use Rattle.step_history.specs.Answers.{FollowsAliases}
 use Rattle.worked_claims.proofs.Texts.{no_delivery}
 
--- in none of these steps a server was heard
+-- no server was heard in any of the steps
 abbrev pub IsSilent : List Step → Type 0
 IsSilent [] = Unit {0}
 IsSilent (s ∷ past) = (delivery_in s.input.event ≡ None) × IsSilent past

@@ -1,4 +1,4 @@
--- Expired chains, computed: along an alias that has expired, and after one that is held.
+-- Expired chains, computed: along an expired alias, and after an alias already held.
 use Rattle.std.proofs.Common.{◌≡◌, ℕ, List, [], ◌∷◌, Some, Ok, refl, sym, ap, ◌∙◌, subst}
 use Rattle.std.proofs.Common.{inl, inr, arith}
 use Rattle.std.proofs.lemmas.Bool.{false≢true}
@@ -35,9 +35,10 @@ use Rattle.worked_claims.proofs.ReplyTo.{matches_ask}
 use Rattle.worked_claims.proofs.Aliases as aliases
 use Rattle.worked_claims.proofs.SecondReply.{c}
 
--- ---- a.e is an alias of b.e for 200 seconds, and that has an address for 60
+-- ---- a.e is an alias of b.e for 200 seconds, and b.e has an address for 60
 
--- with this identifier, these octets of flags, and these TTLs in seconds of alias and address
+-- a message with this identifier, these octets of flags, and these TTLs in seconds of alias and
+-- address
 abbrev aliased : ℕ → ℕ → ℕ → ℕ → ℕ → List ℕ
 aliased id high low alias_ttl set_ttl =
     0 ∷ id ∷ high ∷ low ∷ 0 ∷ 1 ∷ 0 ∷ 2 ∷ 0 ∷ 0 ∷ 0 ∷ 0 ∷ 1 ∷ 97 ∷ 1 ∷ 101 ∷ 0 ∷ 0 ∷ 1 ∷ 0 ∷ 1
@@ -114,9 +115,10 @@ past = heard ∷ asked ∷ []
 both_carried : CarriedInEra c past both
 both_carried = inr (inr (refl, alias.piece ∷ set.piece ∷ [], [], carries, carried_before 1 600, refl))
 
--- ---- along an alias that has expired
+-- ---- along an expired alias
 
--- it is asked for again when both have expired, the only try fails, and this is sent
+-- a.e is asked for again after alias and address expired, the only try fails, and this answer is
+-- sent
 abbrev again : Step
 again = step_of 210000 (1048592 ∷ []) (from_client client (question_text 7 1))
     (ask_udp 1040 server (question_text 16 1) ∷ [])
@@ -251,9 +253,9 @@ of_another_type l h =
     false≢true (slot_test set.piece.slot (record { key = b; class = 1; kind = Some 28 })
     (subst (λ (q : Question). IsOf set.piece q.name q.class (Some q.kind)) h.follows h.slot))
 
--- ---- after an alias that is held
+-- ---- after an alias already held
 
--- it is asked for again while the alias lives, so b.e is asked for; the only try fails
+-- a.e is asked for again while the alias lives, so b.e is asked for; the only try fails
 abbrev text_of_b : List ℕ
 text_of_b = 0 ∷ 16 ∷ 1 ∷ 0 ∷ 0 ∷ 1 ∷ 0 ∷ 0 ∷ 0 ∷ 0 ∷ 0 ∷ 0 ∷ 1 ∷ 98 ∷ 1 ∷ 101 ∷ 0 ∷ 0 ∷ 1 ∷ 0 ∷ 1 ∷ []
 

@@ -1,5 +1,5 @@
--- The limits of expired chains, computed: eight aliases in all, and not nine; and a set that
--- another one replaced is not sent.
+-- The limits of expired chains, computed: eight aliases in all, and not nine; and a replaced set is
+-- not sent.
 use Rattle.std.proofs.Common.{◌≡◌, ℕ, ◌≤◌, ◌++◌, zero, suc, List, [], ◌∷◌, refl, ap, subst}
 use Rattle.std.proofs.Common.{inl, inr, arith}
 use Rattle.dns_message.specs.Names.{step as name_step, walk_in, name_within}
@@ -129,7 +129,7 @@ five_behind_four_that_are_held : (l : Look) (q : Question) (o : Held)
     → StaleChain l (aliases.loops 4) q (aliases.loops 5) o → ⊥
 five_behind_four_that_are_held l q o h = let few : 9 ≤ 8 = h.few in omega (arith, few)
 
--- ---- a set that another one replaced
+-- ---- a replaced set
 
 -- the address expired, and came again for 5 seconds; then all tries fail
 abbrev renews : Step
@@ -173,7 +173,7 @@ the_newer_set = record {
   within = omega arith;
 }
 
--- of the older one all holds, but that it was replaced
+-- the older set fails by its replacement alone
 not_the_older_set : JustifiedStale seen_renewed a held → ⊥
 not_the_older_set j = by (subst (NotReplaced held)
     (one_era c (waits ∷ renewed) (j.new ++ j.old) two_sets (tt, tt) j.carried_now renewed_until_now) j.not_replaced)

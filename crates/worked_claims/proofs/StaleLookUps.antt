@@ -38,7 +38,7 @@ abbrev again : Step
 again = step_of 70000 (1048592 ∷ []) (from_client client (question_text 7 1))
     (ask_udp 1040 server (question_text 16 1) ∷ [])
 
--- the only try fails, and this is sent
+-- the only try fails, and this text is sent
 abbrev stale_text : List ℕ
 stale_text = answer_with 7 129 128 30
 
@@ -59,7 +59,7 @@ carried_before = inr (inl (refl, nothing_heard (with_limits 1 600) again past re
 carried_until_now : CarriedInEra (with_limits 1 600) (gives_up ∷ again ∷ past) (held ∷ [])
 carried_until_now = inr (inl (refl, nothing_heard (with_limits 1 600) gives_up (again ∷ past) refl, carried_before))
 
--- it expired at 61020, and the window ended at 661020
+-- the set expired at 61020, and the window ended at 661020
 past_its_end : JustifiedStale (seen 1 600) a held
 unfolding route_of
 past_its_end = record {
@@ -150,7 +150,7 @@ no_answer_for_every_type l octets h =
     let same : for_every_type ≡ h.tries.question = cc in
     true≢false (ap is_unserved same ∙ h.served)
 
--- in a step that closes no ask
+-- seen from a step closing no ask
 abbrev goes_on : Look
 goes_on = record (seen 1 600) { now = step_of 71499 [] tick [] ∷ again ∷ past }
 
@@ -167,9 +167,9 @@ what_came_just_now j =
     subst (Among held)
     (nothing_carried (with_limits 1 600) (asked ∷ []) j.old (refl, tt) j.carried_before) j.came_before
 
--- ---- for how many seconds it is sent
+-- ---- the TTL sent
 
--- up to its last millisecond the seconds that are left of it, and from then on 30 seconds
+-- up to the set's last millisecond the remaining seconds, and from then on 30 seconds
 until_it_ends : (with_stale_ttl 2000 held ≡ record { piece = held.piece; seconds = 59 })
     × (with_stale_ttl 61019 held ≡ record { piece = held.piece; seconds = 0 })
 until_it_ends = (refl, refl)

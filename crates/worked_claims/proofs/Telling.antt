@@ -1,5 +1,6 @@
--- Parts of the claims about asks and about what is due, computed: an ask that is due is told, asks go
--- to servers of the name's route, and a list of asks has none for a question. Each has a neighbour.
+-- Parts of the claims about asks and about due work, computed: a due ask is reported, asks go to
+-- servers of the name's route, and a list of asks has none for a question. Each part has a
+-- neighbour.
 use Rattle.std.proofs.Common.{◌≡◌, ℕ, [], ◌∷◌, zero, suc, Bool, true, false, Option, Some, None, refl, sym, ap}
 use Rattle.std.proofs.Common.{subst, arith}
 use Rattle.std.specs.Prelude.{slice_get}
@@ -41,7 +42,7 @@ it_is_not_due_yet = ((tt, refl), refl)
 it_tells_too_soon : TellsMore config (passes 2499 true ∷ asked ∷ []) ([] ∷ [] ∷ []) → ⊥
 it_tells_too_soon h = true≢false h.1
 
--- ---- either server of the one route
+-- ---- either server of the only route
 
 either_server : IsServerFor config (address a) server × IsServerFor config (address a) other_server
 unfolding route_of
@@ -76,7 +77,7 @@ no_stranger_is_a_server h = by h.route h.place h.group h.there h.server
         among place (subst (λ (r : Route). slice_get r.servers place ≡ Some stranger) (sym own) is)
     by (suc route) place group there is = let none : ◌≡◌ {A = Option Route} None (Some group) = there in absurd cc
 
--- ---- the listed ask is for a.e, and for no other name
+-- ---- the listed ask is for a.e alone
 
 own_question : (own : Question) → one_question ask.octets ≡ Some own → address a ≡ own
 unfolding first_question question_at octets_end name_within walk_in name_step

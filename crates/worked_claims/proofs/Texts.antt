@@ -1,5 +1,4 @@
--- Shared by the worked histories: questions for a.e, steps, and which step of a short history is
--- meant.
+-- Shared by the worked histories: questions for a.e, steps, and the steps of a short history.
 use Rattle.std.proofs.Common.{◌≡◌, ℕ, ◌+◌, List, [], ◌∷◌, Some, None, Bool, true, false, cond, Option, ◌⊎◌, inl, inr}
 use Rattle.suffix_routes.specs.declared.peer.Peer.{Peer}
 use Rattle.step_values.specs.declared.event.Client.{Client}
@@ -23,7 +22,7 @@ question_text id kind = with_flags id 1 0 kind
 abbrev pub status_text : ℕ → List ℕ
 status_text id = with_flags id 17 0 1
 
--- a failure with this result code, which repeats the question for an address at a.e
+-- a failure with this result code, repeating the question for an address at a.e
 abbrev pub failure_with : ℕ → ℕ → List ℕ
 failure_with id code = with_flags id 129 (128 + code) 1
 
@@ -53,9 +52,9 @@ step_of now words event actions = record {
 pub no_delivery : {d : Delivered} → ◌≡◌ {A = Option Delivered} None (Some d) → ⊥
 no_delivery is = absurd cc
 
--- ---- which step is meant
+-- ---- the steps of a short history
 
--- the one step of a history
+-- the only step of a history
 pub in_one : (s x : Step) (before : List Step) → InEra (x ∷ before) (s ∷ []) → (x ≡ s) × (before ≡ [])
 in_one s x before (inl same) = (cc, cc)
 in_one s x before (inr later) = absurd later.1
@@ -66,7 +65,7 @@ pub in_two : (s t x : Step) (before : List Step) → InEra (x ∷ before) (s ∷
 in_two s t x before (inl same) = inl (cc, cc)
 in_two s t x before (inr later) = let first = in_one t x before later.1 in inr (later.0, first.0, first.1)
 
--- ---- which ask is meant
+-- ---- the only listed ask
 
 -- a search in a list of one
 pub the_only_ask : (v : Bool) (x y : ShownAsk) → cond v (Some x) None ≡ Some y → x ≡ y

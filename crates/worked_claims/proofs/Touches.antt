@@ -1,5 +1,5 @@
--- Shared by the worked histories of use: what each step carried and used, and the steps that brought
--- a recent piece.
+-- Shared by the worked histories of use: the pieces carried and slots used by each step, and the
+-- steps bringing a recent piece.
 use Rattle.std.proofs.Common.{◌≡◌, ◌∙◌, ℕ, List, [], ◌∷◌, false, sym, ap, subst, ◌⊎◌, inl, inr}
 use Rattle.std.proofs.lemmas.Bool.{true≢false}
 use Rattle.suffix_routes.specs.Values.{Config, AllDiffer}
@@ -13,14 +13,14 @@ use Rattle.theorem_use.specs.Recent.{IsBelieved, StaysBelieved, Brings, IsRecent
 use Rattle.theorem_use.specs.Touched.{Touched, carried_in, TouchedInEra}
 use Rattle.worked_claims.proofs.Carried.{one_carriage}
 
--- after the steps before, the newest one carried these pieces, and used these slots
+-- after the steps before, the newest step carried these pieces, and used these slots
 pub record TouchedThen (c : Config) (s : Step) (past : List Step) (carried : List Held) (slots : List Slot)
     (used : List (List Slot)) (ts : List Touched) : Type 0 where
   pub before : List Touched
   pub era : TouchedInEra c past used before
   pub is : ts ≡ record { carried = carried; used = slots; unkept = s.outcome.unkept } ∷ before
 
--- a step that carries nothing
+-- a step carrying nothing
 pub touched_nothing : (c : Config) (s : Step) (past : List Step) (slots : List Slot) (used : List (List Slot))
     (ts : List Touched) → is_restart s ≡ false → NothingAccepted c s past
     → TouchedInEra c (s ∷ past) (slots ∷ used) ts → TouchedThen c s past [] slots used ts
@@ -33,7 +33,7 @@ touched_nothing c s past slots used ts runs quiet (inr (go, carried, before, inl
 touched_nothing c s past slots used ts runs quiet (inr (go, carried, before, inr (ps, k, these), era, is)) =
     absurd (quiet ps k)
 
--- a step that carries these pieces carries no others
+-- a step carrying these pieces carries no other pieces
 pub touched_these : (c : Config) (s : Step) (past : List Step) (ps : List Piece) (slots : List Slot)
     (used : List (List Slot)) (ts : List Touched) → AllDiffer c.routes → is_restart s ≡ false → Carries c s past ps
     → TouchedInEra c (s ∷ past) (slots ∷ used) ts
@@ -51,12 +51,12 @@ touched_these c s past ps slots used ts differ runs carries (inr (go, carried, b
           (one_carriage c s past qs ps differ k carries));
     }
 
--- a step of these brought the piece
+-- one of these steps brought the piece
 abbrev pub CameIn : List Touched → Held → Type 0
 CameIn [] o = ⊥
 CameIn (t ∷ ts) o = Brings t ts o ⊎ CameIn ts o
 
--- as it did each recent one
+-- a recent piece was brought by one of the steps
 pub recent_came : (room : ℕ) (ts : List Touched) (o : Held) (slots : List Slot) → IsRecent room ts o slots → CameIn ts o
 recent_came room [] o slots never = never
 recent_came room (t ∷ ts) o slots (few, touches, inl brings) = inl brings
@@ -64,7 +64,7 @@ recent_came room (t ∷ ts) o slots (few, touches, inr (keeps, inl (used, before
     inr (recent_came room ts o before recent)
 recent_came room (t ∷ ts) o slots (few, touches, inr (keeps, inr recent)) = inr (recent_came room ts o slots recent)
 
--- a step that carried one piece brought no other
+-- a step with a single carried piece brought this piece alone
 pub the_one_brought : {x o : Held} {used : List Slot} {unkept : ℕ} {ts : List Touched}
     → Brings (record { carried = x ∷ []; used = used; unkept = unkept }) ts o → (x ≡ o) × IsBelieved x (carried_in ts)
 the_one_brought {x} {o} {used} {unkept} {ts} brings = by brings.believed

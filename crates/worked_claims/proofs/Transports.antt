@@ -1,5 +1,5 @@
--- Replies by transport, computed: over UDP an answer of 512 octets goes out whole, and one of 513
--- or more is cut; over TCP up to 65,535 octets (RFC 1035 4.2.1 and 4.2.2).
+-- Replies by transport, computed: over UDP an answer up to 512 octets goes out whole, and is cut
+-- from 513 on; over TCP up to 65,535 octets go out (RFC 1035 4.2.1 and 4.2.2).
 use Rattle.std.proofs.Common.{◌≡◌, ℕ, ◌+◌, ◌≤◌, List, [], ◌∷◌, length, false, Some, refl, sym, ap, ◌∙◌, arith}
 use Rattle.std.specs.Prelude.{nat_le}
 use Rattle.std.proofs.lemmas.Bool.{le-leb, lt-leb, cond-true, cond-false}
@@ -39,7 +39,7 @@ cut_from_513_on octets t many =
     passes : length (answer_of octets t) ≡ 33 + length octets → nat_le (length (answer_of octets t)) 512 ≡ false
     passes takes = lt-leb (length (answer_of octets t)) 512 (omega (arith, takes, many))
 
--- a cut answer has 21 octets, so neither is the other
+-- a cut answer has 21 octets, so cut and whole answer differ
 not_whole_from_513_on : (octets : List ℕ) (t : ℕ) → length octets ≡ 480
     → sized_for client (answer_of octets t) (cut_of octets t) ≡ answer_of octets t → ⊥
 not_whole_from_513_on octets t many whole =
@@ -58,6 +58,6 @@ as_long_as_fits octets many = omega (arith, many)
 an_octet_too_long : (octets : List ℕ) → length octets ≡ 65536 → FitsTransport stream_client octets → ⊥
 an_octet_too_long octets many fits = let most : length octets ≤ 65535 = fits in omega (arith, many, most)
 
--- over UDP the cut sees to it
+-- over UDP the cut ensures the fit
 whatever_is_sent_by_udp : (octets : List ℕ) → FitsTransport client octets
 whatever_is_sent_by_udp octets = tt

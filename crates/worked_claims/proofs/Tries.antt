@@ -1,5 +1,5 @@
--- Which tries failed, computed: the last ones of a question, whatever failed of another one since;
--- not one before an accepted reply, nor one before a restart.
+-- Failed tries, computed: the last tries of a question, whatever else failed since; no try before
+-- an accepted reply, and none before a restart.
 use Rattle.std.proofs.Common.{◌≡◌, ℕ, ◌∙◌, List, [], ◌∷◌, Bool, true, false, cond, Some, None, refl, sym, ap}
 use Rattle.std.proofs.Common.{inl, inr, arith, ◌⊎◌}
 use Rattle.std.proofs.lemmas.Bool.{true≢false}
@@ -21,7 +21,7 @@ use Rattle.worked_claims.proofs.SecondReply.{c, heard_again, five_seconds, secon
 
 -- ---- two asks of a.e failed
 
--- the first ask's time is over, and a second one goes out; so is that one's
+-- the first ask's time is over, and a second ask goes out; then the second ask's time is over
 abbrev retries : Step
 retries = step_of 2500 [] tick (close_udp 1032 ∷ ask_udp 1040 server (question_text 16 1) ∷ [])
 
@@ -50,7 +50,7 @@ two_failed = (
   ),
 )
 
--- ---- an ask of another name next to it
+-- ---- an ask for b.e next to the ask for a.e
 
 abbrev text_of_b : ℕ → List ℕ
 text_of_b id = 0 ∷ id ∷ 1 ∷ 0 ∷ 0 ∷ 1 ∷ 0 ∷ 0 ∷ 0 ∷ 0 ∷ 0 ∷ 0 ∷ 1 ∷ 98 ∷ 1 ∷ 101 ∷ 0 ∷ 0 ∷ 1 ∷ 0 ∷ 1 ∷ []
@@ -80,7 +80,7 @@ one_of_two true w x y z is = inl cc
 one_of_two false true x y z is = inr cc
 one_of_two false false x y z is = absurd cc
 
--- the ask that a step closes is of its own question
+-- a step closes an ask for the ask's own question
 b_is_closed_alone : (before : List Step) (k : ClosesAsk (address a) gives_up_b before)
     → (ask ≡ k.ask) ⊎ (ask_of_b ≡ k.ask) → ⊥
 unfolding first_question question_at octets_end name_within walk_in name_step
@@ -111,12 +111,12 @@ what_failed_since = (
   ),
 )
 
--- where an ask goes out and nothing is closed, none fails
+-- if an ask goes out and nothing is closed, no ask fails
 none_fails : (s : Step) (past : List Step) → ((x : ShownAsk) → closes_path x.path s.outcome.actions ≡ false)
     → (q : Question) → ClosesAsk q s past → ⊥
 none_fails s past none q k = true≢false (sym k.closed ∙ none k.ask)
 
--- and it is no failure of this one
+-- and b.e's failure is no failure of a.e
 what_failed_of_another : LastFailed c (address a) (gives_up_b ∷ two_listed) 1 → ⊥
 what_failed_of_another h = elim h.1 [
   | inl closes ↦ not_while_both_are_listed closes.0
@@ -146,7 +146,7 @@ third_ask = record { path = Udp 1048; server = server; octets = question_text 24
 abbrev third_fails : Step
 third_fails = step_of 10500 [] tick (close_udp 1048 ∷ [])
 
--- the second ask got its reply
+-- the second ask got a reply
 abbrev replied : List Step
 replied = heard_again 2520 ∷ retries ∷ asked ∷ []
 

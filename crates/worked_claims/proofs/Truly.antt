@@ -1,6 +1,6 @@
--- A history that serves truly, whole: a question, its ask, the reply with its answer, and the same
--- question answered from cache. `NotTruly` has a neighbour for each field of that claim but those
--- on use, whose neighbours are in `Unbelieved` and `Unused`.
+-- A history that serves truly, whole: a question, its ask, the reply with the answer, and the same
+-- question answered from cache. `NotTruly` has a neighbour for each field of `ServesTruly`, except
+-- for the fields on use; `Unbelieved` and `Unused` have the neighbours for these.
 use Rattle.std.proofs.Common.{◌≡◌, ℕ, List, [], ◌∷◌, false, refl, sym, ap, ◌∙◌, subst, inl, inr, arith}
 use Rattle.std.proofs.lemmas.Bool.{true≢false}
 use Rattle.trust_rank.specs.declared.slot.Slot.{Slot}
@@ -66,7 +66,7 @@ recent_so_far = (
   ),
 )
 
--- of all that the era touched, the piece is the newest
+-- the piece is the newest touched by the era
 abbrev BeginsSo : List Touched → Type 0
 BeginsSo ts = (before : List Touched) × (ts ≡ record { carried = held ∷ []; used = []; unkept = 0 } ∷ before)
 
@@ -80,7 +80,7 @@ begins_so used ts (inr (runs, carried, before, inr (ps, k, these), era, is)) = (
       (these ∙ ap (λ (qs : List Piece). then_carried 1020 qs []) (carries_this ps k)),
 )
 
--- its slot was used
+-- the piece's slot was used
 uses_it : (ts : List Touched) → BeginsSo ts → LooksUp config hit history ts (held.piece.slot ∷ [])
 uses_it ts (before, is) = looked_at_the_address history ts stands
     (subst (λ (z : List Touched). LeadsAlong (AnswersNothing hit) 2000 z (address a) (held ∷ [])) (sym is)

@@ -1,7 +1,6 @@
--- A history of which the claim of standing pieces alone fails. A denial of a.e's addresses stands,
--- and the question that it answers is left to wait. No recent piece answers: an alias of a.e is
--- alive, although it was not believed when it came (RFC 2181 5.4.1), and a denial answers only if
--- no living alias leads on.
+-- A history failing in the claim of standing pieces alone. A denial of a.e's addresses stands, and
+-- the denied question is left to wait. No recent piece answers: an alias of a.e is alive, although
+-- not believed on arrival (RFC 2181 5.4.1), and a denial answers only if no living alias leads on.
 use Rattle.std.proofs.Common.{◌≡◌, ◌∙◌, ℕ, zero, suc, List, [], ◌∷◌, length, Option, Some, None, Ok}
 use Rattle.std.proofs.Common.{refl, sym, ap, subst, ◌⊎◌, inl, inr, arith}
 use Rattle.dns_message.specs.Names.{step as name_step, walk_in, name_within}
@@ -39,7 +38,7 @@ use Rattle.worked_claims.proofs.Waiting.{hears, asked_for_it, WaitsAlone, when_a
 
 -- ---- a.e is an alias of b.e
 
--- a reply with these octets of flags, and the alias with this time to live
+-- a reply with these octets of flags, and the alias with this TTL
 abbrev alias_text : ℕ → ℕ → List ℕ
 alias_text high ttl =
     0 ∷ 8 ∷ high ∷ 0 ∷ 0 ∷ 1 ∷ 0 ∷ 1 ∷ 0 ∷ 0 ∷ 0 ∷ 0 ∷ 1 ∷ 97 ∷ 1 ∷ 101 ∷ 0 ∷ 0 ∷ 1 ∷ 0 ∷ 1 ∷ 192 ∷ 12 ∷ 0 ∷ 5 ∷ 0 ∷ 1
@@ -71,7 +70,7 @@ unfolding message_at header_of counted question_at octets_end record_at data_at 
     name_within walk_in name_step
 long_is_read = refl
 
--- three replies come to one ask: both aliases, and a denial after the first one has expired
+-- three replies come to a single ask: both aliases, and a denial after the first alias has expired
 abbrev heard_short : Step
 heard_short = hears 1020 short_text
 
@@ -81,7 +80,7 @@ heard_long = hears 1030 long_text
 abbrev heard_none : Step
 heard_none = hears 2100 (server_text 0)
 
--- ---- what they carry
+-- ---- the carried pieces
 
 abbrev of_alias : ℕ → ℕ → ℕ → Held
 of_alias moment lifetime rank = record {
@@ -218,7 +217,7 @@ touched_so ts era =
     (asking.is
     ∙ ap (λ (before : List Touched). record { carried = []; used = []; unkept = 0 } ∷ before) asking.era)))
 
--- the second alias was not believed when it came
+-- the second alias was not believed on arrival
 not_believed : IsBelieved long (short ∷ []) → ⊥
 not_believed (inl error) = let same : ◌≡◌ {A = Option ℕ} (Some 5) None = error in absurd cc
 not_believed (inr each) =
@@ -232,7 +231,7 @@ came o (inr (inr (inl brings))) = inr (the_one_brought brings).0
 came o (inr (inr (inr (inl brings)))) = absurd brings.believed
 came o (inr (inr (inr (inr never)))) = absurd never
 
--- the alias is alive all the same
+-- the alias is alive nevertheless
 long_is_living : IsLiving 2200 touched long
 long_is_living = (inr (keeps_place none.piece long.piece refl, inl refl), omega arith)
 

@@ -1,5 +1,5 @@
--- Two histories in which a question that recent pieces answer is asked again. In the first what
--- stands is not used either; of the second the claim of recent pieces alone fails.
+-- Two histories with a question asked again, though recent pieces answer. In the first the standing
+-- pieces are not used either; the second fails in the claim of recent pieces alone.
 use Rattle.std.proofs.Common.{◌≡◌, ℕ, List, [], ◌∷◌, Bool, false, Some, refl, sym, ap, subst}
 use Rattle.std.proofs.Common.{inl, inr, arith}
 use Rattle.std.specs.Prelude.{length, not, is_none}
@@ -31,7 +31,7 @@ use Rattle.worked_claims.proofs.Whole.{history, it_is_sound, it_asks_well, it_te
 use Rattle.worked_claims.proofs.Brought.{not_sent, looks_up, wants_it, waits_for_new}
 use Rattle.worked_claims.proofs.Truly.{nobody_waits, handed_on}
 
--- ---- what stands, and is recent, is not used: the question is asked again
+-- ---- standing, recent pieces are not used: the question is asked again
 
 abbrev asks_again : Step
 asks_again = step_of 2000 (1048592 ∷ []) (from_client client (question_text 7 1))
@@ -59,7 +59,7 @@ not_used h = by h.sound.owners h.uses
 abbrev ask_again : ShownAsk
 ask_again = record { path = Udp 1040; server = server; octets = question_text 16 1; moment = 2000 }
 
--- the question waits, behind a history without an ask
+-- the question waits, after a history without an ask
 waits_again : (past : List Step) → listed past ≡ [] → listed (asks_again ∷ past) ≡ ask_again ∷ []
     → unanswered (asks_again ∷ past) (0 ∷ []) ≡ length past ∷ [] → AsksForWaiting config asks_again past (0 ∷ [])
 unfolding first_question question_at octets_end name_within walk_in name_step
@@ -100,7 +100,7 @@ but_for_its_use uses recent = record {
   recent = recent;
 }
 
--- ---- what is recent is not used, in an era that was once out of memory
+-- ---- recent pieces are not used, in an era once out of memory
 
 -- time passes, and an entry found no memory
 abbrev stumbles : Step
@@ -112,7 +112,7 @@ stumbles = record {
 abbrev stumbled : List Step
 stumbled = stumbles ∷ history
 
--- a step that brings no question uses no slot, unless it accepts a reply that leads on
+-- a step without a question uses no slot, unless the step accepts a reply leading on
 uses_none : (s : Step) (past : List Step) (ts : List Touched) (slots : List Slot)
     → ((r : Request) → request_in s.input.event ≡ Some r → ⊥) → (LooksOn config s past ts slots → ⊥)
     → Uses config s past ts slots → slots ≡ []
@@ -120,7 +120,7 @@ uses_none s past ts slots unasked unled (inl looks) = absurd (unasked _ looks.as
 uses_none s past ts slots unasked unled (inr (inl looks)) = absurd (unled looks)
 uses_none s past ts slots unasked unled (inr (inr nothing)) = nothing.none
 
--- what the era touched so far, by the slots that its steps used
+-- the pieces and slots touched so far by the era, given the slots used by the steps
 abbrev touched : List Slot → List Slot → List Slot → List Touched
 touched first second third =
     record { carried = []; used = third; unkept = 1 } ∷ record { carried = held ∷ []; used = second; unkept = 0 }
@@ -192,7 +192,7 @@ not_recent h = by h.sound.owners h.used h.recent
         (looks_up asks_again 7 refl) (known first second third none nothing) in
         true≢false (sym (ap is_reply once.actions))
 
--- of that era the other claim of use says nothing
+-- on this era the claim of standing pieces says nothing
 out_of_memory : UsesWhatStands config (asks_again ∷ stumbled) ([] ∷ [] ∷ (0 ∷ []) ∷ [] ∷ [])
 out_of_memory = (
   (handed_on, λ asker q some asks is room known. absurd (not_sent asks.sends)),

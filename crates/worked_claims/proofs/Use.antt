@@ -1,6 +1,6 @@
--- Answers at once, computed: from a denial that stands, of the question's type or of its whole
--- name, until it expires, and from nothing else. Where the question is asked again, what stands was
--- not used.
+-- Answers at once, computed: from a standing denial, of the question's type or of the whole name,
+-- until expired, and from nothing else. With the question asked again, standing pieces were not
+-- used.
 use Rattle.std.proofs.Common.{ℕ, List, [], ◌∷◌, Bool, Some, false, refl, sym, ap, inl, inr, arith}
 use Rattle.std.specs.Prelude.{not, is_none}
 use Rattle.std.proofs.lemmas.Bool.{true≢false}
@@ -22,7 +22,7 @@ use Rattle.worked_claims.proofs.Brought.{looks_up}
 use Rattle.worked_claims.proofs.ServerDenials.{there_is_none, is_not_there, no_address, name_error, none_carried}
 use Rattle.worked_claims.proofs.ServerDenials.{error_carried}
 
--- ---- the pieces at which a look-up among those that stand ends
+-- ---- the pieces ending a look-up among standing pieces
 
 abbrev Known : ℕ → List Held → Question → Type 0
 Known n carried q = LeadsToEnd config.routes n (standing n carried) 8 q
@@ -51,7 +51,7 @@ no_data_of_another_class : Known 2000 (no_address ∷ []) (of_class 3) → ⊥
 unfolding route_of
 no_data_of_another_class known = known
 
--- so did a name error, of each type and of each name under its own
+-- a name error came as well, for each type and for each name under its own
 an_error_is_known : Known 31019 (name_error ∷ []) (address a) × Known 31019 (name_error ∷ []) (of_type 28)
     × Known 31019 (name_error ∷ []) (address ((98 ∷ []) ∷ a))
 unfolding route_of
@@ -93,7 +93,7 @@ nothing_behind_an_alias known = known
 
 -- ---- asked for again
 
--- the client asks again at 2000, and this is done
+-- the client asks again at 2000, with these actions
 abbrev again : List Action → Step
 again actions = step_of 2000 (1048592 ∷ []) (from_client client (question_text 7 1)) actions
 
@@ -117,7 +117,7 @@ abbrev is_reply : List Action → Bool
 is_reply [] = false
 is_reply (x ∷ more) = not (is_none (reply_in_action x))
 
--- a question that is known gets a reply, and is not sent on
+-- a known question gets a reply, and is not sent on
 a_known_denial_is_used : (w : List (List ℕ)) (is : List ℕ)
     → UsesWhatStands config (again asks_on ∷ there_is_none ∷ asked ∷ []) (is ∷ w) → ⊥
 unfolding route_of
@@ -156,7 +156,7 @@ looks_up_plainly actions = record {
   on_route = refl;
 }
 
--- what stands is used for it, too
+-- the standing denial is used without RD, too
 a_known_denial_is_used_without_rd : (w : List (List ℕ)) (is : List ℕ)
     → UsesWhatStands config (again_plainly asks_on ∷ there_is_none ∷ asked ∷ []) (is ∷ w) → ⊥
 unfolding route_of

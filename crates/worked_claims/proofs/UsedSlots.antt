@@ -1,7 +1,6 @@
--- A history whose answer from cache is written from the address of a.e, although a name error came
--- after the address: both are alive, and neither takes the place of the other (RFC 8020 2). The slot
--- of the address was used. Of the name error's slot the text of the answer alone says that it was
--- not.
+-- A history with an answer from cache, written from the address of a.e although a name error came
+-- after the address: both are alive, and neither replaces the other (RFC 8020 2). The address's
+-- slot was used. Only the answer's text shows the name error's slot as unused.
 use Rattle.std.proofs.Common.{◌≡◌, ◌∙◌, ℕ, List, [], ◌∷◌, get_or, length, Option, Some, None, refl, sym, ap, subst}
 use Rattle.std.proofs.Common.{inl, inr, arith}
 use Rattle.std.specs.Prelude.{map}
@@ -38,7 +37,7 @@ use Rattle.worked_claims.proofs.Waiting.{hears, waits_on, WaitsAlone, when_asked
 use Rattle.worked_claims.proofs.FromAddress.{again_text, hit, text_from, StandsAfter, owns_it, answers_at_once, looked}
 use Rattle.worked_claims.proofs.FromAddress.{looked_at_the_address}
 
--- ---- two replies come to one ask: the address, then the name error
+-- ---- two replies come to a single ask: the address, then the name error
 
 abbrev hears_address : Step
 hears_address = hears 1020 reply_text
@@ -103,7 +102,7 @@ used_at_once = (
   λ asker q some asks is room known. answers_at_once before [] stands asker asks.octets asks.sends,
 )
 
--- ---- all else holds, whatever slots the look-up is said to have used
+-- ---- all else holds, whatever the slots claimed as used
 
 -- a look-up of the newest step used these slots
 abbrev LookedUp : List Slot → Type 0
@@ -129,7 +128,7 @@ but_for_its_slots slots looked_up = record {
 
 -- ---- the slot of the address
 
--- of all that the era touched, the two are the newest
+-- the two pieces are the newest touched by the era
 abbrev BeginsSo : List Touched → Type 0
 BeginsSo ts = (older : List Touched) × (ts ≡ record { carried = error ∷ []; used = []; unkept = 0 }
     ∷ record { carried = held ∷ []; used = []; unkept = 0 } ∷ older)
@@ -157,7 +156,7 @@ uses_the_address ts era = looked_at_the_address before ts stands (along_the_addr
 it_serves_truly : ServesTruly config (asked ∷ hears_address ∷ hears_error ∷ hit ∷ [])
 it_serves_truly = but_for_its_slots (held.piece.slot ∷ []) uses_the_address
 
--- ---- the slot of the name error: a look-up leads along it, and the text alone differs
+-- ---- the slot of the name error: a look-up leads along the error, and the text alone differs
 
 along_the_error : (ts : List Touched) → BeginsSo ts → LeadsAlong (AnswersNothing hit) 2000 ts (address a) (error ∷ [])
 along_the_error ts (older, is) =
@@ -198,7 +197,7 @@ touched_so = inr (
   refl,
 )
 
--- the only living piece of this slot is the name error
+-- the name error is the only living piece of this slot
 of_the_error : (h : Held) → NotReplaced h (error ∷ held ∷ []) → error.piece.slot ≡ h.piece.slot → error ≡ h
 of_the_error h (inl is) slot = is
 of_the_error h (inr (keeps, inl is)) slot =
@@ -207,7 +206,7 @@ of_the_error h (inr (keeps, inl is)) slot =
     absurd cc
 of_the_error h (inr (keeps, inr never)) slot = absurd never.1
 
--- the answer to a client's question that these pieces would give
+-- the answer to a client's question, from these pieces
 abbrev answer_from : Request → Question → List Held → List ℕ
 answer_from r q pieces = sized_for r.client (full_text (asked_in (header_in r.octets) (Some q)) (sections_of 2000 pieces))
     (short_text (asked_in (header_in r.octets) (Some q)) (sections_of 2000 pieces))

@@ -22,7 +22,7 @@ use Rattle.worked_claims.proofs.Accepted.{asked, ask}
 use Rattle.worked_claims.proofs.Brought.{not_sent, wants_it, waits_for_one}
 use Rattle.worked_claims.proofs.FirstStep.{word, asked_for, asks_it, asks_right, uses_nothing, uses_no_slot, only_asks}
 
--- a reply of these octets comes to the ask, and nothing is done
+-- a reply of these octets comes to the ask, without an action
 abbrev pub hears : ℕ → List ℕ → Step
 hears now octets = step_of now [] (delivery (Udp 1032) server octets) []
 
@@ -32,7 +32,7 @@ pub asked_for_it : Asks ask (address a)
 unfolding first_question question_at octets_end name_within walk_in name_step
 asked_for_it = record { question = address a; reads = refl; same = refl }
 
--- no other question waits, and no other ask is listed, before the step or after
+-- the first question alone waits, and its ask alone is listed, before the step and after
 pub waits_on : (s : Step) (past : List Step) (owners : List ℕ) → InEra (asked ∷ []) (s ∷ past)
     → listed past ≡ ask ∷ [] → listed (s ∷ past) ≡ ask ∷ [] → unanswered (s ∷ past) owners ≡ 0 ∷ []
     → AsksForWaiting config s past owners
@@ -43,7 +43,8 @@ waits_on s past owners in_era was_listed one_listed one_waits =
 
 -- ---- the claims hold
 
--- they hold of these steps, with these owners and used slots, and the first question waits alone
+-- the claims hold of these steps, with these owners and used slots, and the first question waits
+-- alone
 pub record WaitsAlone (past : List Step) (owners : List (List ℕ)) (used : List (List Slot)) : Type 0 where
   pub in_era : InEra (asked ∷ []) past
   pub asks_one : listed past ≡ ask ∷ []

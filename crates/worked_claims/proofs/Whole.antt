@@ -1,5 +1,6 @@
--- A worked history, whole: a question, its ask, and the reply with its answer. It is sound, asks
--- well, and reports whether more is due; with other owners it is not sound.
+-- A worked history, whole: a question, its ask, and the reply with the answer. The history is
+-- sound, asks well, and reports whether more is due; with different owners the history is not
+-- sound.
 use Rattle.std.proofs.Common.{◌≡◌, ℕ, List, [], ◌∷◌, length, false, refl, ap, ◌∙◌, ◌⊎◌, inl, inr, arith}
 use Rattle.step_values.specs.declared.action.Why.TheVariants.{Answered}
 use Rattle.step_values.specs.Values.{SentReply, Step}
@@ -52,7 +53,7 @@ the_reply_has_no_owner h = h.1
 it_has_two_owners : Sound config history ((0 ∷ 0 ∷ []) ∷ [] ∷ []) → ⊥
 it_has_two_owners h = let none : 1 ≡ 0 = ap (λ (is : List ℕ). length is) h.1.2 in omega (arith, none)
 
--- the ask is for the question, to its route's server, with what its word gives
+-- the ask is for the question, to a server of its route, with the identifier and port of its word
 pub it_asks_well : AsksWell config history
 it_asks_well = (asks_right 1024 false, tt, omega arith, (tt, (tt, tt)))
 

@@ -1,5 +1,5 @@
--- The outcome of a step, computed: the texts of failures, whether more is due after it, and for how
--- many steps there are owners.
+-- The outcome of a step, computed: the texts of failures, the report whether more is due, and the
+-- number of steps with owners.
 use Rattle.std.proofs.Common.{◌≡◌, ℕ, List, [], ◌∷◌, get_or, length, Some, refl, sym, ap, ◌∙◌, arith}
 use Rattle.std.proofs.lemmas.Bool.{true≢false}
 use Rattle.dns_message.specs.Header.{header_in}
@@ -21,12 +21,12 @@ use Rattle.worked_claims.proofs.Accepted.{asked}
 
 -- ---- the texts of failures
 
--- the question as it came, and result code 2
+-- the question as received, and result code 2
 with_the_question : IsErrorResponse (question_text 7 1) Deadline (failure_with 7 2)
 unfolding written ◌▹◌ each name_text first_question question_at octets_end name_within walk_in name_step
 with_the_question = (address a, refl, refl)
 
--- the text of a failure of this question is this one
+-- the text of a failure of this question is unique
 the_text : (octets : List ℕ) (h : IsErrorResponse (question_text 7 1) Deadline octets) → octets ≡ failure_with 7 2
 unfolding written ◌▹◌ each name_text first_question question_at octets_end name_within walk_in name_step
 the_text octets h =
@@ -49,12 +49,12 @@ without_the_question : IsErrorResponse (question_text 7 1) Deadline (bare 130) �
 without_the_question h = let lengths : 12 ≡ 21 = ap (λ (octets : List ℕ). length octets) (the_text (bare 130) h) in
     omega (arith, lengths)
 
--- REFUSED where there is no route
+-- REFUSED without a route
 refused : IsErrorResponse (question_text 7 1) NoRoute (failure_with 7 5)
 unfolding written ◌▹◌ each name_text first_question question_at octets_end name_within walk_in name_step
 refused = (address a, refl, refl)
 
--- a message of a format that can't be read has no question to repeat
+-- a message of unreadable format has no question to repeat
 of_no_format : IsErrorResponse (question_text 7 1) BadFormat (bare 129)
 unfolding written ◌▹◌ each name_text
 of_no_format = refl
@@ -73,7 +73,7 @@ passes now = step_of now [] tick []
 abbrev none_owned : List (List ℕ)
 none_owned = [] ∷ [] ∷ []
 
--- the ask is due from 2500 on, so a step that reports nothing due is right until 2499
+-- the ask is due from 2500 on, so a step may report nothing due until 2499
 nothing_due_before : TellsMore config (passes 2499 ∷ asked ∷ []) none_owned
 nothing_due_before = ((tt, refl), refl)
 
@@ -104,7 +104,7 @@ a_step_without_owners h = h
 owners_without_a_step : Sound config [] ([] ∷ []) → ⊥
 owners_without_a_step h = h
 
--- a step that replies nothing owns nothing
+-- a step without a reply owns nothing
 a_step_that_replies_nothing : Sound config (asked ∷ []) ([] ∷ [])
 a_step_that_replies_nothing = (tt, refl, λ q octets hit. tt)
 

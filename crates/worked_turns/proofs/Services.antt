@@ -11,11 +11,11 @@ use Rattle.step_values.specs.Values.{tick, Step}
 use Rattle.step_table.specs.State.{Running}
 use Rattle.step_table.specs.Steps.{initial}
 use Rattle.step_table.specs.Row.{Row}
-use Rattle.theorem_use.proofs.CallerLemmas.{run_serves_on}
+use Rattle.forwarder_commands.proofs.TheoremUse.CallerLemmas.{run_serves_on}
 use Rattle.wires.specs.Wire.{nothing, Report, Journal, journal, silence, ◌then◌}
-use Rattle.serving_loop.specs.declared.counts.Served.{Served}
-use Rattle.serving_loop.specs.Events.{Taken, Turn}
-use Rattle.serving_loop.specs.Serving.{report_in, Serves}
+use Rattle.forwarder_commands.specs.ServingLoop.declared.counts.Served.{Served}
+use Rattle.forwarder_commands.specs.ServingLoop.Events.{Taken, Turn}
+use Rattle.forwarder_commands.specs.ServingLoop.Serving.{report_in, Serves}
 use Rattle.forwarder_commands.specs.Counts.{counted_text}
 use Rattle.forwarder_commands.specs.Service.{ServesAndReports}
 use Rattle.worked_turns.proofs.Neighbours.{HoldsButFor}

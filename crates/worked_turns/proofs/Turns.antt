@@ -10,8 +10,8 @@ use Rattle.outstanding.specs.declared.ask.Path.TheVariants.{Udp}
 use Rattle.step_values.specs.declared.event.Client.TheVariants.{Udp as FromUdp}
 use Rattle.step_values.specs.Values.{Event, from_client, path_failed, tick, ask_udp}
 use Rattle.wires.specs.Wire.{Arrival, client_datagram, client_stream, Put, Report}
-use Rattle.serving_loop.specs.Events.{Taken, AreChains, AreTicks, Turn, client_message, IsTurn, AreTurns}
-use Rattle.serving_loop.specs.Serving.{report_in}
+use Rattle.forwarder_commands.specs.ServingLoop.Events.{Taken, AreChains, AreTicks, Turn, client_message, IsTurn, AreTurns}
+use Rattle.forwarder_commands.specs.ServingLoop.Serving.{report_in}
 use Rattle.worked_turns.proofs.Neighbours.{HoldsButFor}
 
 -- ---- a client's datagram, its event and an ask

@@ -1,4 +1,4 @@
--- A name that can be read ends where its own octets do, wherever its pointers lead.
+-- A readable name ends with its own octets, wherever the pointers lead.
 use Rattle.std.proofs.Common.{◌≡◌, ℕ, ◌+◌, ◌<◌, ◌≤◌, List, [], ◌∷◌, length, get_or, Result, Ok, Err, refl, ap, subst, ◌∙◌, arith}
 use Rattle.std.specs.Prelude.{IsOk}
 use Rattle.dns_message.specs.declared.names.fault.Fault.{Fault}
@@ -6,8 +6,7 @@ use Rattle.dns_message.specs.Reading.{end_read}
 use Rattle.dns_message.specs.Names.{NameAt, at_root, at_label, at_pointer, name_at}
 use Rattle.dns_message.proofs.names.NameLaws.{name_sound}
 
--- the name at f can be read, and o is the place of a label of its own, its zero octet or its first
--- pointer
+-- the name at f is readable, and o is the place of its own label, zero octet or first pointer
 pub record GoesOn (bytes : List ℕ) (f o : ℕ) : Type 0 where
   pub labels : List (List ℕ)
   pub e : ℕ
@@ -21,7 +20,7 @@ begins_by bytes f (Err fault) is ok = absurd cc
 pub name_begins : (bytes : List ℕ) (f : ℕ) → IsOk (name_at bytes f) → GoesOn bytes f f
 name_begins bytes f ok = begins_by bytes f (name_at bytes f) refl ok
 
--- the octet at a place of a name's own octets, and where the name ends by it
+-- the octet at a place of a name's own octets, and the name's end by this octet
 pub record Stands (bytes : List ℕ) (f o : ℕ) : Type 0 where
   pub there : o < length bytes
   pub zero_octet : get_or bytes o 0 ≡ 0 → end_read (name_at bytes f) ≡ Ok (o + 1)

@@ -1,4 +1,4 @@
--- Loops over the labels of a name, and what they keep.
+-- Loops over the labels of a name, and their invariants.
 use Rattle.std.proofs.Common.{◌≡◌, ℕ, List, [], ◌∷◌, ◌++◌, map, Result, Ok, Err, refl, sym, ap, append_assoc}
 use Rattle.std.specs.Char.{to_ascii_lowercase}
 use Rattle.dns_name.specs.Labels.{IsSame}
@@ -19,7 +19,7 @@ pub behind_label : (l : List ℕ) (r : Result (List (List ℕ) × ℕ) Fault) �
 behind_label l (Ok n) = refl
 behind_label l (Err fault) = refl
 
--- ---- a name that is compared label by label
+-- ---- a name compared label by label
 
 same_first : (l m : List ℕ) (ls ms : List (List ℕ)) → IsSame (l ∷ ls) (m ∷ ms) → (map to_ascii_lowercase l ≡ map to_ascii_lowercase m) × IsSame ls ms
 same_first l m ls ms e = (cc, cc)

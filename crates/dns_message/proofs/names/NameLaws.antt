@@ -24,7 +24,7 @@ pub leads_back : (bytes : List ℕ) (s : Bound) (o f used p : ℕ) → step byte
 unfolding step
 leads_back bytes s o f used p e = grind (arith, e)
 
--- ---- the number of steps that are allowed makes no difference, once it is large enough
+-- ---- the number of allowed steps makes no difference, if large enough
 
 abbrev Enough : ℕ → ℕ → List ℕ → Type 0
 Enough k m bytes = (s : Bound) (o f used : ℕ) → used ≤ 254 → steps_left f used ≤ k → steps_left f used ≤ m → walk_in k bytes s o f used ≡ walk_in m bytes s o f used
@@ -49,7 +49,7 @@ enough (suc k) (suc m) bytes s o f used le a b =
 
 -- ---- a step on the way
 
--- what is read from w on, once its step is known
+-- the reading from w on, given its step
 pub resume_step : (bytes : List ℕ) (w : NameCursor) → w.used ≤ 254
     → resume bytes w ≡ end_of w.end (step bytes w.bound w.offset w.run w.used >>= go_on (λ s' o' f' used'. walk_in (w.run + (254 - w.used)) bytes s' o' f' used') bytes w.bound w.offset w.run w.used)
 unfolding resume walk_in
@@ -97,12 +97,12 @@ resume_pointer bytes w p le is =
     let same = enough (w.run + (254 - w.used)) (steps_left p w.used) bytes (whole bytes) p p w.used le (omega (arith, lt)) (omega arith) in
     resume_step bytes w le ∙ rw (is, same) (end_of_ending w.end (w.offset + 2) (walk_in (steps_left p w.used) bytes (whole bytes) p p w.used))
 
--- ---- what is read is a name
+-- ---- the result of reading is a name
 
 abbrev pub read_as : List (List ℕ) → ℕ → Result (List (List ℕ) × ℕ) Fault
 read_as ls e = Ok (ls, e)
 
--- the name goes on so, and fits
+-- these labels follow, and fit
 abbrev Reads : List ℕ → Bound → ℕ → ℕ → ℕ → List (List ℕ) → ℕ → Type 0
 Reads bytes s o f used ls e = NameAt bytes o f ls e × (used + size_of ls ≤ 255) × (e ≤ s.stop)
 

@@ -1,4 +1,4 @@
--- Labels that are put one after another.
+-- Labels put one after another.
 use Rattle.std.proofs.Common.{◌≡◌, ℕ, suc, ◌+◌, ◌≤◌, List, [], ◌∷◌, ◌++◌, length, take, drop, get_or, Result, Ok, Err, refl, sym, ap, ◌∙◌, arith}
 use Rattle.std.specs.Prelude.{unwrap_or, Some}
 use Rattle.std.proofs.lemmas.List.{length-take, length-drop, length-append, append-nil}
@@ -28,7 +28,7 @@ label_alone : (l : List ℕ) (r : Result (List (List ℕ) × ℕ) Fault) → wit
 label_alone l (Ok n) = refl
 label_alone l (Err fault) = refl
 
--- one label is read
+-- a label is read
 pub passes_label : (bytes : List ℕ) (w : NameCursor) (len : ℕ) → w.used ≤ 254 → w.bound.stop ≤ length bytes → step bytes w.bound w.offset w.run w.used ≡ did (steps.Label len)
     → Passes bytes (take (len + 1) (drop w.offset bytes)) w (record { offset = w.offset + 1 + len; run = w.run; used = w.used + len + 1; bound = w.bound; end = w.end })
 passes_label bytes w len room stop is =
@@ -50,9 +50,9 @@ passes_label bytes w len room stop is =
       stop = stop;
     })
 
--- ---- labels that are copied one after another
+-- ---- labels copied one after another
 
--- the first of these octets are the labels that were read
+-- the first of these octets are the labels read so far
 pub record Filled (bytes octets : List ℕ) (w : NameCursor) (all : Result (List (List ℕ) × ℕ) Fault) : Type 0 where
   pub read : with_front (labels_of (take w.used octets)) (resume bytes w) ≡ all
   pub laid : IsLaidOut (take w.used octets)
@@ -80,7 +80,7 @@ filled_more bytes old new labels w v all f p text =
       stop = p.stop;
     }
 
--- room for the octets of a run after those that are there
+-- room for a run's octets after the octets so far
 pub room_behind : (octets : List ℕ) (used : ℕ) → length (take used octets) ≡ used → used ≤ length octets
 room_behind octets used size = omega (arith, length-take used octets, size)
 

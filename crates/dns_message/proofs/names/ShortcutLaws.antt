@@ -1,4 +1,4 @@
--- Runs that begin with a pointer.
+-- Runs beginning with a pointer.
 use Rattle.std.proofs.Common.{◌≡◌, ℕ, ◌+◌, ◌-◌, ◌<◌, ◌≤◌, List, [], length, get_or, set, replicate, Some, refl, sym, subst, ◌∙◌, arith, ⊎_elim}
 use Rattle.std.proofs.lemmas.List.{get_or-set_other, get_or-replicate, length-replicate}
 use Rattle.std.proofs.Math.ListN.{get_or-eq_default}
@@ -15,7 +15,7 @@ same_run bytes o used end le = refl
 pub same_run_onward : (bytes : List ℕ) (o p e : ℕ) → SameRun bytes o p → SameRun bytes p e → SameRun bytes o e
 same_run_onward bytes o p e a b used end le = a used end le ∙ b used end le
 
--- two places that a third reads as
+-- two places that read like a third read alike
 pub same_run_from : (bytes : List ℕ) (o p e : ℕ) → SameRun bytes o p → SameRun bytes o e → SameRun bytes p e
 same_run_from bytes o p e a b used end le = sym (a used end le) ∙ b used end le
 
@@ -61,7 +61,7 @@ zeros n = replicate n 0
 pub get_or-zeros : (n o : ℕ) → get_or (zeros n) o 0 ≡ 0
 get_or-zeros n o = ⊎_elim (λ inside. get_or-replicate n o 0 0 inside) (λ outside. get_or-eq_default (zeros n) 0 (omega (arith, length-replicate {A = ℕ} n 0, outside))) (cases_lt o n)
 
--- nothing is known yet
+-- no place is known yet
 pub none_known : (bytes : List ℕ) (n : ℕ) → AreShortcuts bytes (zeros n)
 none_known bytes n o some = absurd (omega (arith, get_or-zeros n o, some))
 

@@ -1,4 +1,4 @@
--- The sizes of names in octets, and those known at the places that pointers lead to.
+-- The sizes of names in octets, and the known sizes at pointers' targets.
 use Rattle.std.proofs.Common.{◌≡◌, ℕ, zero, suc, ◌+◌, ◌-◌, ◌<◌, ◌≤◌, List, [], ◌∷◌, length, take, drop, get_or, set, replicate, Option, Some, None, Result, Ok, Err, refl, sym, ap, subst, ◌∙◌, arith, ⊎_elim}
 use Rattle.std.specs.Prelude.{unwrap_or}
 use Rattle.std.proofs.lemmas.List.{length-take, length-drop, get_or-set_other}
@@ -40,12 +40,12 @@ size_of_end None r = refl
 size_of_end (Some e) (Ok n) = refl
 size_of_end (Some e) (Err fault) = refl
 
--- what is left from a pointer's target on
+-- the octets left from a pointer's target on
 pub size_from : (bytes : List ℕ) (p used : ℕ) (end : Option ℕ) → size_read (resume bytes (record { offset = p; run = p; used = used; bound = whole bytes; end = end })) ≡ size_after bytes p used
 unfolding resume size_after
 size_from bytes p used end = size_of_end end (walk_in (steps_left p used) bytes (whole bytes) p p used)
 
--- ---- a name that is known, after labels
+-- ---- a known name, after labels
 
 too_long : (bytes : List ℕ) (k : ℕ) (s : Bound) (o f used e : ℕ) (ls : List (List ℕ)) → e ≤ s.stop → used ≤ 254 → 255 < used + size_of ls → steps_left f used ≤ k → NameAt bytes o f ls e → walk_in k bytes s o f used ≡ Err NameLong
 unfolding walk_in
@@ -66,7 +66,7 @@ too_long bytes (suc k) s o f used e ls stop room long le (at_pointer {e' = e'} h
     let on = too_long bytes k (whole bytes) (target bytes o) (target bytes o) used e' ls far.1 room long (omega arith) rest in
     rw (back_step bytes s o f used high (omega arith) back, on) refl
 
--- the name that a size is of
+-- the name of a size
 pub record Sized (bytes : List ℕ) (o f used size : ℕ) : Type 0 where
   pub labels : List (List ℕ)
   pub e : ℕ
@@ -106,7 +106,7 @@ later_run bytes o f f' e [] le (at_root inside none here) = at_root inside none 
 later_run bytes o f f' e (l ∷ ls) le (at_label some short inside l-is rest) = at_label some short inside l-is (later_run bytes (o + 1 + get_or bytes o 0) f f' e ls le rest)
 later_run bytes o f f' e ls le (at_pointer high inside back rest here) = at_pointer high inside (omega arith) rest here
 
--- what was sized from a run's front on is sized as a name of its own
+-- a size from a run's front on is the size of a name at o
 pub size_own : (bytes : List ℕ) (o f used size : ℕ) → f ≤ o → Sized bytes o f used size → size_after bytes o 0 ≡ Ok size
 unfolding size_after
 size_own bytes o f used size le n =
@@ -129,9 +129,9 @@ kept bytes sizes place value inside known is o some = ⊎_elim here elsewhere (c
         let stays : get_or (set sizes place value) o 0 ≡ get_or sizes o 0 = get_or-set_other sizes place o value 0 other in
         rw stays (known o (subst (λ (n : ℕ). 0 < n) stays some))
 
--- ---- steps of a walk that measures
+-- ---- steps of a measuring walk
 
--- after `used` octets, this is left from w on
+-- k octets, and the octets left from w on, are all
 abbrev pub Left : List ℕ → NameCursor → ℕ → Result ℕ Fault → Type 0
 Left bytes w k all = more k (size_read (resume bytes w)) ≡ all
 
@@ -172,7 +172,7 @@ pub left_long : (bytes : List ℕ) (w : NameCursor) (p known k : ℕ) (all : Res
 left_long bytes w p known k all room is so long left =
     sym left ∙ ap (more k) (left_at bytes w p room is ∙ known_long bytes p w.used known room so long)
 
--- the place of a walk has what is left, as a name of its own
+-- the rest of the name at a walk's place, as a name at o
 pub record Here (bytes : List ℕ) (o used size : ℕ) : Type 0 where
   pub own : size_after bytes o 0 ≡ Ok (size - used)
   pub short : size ≤ 255
@@ -197,7 +197,7 @@ left_here bytes w size bound back room left =
     let P : Bound → Type 0 = λ b. more w.used (size_read (walk_in (steps_left w.run w.used) bytes b w.offset w.run w.used)) ≡ Ok size in
     left_here_by bytes w.offset w.run w.used size (walk_in (steps_left w.run w.used) bytes (whole bytes) w.offset w.run w.used) back room refl (subst P bound read)
 
--- ---- a name that is skipped
+-- ---- a skipped name
 
 pub skipped : (r : Result (List (List ℕ) × ℕ) Fault) (e size : ℕ) → size_read r ≡ Ok size → end_read (ending e r) ≡ Ok e
 skipped (Ok n) e size is = refl
@@ -207,7 +207,7 @@ pub not_skipped : (r : Result (List (List ℕ) × ℕ) Fault) (e : ℕ) (fault :
 not_skipped (Ok n) e fault is = absurd cc
 not_skipped (Err other) e fault is = cc
 
--- after what was read so far, the name ends here
+-- after the octets read so far, the name ends here
 abbrev pub Skips : List ℕ → NameCursor → Result ℕ Fault → Type 0
 Skips bytes w all = end_read (resume bytes w) ≡ all
 
@@ -241,7 +241,7 @@ unfolding size_after
 skip_lost bytes w p fault all room own is lost read =
     sym (skip_at bytes w p room own is ∙ not_skipped (walk_in (steps_left p w.used) bytes (whole bytes) p p w.used) (w.offset + 2) fault lost) ∙ read
 
--- ---- what the table says
+-- ---- the contents of the table
 
 pub known_at : (bytes sizes : List ℕ) (o size : ℕ) → AreSizes bytes sizes → (0 < size) × (size ≡ get_or sizes o 0) → size_after bytes o 0 ≡ Ok size
 known_at bytes sizes o size known is =
@@ -251,7 +251,7 @@ known_at bytes sizes o size known is =
 pub measured : (bytes : List ℕ) (o used size : ℕ) → used ≤ 254 → size_after bytes o used ≡ Ok size → size_after bytes o 0 ≡ Ok size
 measured bytes o used size room is = size_own bytes o o used size (omega arith) (sized bytes o used size room is)
 
--- nothing is known yet
+-- no size is known yet
 pub none_known : (bytes : List ℕ) (n : ℕ) → AreSizes bytes (replicate n 0)
 none_known bytes n o some = absurd (omega (arith, get_or-zeros n o, some))
 

@@ -1,19 +1,19 @@
--- A loop over counted things.
+-- A loop over counted items.
 use Rattle.std.proofs.Common.{◌≡◌, ℕ, suc, ◌+◌, ◌-◌, ◌<◌, ◌≤◌, List, [], ◌∷◌, ◌++◌, Result, Ok, Err, refl, sym, ap, ◌∙◌, append_assoc, arith}
 use Rattle.std.proofs.lemmas.List.{append-nil}
-use Rattle.plain_values.proofs.CallerLemmas.{fault_of_part}
+use Rattle.dns_name.proofs.PlainValues.CallerLemmas.{fault_of_part}
 use Rattle.dns_message.specs.declared.names.fault.Fault.{Fault}
 use Rattle.dns_message.specs.Reading.{◌>>=◌, wants_memory, Fails, end_read}
 use Rattle.dns_message.specs.Records.{with_first, counted}
 
--- what is left after i of count
+-- the rest after i of count
 left : (count i : ℕ) → i < count → count - i ≡ suc (count - (i + 1))
 left count i lt = omega arith
 
 none_left : (count i : ℕ) → count ≤ i → count - i ≡ 0
 none_left count i le = omega arith
 
--- ---- what was read so far, before the rest
+-- ---- the items read so far, before the rest
 
 abbrev pub after_these : {X : Type 0} → List X → Result (List X × ℕ) Fault → Result (List X × ℕ) Fault
 after_these front (Ok x) = Ok (front ++ x.0, x.1)
@@ -48,7 +48,7 @@ read_done {X = X} front read count i o total le so_far =
     let one : after_these front (counted read (count - i) o) ≡ Ok (front, o) = rw (none_left count i le) (ap (λ (xs : List X). Ok (xs, o)) (append-nil front)) in
     sym so_far ∙ one
 
--- ---- the same where only the places are kept
+-- ---- the places of the items alone
 
 keep : {X : Type 0} (x : X) (r : Result (List X × ℕ) Fault) → end_read (with_first x r) ≡ end_read r
 keep x (Ok others) = refl

@@ -2,7 +2,7 @@
 use Rattle.std.proofs.Common.{◌≡◌, ℕ, ◌+◌, ◌<◌, ◌≤◌, List, [], ◌++◌, length, take, drop, get_or, set, Bool, true, false, cond, Result, Ok, Err, refl, sym, ap, ◌∙◌, append_assoc, arith}
 use Rattle.std.specs.Prelude.{nat_lt}
 use Rattle.std.proofs.lemmas.List.{drop_more, drop_all, append-nil, take_more_set}
-use Rattle.plain_values.proofs.CallerLemmas.{fault_of_part}
+use Rattle.dns_name.proofs.PlainValues.CallerLemmas.{fault_of_part}
 use Rattle.dns_message.specs.declared.names.fault.Fault.{Fault}
 use Rattle.dns_message.specs.declared.names.fault.Fault.TheVariants.{Rdata}
 use Rattle.dns_message.specs.declared.reading.shape.Part.{Part}
@@ -12,7 +12,7 @@ use Rattle.dns_message.specs.Runs.{Begins}
 use Rattle.dns_message.specs.Names.{inside, skipped}
 use Rattle.dns_message.specs.Data.{octets_within, written_out, prefixed, part_at, parts_at}
 
--- ---- parts that are read
+-- ---- parts read
 
 prefixed_twice : (a b : List ℕ) (r : Result (List ℕ × ℕ) Fault) → prefixed a (prefixed b r) ≡ prefixed (a ++ b) r
 prefixed_twice a b (Ok x) = ap (λ (octets : List ℕ). Ok (octets, x.1)) (sym (append_assoc a b x.0))
@@ -22,7 +22,7 @@ pub prefixed_none : (r : Result (List ℕ × ℕ) Fault) → prefixed [] r ≡ r
 prefixed_none (Ok x) = refl
 prefixed_none (Err fault) = refl
 
--- the labels of a name in data, and the zero octet after them
+-- a name's labels in data, and the final zero octet
 pub written_name : (front octets : List ℕ) (count end : ℕ) (read : Result (List (List ℕ) × ℕ) Fault) → count < length octets → Begins octets count end read → prefixed front (written_out read) ≡ Ok (front ++ take (count + 1) (set octets count 0), end)
 written_name front octets count end read inside b =
     let text : octets_of (labels_of (take count octets)) ≡ take count octets = b.laid.whole in
@@ -58,7 +58,7 @@ pub read_fails : (fault : Fault) (front : List ℕ) (parts : List Part) (i : ℕ
 read_fails fault front parts i d bytes stop o total lt fails so_far =
     fault_of_part wants_memory fault (prefixed front (part_at (get_or parts i d) bytes stop o)) total (λ is. sym so_far ∙ read_fault front parts i d bytes stop o fault lt is) fails
 
--- once all parts were read they have to fill the data
+-- the parts, all read, have to fill the data
 pub parts_full : (parts : List Part) (i : ℕ) (bytes : List ℕ) (stop o : ℕ) → length parts ≤ i → o ≡ stop → parts_at (drop i parts) bytes stop o ≡ Ok ([], o)
 unfolding parts_at
 parts_full parts i bytes stop o le same = rw (drop_all i parts le) (grind arith)
@@ -77,9 +77,9 @@ pub read_short : (front : List ℕ) (parts : List Part) (i : ℕ) (bytes : List 
 read_short front parts i bytes stop o total le other so_far =
     sym so_far ∙ ap (prefixed front) (parts_short parts i bytes stop o le other)
 
--- ---- parts that are skipped
+-- ---- parts skipped
 
--- octets that are kept end where octets that are skipped end
+-- kept octets end like skipped octets
 pub octets_behind : (bytes : List ℕ) (stop o count : ℕ) → end_read (octets_within bytes stop o count) ≡ skipped (inside stop) o count
 unfolding octets_within
 octets_behind bytes stop o count = by_test (nat_lt stop (o + count))

@@ -1,4 +1,4 @@
--- A record that can be read ends where its own octets do, wherever the pointers of its names lead.
+-- A readable record ends with its own octets, wherever the pointers of its names lead.
 use Rattle.std.proofs.Common.{◌≡◌, ℕ, ◌+◌, ◌≤◌, List, length, Result, Ok, Err, refl, ap, subst, ◌∙◌}
 use Rattle.std.specs.Prelude.{IsOk}
 use Rattle.dns_message.specs.declared.names.fault.Fault.{Fault}
@@ -34,7 +34,7 @@ owner_by bytes o (Err fault) is ok = absurd cc
 owner_read : (bytes : List ℕ) (o : ℕ) → IsOk (record_at bytes o) → OwnerRead bytes o
 owner_read bytes o ok = owner_by bytes o (record_at bytes o) refl ok
 
--- a record that can be read has an owner that can be read
+-- a readable record has a readable owner
 pub owner_readable : (bytes : List ℕ) (o : ℕ) → IsOk (record_at bytes o) → IsOk (name_at bytes o)
 owner_readable bytes o ok = rw (owner_read bytes o ok).read refl
 

@@ -1,10 +1,10 @@
--- The flags of a header as one number, and octet by octet.
+-- A header's flags as a 16-bit number, and octet by octet.
 use Rattle.std.proofs.Common.{◌≡◌, ℕ, ◌+◌, ◌*◌, ◌<◌, ◌≤◌, List, [], ◌∷◌, length, Some, refl, arith, le-ltb}
 use Rattle.std.specs.Prelude.{◌/◌, ◌%◌, slice_index}
 use Rattle.dns_message.specs.Header.{flag, header_of}
 use Rattle.dns_message.specs.Numbers.{number16}
 
--- the header whose flags are read as one number
+-- the header with flags read as a 16-bit number
 pub header_by_flags : (bytes : List ℕ) (flags : ℕ) → 12 ≤ length bytes → slice_index bytes 3 < 256 → flags ≡ number16 bytes 2
     → Some (record {
       id = number16 bytes 0;

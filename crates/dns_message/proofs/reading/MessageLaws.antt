@@ -25,7 +25,7 @@ question_fault bytes o fault is = by_read (question_at bytes o) is
     by_read (Ok x) is = absurd cc
     by_read (Err f) is = let e : f ≡ fault = cc in cc
 
--- ---- a message ends where its last counted record does
+-- ---- a message ends with its last counted record
 
 header_there : (bytes : List ℕ) → 12 ≤ length bytes → or_short (header_of bytes) ≡ Ok (header_in bytes)
 unfolding header_of
@@ -56,7 +56,7 @@ pub viewed_counts : (bytes : List ℕ) → IsViewed bytes → 1 ≤ number16 byt
 unfolding first_question
 viewed_counts bytes v = let is = v.is in grind (arith, is)
 
--- where the first question ends, the others begin
+-- all further questions begin at the first question's end
 pub others_behind : (bytes : List ℕ) (end : ℕ) → IsViewedTo bytes end
     → end_read (counted (question_at bytes) (number16 bytes 4 - 1) end) ≡ end_read (counted (question_at bytes) (number16 bytes 4) 12)
 others_behind bytes end view =

@@ -1,4 +1,4 @@
--- A name without a pointer is its own octets, and the zero octet after them.
+-- A name without a pointer is its own octets, with a final zero octet.
 use Rattle.std.proofs.Common.{◌≡◌, ℕ, suc, ◌+◌, ◌-◌, ◌<◌, ◌≤◌, List, [], ◌∷◌, ◌++◌, length, take, drop, get_or, Option, Some, None, Result, Ok, Err, refl, sym, ap, subst, ◌∙◌, append_assoc, arith}
 use Rattle.std.specs.Prelude.{IfOk, MatchOption}
 use Rattle.std.specs.List.{AllByRecursion}
@@ -45,11 +45,11 @@ begins_by bytes o e (Err fault) is ends = absurd cc
 pub name_begins : (bytes : List ℕ) (o e : ℕ) → end_read (name_at bytes o) ≡ Ok e → GoesOn bytes o o
 name_begins bytes o e ends = begins_by bytes o e (name_at bytes o) refl ends
 
--- it ends with these octets, and without a pointer
+-- the name at o ends with these octets, without a pointer
 abbrev pub EndsPlain : List ℕ → ℕ → List ℕ → Type 0
 EndsPlain bytes o octets = IsLaidOut octets × IfOk (name_at bytes o) (λ n. (n.0 ≡ labels_of octets) × IsUncompressed bytes o n.0)
 
--- the octet at p, and the name by it
+-- the octet at p, and the name by this octet
 pub record Stands (bytes : List ℕ) (o p : ℕ) : Type 0 where
   pub there : p < length bytes
   pub after : o ≤ p
@@ -64,18 +64,18 @@ octets_size (l ∷ ls) = omega (arith, octets_size ls, length-append l (octets_o
 one_label : (front : List (List ℕ)) (l : List ℕ) → octets_of (front ++ l ∷ []) ≡ octets_of front ++ label_octets l
 one_label front l = octets_joined front (l ∷ []) ∙ ap (λ (xs : List ℕ). octets_of front ++ xs) (append-nil (label_octets l))
 
--- the octets from p on, as they follow those of the labels before
+-- the octets from p on, after the octets of the labels before
 behind_front : (bytes : List ℕ) (o p : ℕ) → o ≤ p → p < length bytes → drop (p - o) (drop o bytes) ≡ get_or bytes p 0 ∷ drop (p + 1) bytes
 behind_front bytes o p le lt =
     let at : o + (p - o) ≡ p = omega (arith, le) in
     let next : p + 1 ≡ suc p = omega arith in
     drop-drop (p - o) o bytes ∙ ap (λ (x : ℕ). drop x bytes) at ∙ rw next (drop-cons bytes p 0 lt)
 
--- the octets up to p and the one at p
+-- the octets up to and including p
 up_to : (bytes : List ℕ) (o p n : ℕ) → o ≤ p → p < length bytes → take ((p - o) + suc n) (drop o bytes) ≡ take (p - o) (drop o bytes) ++ get_or bytes p 0 ∷ take n (drop (p + 1) bytes)
 up_to bytes o p n le lt = take-add (p - o) (suc n) (drop o bytes) ∙ rw (behind_front bytes o p le lt) refl
 
--- a name that ends at p
+-- a name ending at p
 ends_here : (bytes : List ℕ) (o p : ℕ) (front : List (List ℕ)) (e : ℕ) → name_at bytes o ≡ Ok (front, e) → IsName front → o ≤ p → p < length bytes → get_or bytes p 0 ≡ 0
     → take (p - o) (drop o bytes) ≡ octets_of front → EndsPlain bytes o (take (p - o) (drop o bytes))
 ends_here bytes o p front e read name le lt none octets =
@@ -160,7 +160,7 @@ stands_by bytes o p e front rest (at_pointer {e' = e'} high inside back far here
 pub goes_on : (bytes : List ℕ) (o p : ℕ) → GoesOn bytes o p → Stands bytes o p
 goes_on bytes o p g = stands_by bytes o p g.e g.front g.rest g.at g.read g.name g.after g.octets
 
--- ---- where it ends
+-- ---- the name's end
 
 -- the octet before the last shows a name without a pointer
 pub record Ends (bytes : List ℕ) (o e : ℕ) : Type 0 where
@@ -204,7 +204,7 @@ name_lies bytes o e ends =
 
 -- ---- the first question, borrowed
 
--- the facts about its name hold of it
+-- facts about the first name are facts about the borrowed question
 pub first_borrowed : (bytes : List ℕ) (end kind class : ℕ) (borrowed : Option Question) → IsViewedTo bytes end → IfOk (first_question bytes) (λ q. kind ≡ q.kind) → IfOk (first_question bytes) (λ q. class ≡ q.class)
     → MatchOption borrowed (IfOk (name_at bytes 12) (λ n. IsUncompressed bytes 12 n.0 → ⊥)) (λ b. IfOk (name_at bytes 12) (λ n. (b ≡ record { name = n.0; kind = kind; class = class }) × IsUncompressed bytes 12 n.0))
     → MatchOption borrowed (IfOk (first_question bytes) (λ q. IsUncompressed bytes 12 q.name → ⊥)) (λ b. (first_question bytes ≡ Ok b) × IsUncompressed bytes 12 b.name)
@@ -221,7 +221,7 @@ first_borrowed bytes end kind class (Some b) view kind_is class_is given =
     let same : b ≡ v.question = here.0 ∙ (λ i. record { name = v.question.name; kind = kind_there i; class = class_there i }) in
     (v.is ∙ ap (λ (q : Question). Ok q) (sym same), subst (λ (q : Question). IsUncompressed bytes 12 q.name) (sym same) here.1)
 
--- and its name ends before type and class
+-- the first name ends before type and class
 pub first_name_ends : (bytes : List ℕ) (end : ℕ) → IsViewedTo bytes end → end_read (name_at bytes 12) ≡ Ok (end - 4)
 first_name_ends bytes end view =
     let name = rw view.viewed.is at (asked bytes end view).name in

@@ -21,7 +21,7 @@ is_question a b is =
     (and_from (same a.name b.name) (a.kind == b.kind) ((same_decides a.name b.name).1 is.name) (eq-eqb a.kind b.kind is.kind))
     (eq-eqb a.class b.class is.class)
 
--- the test decides the fact
+-- the test decides equality
 pub same_question_decides : (a b : Question) → Decides (same_question a b) (IsSameQuestion a b)
 same_question_decides a b = (λ e. question_is a b e, λ is. is_question a b is)
 

@@ -7,7 +7,7 @@ use Rattle.dns_message.specs.Names.{name_at}
 use Rattle.dns_message.specs.Data.{data_at}
 use Rattle.dns_message.specs.Records.{octets_end, question_at, record_at}
 
--- what is read ends where what is skipped ends
+-- reading and skipping end at equal places
 
 pub behind_bind : {X Y : Type 0} (r : Result (X × ℕ) Fault) (f : X × ℕ → Result (Y × ℕ) Fault) (g : ℕ → Result ℕ Fault) → ((x : X × ℕ) → end_read (f x) ≡ g x.1) → end_read (r >>= f) ≡ (end_read r >>= g)
 behind_bind (Ok x) f g same = same x

@@ -1,4 +1,4 @@
--- The values that are read are of their shapes, every name in them written out in full.
+-- Values read have their shapes, with every name in full.
 use Rattle.std.proofs.Common.{◌≡◌, ℕ, ◌+◌, ◌-◌, ◌<◌, ◌≤◌, Bool, true, false, cond, List, [], ◌∷◌, ◌++◌, length, take, drop, get_or, Option, Some, None, Result, Ok, Err, eqb, refl, sym, ap, subst, ◌∙◌, append_assoc, add-one, arith}
 use Rattle.std.specs.List.{AllByRecursion}
 use Rattle.std.specs.Prelude.{IfOk}
@@ -105,7 +105,7 @@ given_fits bytes (Err f) given = tt
 regroup : (l more last after : List ℕ) → l ++ ((more ++ last) ++ after) ≡ ((l ++ more) ++ last) ++ after
 regroup l more last after = simp append_assoc
 
--- without pointers the labels are in the octets as they are written out
+-- without pointers the octets have the labels in full
 stands : (bytes : List ℕ) (o f e : ℕ) (ls : List (List ℕ)) → f ≡ 0 → NameAt bytes o f ls e → drop o bytes ≡ name_octets ls ++ drop e bytes
 stands bytes o f e [] none (at_root there zero_here here) = rw (drop_more bytes o 0 there, zero_here, here) refl
 stands bytes o f e (l ∷ ls) none (at_label some short there l-is rest) =
@@ -126,7 +126,7 @@ label_at octets front more l f e ls is_label shape rest =
     let size : length octets ≡ o + 1 + length l + length more = omega (arith, ap length shape, length-append front (length l ∷ (l ++ more)), length-append l more) in
     at_label (omega (arith, first, is_label.some)) (omega (arith, first, is_label.short)) (omega (arith, first, size)) (rw (first, after) (sym (take_at l more (length l) refl))) (rw first rest)
 
--- a name that is written out is there
+-- a name in full is laid out
 pub written_at : (front : List ℕ) (f : ℕ) (ls : List (List ℕ)) → AllByRecursion IsLabel ls → NameAt (front ++ name_octets ls) (length front) f ls (length (front ++ name_octets ls))
 written_at front f [] each = at_root (omega (arith, length-append front (0 ∷ []))) (get_or_at front 0 [] 0 (length front) refl) (length-append front (0 ∷ []))
 written_at front f (l ∷ ls) each =
@@ -166,7 +166,7 @@ named_complete octets labels name is =
     let at : NameAt octets 0 0 labels (length octets) = rw is (written_at [] 0 labels name.each) in
     ap (name_if_all (length octets)) (name_complete octets 0 labels (length octets) at name.short) ∙ if_all labels (length octets)
 
--- octets that are all one name, the zero octet at its end left out
+-- octets of a single name, with a final zero octet
 pub record OnlyName (octets : List ℕ) (end : ℕ) : Type 0 where
   pub some : 1 ≤ end
   pub laid : IsLaidOut (take (end - 1) octets)

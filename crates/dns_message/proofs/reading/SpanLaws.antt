@@ -1,4 +1,4 @@
--- The spans of a message are those of its records.
+-- A message's spans are its records' spans.
 use Rattle.std.proofs.Common.{◌≡◌, ℕ, ◌+◌, ◌<◌, List, [], ◌∷◌, ◌++◌, length, replicate, length-append, Result, Ok, Err, refl, sym, ap, subst, ◌∙◌, arith}
 use Rattle.std.specs.Prelude.{IsOk}
 use Rattle.std.proofs.lemmas.List.{length-replicate}
@@ -36,7 +36,7 @@ some_by : (bytes : List ℕ) (o section : ℕ) (sections : List ℕ) (r : Result
 some_by bytes o section sections (Ok x) some = refl
 some_by bytes o section sections (Err fault) some = absurd (omega (arith, some))
 
--- a record that begins a span can be read
+-- a record at the beginning of a span is readable
 pub first_readable : (bytes : List ℕ) (o section : ℕ) (sections : List ℕ) → 0 < length (spans_at bytes (section ∷ sections) o) → IsOk (record_at bytes o)
 unfolding spans_at
 first_readable bytes o section sections some = some_by bytes o section sections (record_at bytes o) some
@@ -46,7 +46,7 @@ sections_counted left =
     let (answers, authority, additional) : List ℕ × List ℕ × List ℕ = (replicate left.answers 0, replicate left.authority 1, replicate left.additional 2) in
     omega (arith, length-append answers (authority ++ additional), length-append authority additional, length-replicate {A = ℕ} left.answers 0, length-replicate {A = ℕ} left.authority 1, length-replicate {A = ℕ} left.additional 2)
 
--- ---- the spans are those of the records
+-- ---- the spans are the records'
 
 sound_by : (bytes : List ℕ) (o section : ℕ) (sections : List ℕ) → ((e : ℕ) → SpansAt bytes sections e (spans_at bytes sections e)) → (r : Result (Record × ℕ) Fault) → record_at bytes o ≡ r
     → SpansAt bytes (section ∷ sections) o (span_and_rest o section (spans_at bytes sections) (end_read r))

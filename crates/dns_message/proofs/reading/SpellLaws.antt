@@ -1,4 +1,4 @@
--- The values that are read are those that are laid out, and those that are laid out are read.
+-- Values read are laid out, and values laid out are read.
 use Rattle.std.proofs.Common.{◌≡◌, ℕ, zero, suc, ◌+◌, ◌≤◌, Bool, true, false, cond, List, [], ◌∷◌, ◌++◌, length, take, drop, get_or, Option, Some, None, Result, Ok, Err, eqb, ltb, leb, refl, sym, ap, subst, ◌∙◌, arith}
 use Rattle.dns_message.specs.declared.names.fault.Fault.{Fault}
 use Rattle.dns_message.specs.declared.names.fault.Fault.TheVariants.{Short, Rdata}
@@ -13,7 +13,7 @@ use Rattle.dns_message.specs.Data.{name_octets, PartAt, PartsAt, parts_end, part
 use Rattle.dns_message.specs.Records.{QuestionAt, RecordAt, InRow, octets_end, question_at, record_at, with_first, counted}
 use Rattle.dns_message.proofs.names.NameLaws.{within_sound, within_complete, name_sound, name_complete}
 
--- what was read, and the place after it
+-- the value read, and the place after it
 abbrev pub read_as : {X : Type 0} → X → ℕ → Result (X × ℕ) Fault
 read_as x e = Ok (x, e)
 
@@ -23,7 +23,7 @@ read_first {X = X} x y d e is = let p : ◌≡◌ {A = X × ℕ} (x, d) (y, e) =
 pub read_second : {X : Type 0} (x y : X) (d e : ℕ) → read_as x d ≡ read_as y e → d ≡ e
 read_second {X = X} x y d e is = let p : ◌≡◌ {A = X × ℕ} (x, d) (y, e) = cc in ap (λ (q : X × ℕ). q.1) p
 
--- a step that went well, and what came after it
+-- a successful step, and the steps after it
 pub record Steps {X Y : Type 0} (r : Result X Fault) (f : X → Result Y Fault) (y : Y) : Type 0 where
   pub value : X
   pub first : r ≡ Ok value
@@ -229,7 +229,7 @@ record_complete bytes o entry e at =
     rw (name_complete bytes o entry.owner at.after at.owner at.fits, there_complete bytes at.after 10 at.there, data_here, at.ends)
     (rw (← at.kind, ← at.class, ← at.ttl) refl)
 
--- ---- counted things
+-- ---- counted items
 
 record Others {X : Type 0} (x : X) (r : Result (List X × ℕ) Fault) (xs : List X) (e : ℕ) : Type 0 where
   others : List X

@@ -1,4 +1,4 @@
--- A message is read exactly where the octets spell it.
+-- A message is read exactly if the octets spell the message.
 use Rattle.std.proofs.Common.{◌≡◌, ℕ, ◌+◌, ◌-◌, ◌<◌, ◌≤◌, Bool, true, false, cond, List, [], ◌∷◌, length, get_or, Option, Some, None, Result, Ok, Err, eqb, ltb, refl, sym, ap, subst, arith}
 use Rattle.std.specs.Prelude.{IsOk, IfOk}
 use Rattle.dns_message.specs.declared.names.fault.Fault.{Fault}
@@ -27,7 +27,7 @@ header_read : (read : Option Header) (header : Header) → or_short read ≡ Ok 
 header_read (Some h) header is = cc
 header_read None header is = absurd cc
 
--- the four counts are those of the octets
+-- the four counts are in the octets
 counts_are : (bytes : List ℕ) (header : Header) → header_in bytes ≡ header
     → header.counts ≡ get_or header.counts 0 0 ∷ get_or header.counts 1 0 ∷ get_or header.counts 2 0 ∷ get_or header.counts 3 0 ∷ []
 counts_are bytes header is =
@@ -80,7 +80,7 @@ message_complete bytes message s =
     let r = counted_complete (record_at bytes) (RecordAt bytes) (λ o x f. record_complete bytes o x f) (get_or message.header.counts 3 0) s.authority_end message.additional s.additional_end s.additional (sym counts.3) in
     rw (s.header, q, a, n, r) refl
 
--- ---- what the calls say of it
+-- ---- the calls' answers about the message
 
 pub of_spelled : (bytes : List ℕ) (message : Message) → Spells bytes message → message_of bytes ≡ Ok message
 of_spelled bytes message s = ap read_of (message_complete bytes message s)

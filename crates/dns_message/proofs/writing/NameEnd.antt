@@ -1,4 +1,4 @@
--- A name in front of octets, in which no pointer can be, label by label.
+-- A name in front of octets, without pointers, label by label.
 use Rattle.std.proofs.Common.{◌≡◌, ℕ, ◌+◌, ◌<◌, ◌≤◌, List, [], ◌∷◌, length, take, drop, get_or, None, Result, Ok, Err, refl, ap, arith}
 use Rattle.std.proofs.lemmas.List.{length-take, length-drop}
 use Rattle.dns_name.specs.Labels.{size_of}
@@ -10,7 +10,7 @@ use Rattle.dns_message.proofs.names.NameLaws.{within_sound, within_complete}
 use Rattle.dns_message.specs.declared.reading.shape.Part.TheVariants.{Name}
 use Rattle.dns_message.specs.Fields.{first_field}
 
--- labels from a place on, up to e, that fit after those before them
+-- labels from o up to e that fit after the labels before
 pub record Fits (xs : List ℕ) (o e : ℕ) : Type 0 where
   pub labels : List (List ℕ)
   pub at : NameAt xs o 0 labels e
@@ -65,7 +65,7 @@ ends_at xs o in_ short none so_far =
     let fit = whole.short in
     rw (within_complete xs (inside (length xs)) 0 whole.labels (o + 1) whole.at (omega (arith, fit)) (omega (arith, in_))) refl
 
--- where nothing at o ends or goes on, there is no name
+-- if no name ends or goes on at o, there is none
 pub no_name : (xs : List ℕ) (o : ℕ) → ((e : ℕ) → Fits xs o e → ⊥) → GoesBy xs o → first_field Name xs ≡ None
 unfolding first_field
 no_name xs o nothing so_far = none_by (name_within xs (inside (length xs)) 0) refl

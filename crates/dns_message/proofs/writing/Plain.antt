@@ -1,4 +1,4 @@
--- Parts with names among them, and parts without.
+-- Parts with names, and parts without.
 use Rattle.std.proofs.Common.{◌≡◌, ℕ, ◌+◌, ◌-◌, ◌<◌, ◌≤◌, Bool, true, false, List, [], ◌∷◌, ◌++◌, length, take, drop, get_or, eqb, Some, None, Result, Ok, Err, refl, sym, ap, ◌∙◌, arith}
 use Rattle.std.specs.Prelude.{is_some, nat_lt}
 use Rattle.std.proofs.lemmas.Bool.Decides.{Decides-eqb, nat_tests}
@@ -13,7 +13,7 @@ use Rattle.dns_message.specs.Writing.{as_is, ◌▹◌, field_text}
 use Rattle.dns_message.specs.Writer.{field_in, IsFirst}
 use Rattle.dns_message.proofs.writing.WriterFields.{InFront, in_front, name_first, parts_text, all_parts, more_parts, no_part, part_left, parts_done}
 
--- ---- where a name is
+-- ---- the place of a name
 
 pub here : (parts : List Part) (i : ℕ) (d : Part) → i < length parts → get_or parts i d ≡ Name → has_name (drop i parts) ≡ true
 unfolding has_name
@@ -38,7 +38,7 @@ unfolding has_name
 none_of_none [] none has = absurd cc
 none_of_none (part ∷ parts) none has = absurd (omega (arith, none))
 
--- ---- the first part and the others
+-- ---- the first part and the rest
 
 pub none_first : (left others : List Part) (part : Part) (xs : List ℕ) → left ≡ part ∷ others → first_field part xs ≡ None → is_some (fields_of left xs) ≡ true → ⊥
 none_first left others part xs split none some =
@@ -55,7 +55,7 @@ left_first left others part xs first behind split h some =
     let is : is_some (fields_of (part ∷ others) xs) ≡ true = rw split at some in
     rw split (part_left part others xs first behind h is)
 
--- ---- octets without a name stay as they are
+-- ---- octets without a name are unchanged
 
 both_as_is : (xs ys : List ℕ) → (as_is xs ▹ as_is ys) ≡ as_is (xs ++ ys)
 unfolding ◌▹◌
@@ -102,7 +102,7 @@ plain_text (Text ∷ parts) (len ∷ xs) free some = octets_first Text (len + 1)
 enough : (a b : ℕ) → nat_lt a b ≡ false → b ≤ a
 enough a b h = grind (arith, nat_tests)
 
--- parts of one size take as many octets
+-- parts of a fixed size take as many octets
 pub parts_size : (parts : List Part) (size : ℕ) (xs : List ℕ) → size_of_parts parts ≡ Some size → is_some (fields_of parts xs) ≡ true → length xs ≡ size
 unfolding size_of_parts first_field
 parts_size [] size [] is some = cc
@@ -124,7 +124,7 @@ parts_size (SoaNumbers ∷ []) size xs is some = by_test (nat_lt (length xs) 20)
         let twenty : 20 ≡ size = cc in
         omega (arith, none, length-drop 20 xs, enough (length xs) 20 long, twenty)
 
--- where the parts after a name have one size, the name ends where they begin
+-- a name ends before the parts of fixed size after it
 pub ends_before : (others : List Part) (size : ℕ) (xs : List ℕ) → size_of_parts others ≡ Some size → is_some (fields_of (Name ∷ others) xs) ≡ true
     → (size ≤ length xs) × (Ok (length xs - size) ≡ end_read (name_within xs (inside (length xs)) 0))
 unfolding first_field

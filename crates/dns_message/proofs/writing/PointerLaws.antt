@@ -54,9 +54,9 @@ pub none_known : {A : Type 0} (ps : Pointers A) (octets : List ℕ) → ps.few.i
 unfolding pointer_among
 none_known ps octets few many = rw (few, many) refl
 
--- ---- one more
+-- ---- one more name
 
--- what was known is known, and so is this name
+-- the names known before, and this name, are known
 abbrev pub IsKnownNow : {A : Type 0} → Pointers A → Pointers A → List ℕ → ℕ → Type 0
 IsKnownNow old new octets pointer = (other : List ℕ) → pointer_known new other ≡ cond (bytes_eq octets other) (Some pointer) (pointer_known old other)
 

@@ -1,8 +1,8 @@
--- Values that were read can be written.
+-- Read values can be written.
 use Rattle.std.proofs.Common.{◌≡◌, ℕ, ◌+◌, ◌<◌, ◌≤◌, List, [], ◌∷◌, length, Bool, true, false, cond, Some, None, ltb, refl, sym, subst, arith}
 use Rattle.std.specs.Prelude.{slice_index}
 use Rattle.std.specs.List.{AllByRecursion}
-use Rattle.plain_values.specs.Octets.{AreOctets}
+use Rattle.dns_name.specs.PlainValues.Octets.{AreOctets}
 use Rattle.dns_message.specs.Numbers.{number16, number32}
 use Rattle.dns_message.specs.declared.reading.header.Header.{Header}
 use Rattle.dns_message.specs.Header.{FitsBits, header_in, header_of}
@@ -64,7 +64,7 @@ standing_record_is_record bytes o entry e are at =
       ttl = subst (λ (t : ℕ). t < 4294967296) (sym at.ttl) (number32_fits bytes (at.after + 4) are (omega (arith, there)));
     }
 
--- a fact of each thing at a place is a fact of all that follow one another
+-- a fact of each item at a place is a fact of all items in a row
 each_in_row : {X : Type 0} (At : ℕ → X → ℕ → Type 0) (P : X → Type 0) → ((o : ℕ) (x : X) (e : ℕ) → At o x e → P x) → (o : ℕ) (xs : List X) (e : ℕ) → InRow At o xs e → AllByRecursion P xs
 each_in_row At P one o [] e row = tt
 each_in_row At P one o (x ∷ xs) e row = (one o x row.0 row.1, each_in_row At P one row.0 xs e row.2)

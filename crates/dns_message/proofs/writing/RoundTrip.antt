@@ -1,4 +1,4 @@
--- The names that were written are there, with the pointers in them.
+-- Written names are laid out, with the pointers in them.
 use Rattle.std.proofs.Common.{◌≡◌, ℕ, ◌+◌, ◌/◌, ◌%◌, ◌<◌, ◌≤◌, Bool, true, false, cond, leb, List, [], ◌∷◌, ◌++◌, length, drop, get_or, Option, Some, None, refl, sym, ap, ◌∙◌, append_assoc, arith, ◌⊎◌, inl, inr}
 use Rattle.std.specs.List.{AllByRecursion}
 use Rattle.std.proofs.lemmas.List.{append-nil, length-append, get_or_at, get_or-append-add, take_at, drop_at}
@@ -52,7 +52,7 @@ after_length t xs = length-append t.octets xs
 
 -- ---- the places of a text
 
--- the name of the place is there, in what was written so far
+-- the place's name is laid out in the octets so far
 pub record Stands (all : List ℕ) (end : ℕ) (place : Place) : Type 0 where
   pub far : ℕ
   pub at : NameAt all place.offset place.offset place.name far
@@ -70,7 +70,7 @@ all_append : (P : Place → Type 0) (ps qs : List Place) → AllByRecursion P ps
 all_append P [] qs a b = b
 all_append P (p ∷ ps) qs a b = (a.0, all_append P ps qs a.1 b)
 
--- a place before the run, or one of a longer name, as of those that end with this one
+-- a place before the run, or of a longer name, such as a name ending with n
 abbrev Known : List ℕ → ℕ → List (List ℕ) → Place → Type 0
 Known all f n place = Stands all f place ⊎ (length n < length place.name)
 
@@ -108,7 +108,7 @@ found all f p n (q ∷ ps) known is = found_by (labels_eq q.name n) (slice_eq-De
 
 -- ---- a name
 
--- a name that is a pointer
+-- a pointer as a name
 pointer_stands : (all : List ℕ) (t : Text) (f p : ℕ) (n : List (List ℕ)) → Stands all f (record { offset = p; name = n }) → Begins all (after t (as_is (octets16 (pointer_to p)))).octets
     → NameAt all (length t.octets) f n (length (after t (as_is (octets16 (pointer_to p)))).octets)
 pointer_stands all t f p n stand b =
@@ -123,7 +123,7 @@ pointer_stands all t f p n stand b =
     let on : NameAt all p p n stand.far = stand.at in
     at_pointer {e' = stand.far} (omega (arith, first, high)) (omega (arith, inside)) (omega (arith, there, stand.before)) (rw there on) (after_length t (octets16 number))
 
--- a label, and what follows it
+-- a label, and the labels after it
 pub label_stands : (all : List ℕ) (t : Text) (f e : ℕ) (l : List ℕ) (ls : List (List ℕ)) → IsLabel l → Begins all (after t (label_text l ls)).octets
     → NameAt all (length (after t (label_text l ls)).octets) f ls e → NameAt all (length t.octets) f (l ∷ ls) e
 unfolding after
@@ -138,7 +138,7 @@ label_stands all t f e l ls is_label b rest =
     let on : NameAt all (o + 1 + length l) f ls e = rw (← place) rest in
     at_label (omega (arith, first, is_label.some)) (omega (arith, first, is_label.short)) (omega (arith, first, size)) (rw (first, behind) (sym (take_at l b.more (length l) refl))) (rw first on)
 
--- the name is found where it was written
+-- the name is laid out at the place of writing
 abbrev NameStands : List ℕ → Text → ℕ → List (List ℕ) → Text → Type 0
 NameStands all t f n new = NameAt all (length t.octets) f n (length new.octets)
 
@@ -163,7 +163,7 @@ name_root : (t : Text) → after t (name_text []) ≡ after t (as_is (0 ∷ []))
 unfolding after name_text
 name_root t = refl
 
--- the name is where it was written
+-- a written name is laid out at the place of writing
 pub name_stands : (all : List ℕ) (n : List (List ℕ)) (t : Text) (f : ℕ) → AllByRecursion IsLabel n → AllByRecursion (Known all f n) t.places → Begins all (after t (name_text n)).octets → NameStands all t f n (after t (name_text n))
 name_stands all [] t f each known b =
     let b' : Begins all (after t (as_is (0 ∷ []))).octets = rw (name_root t) at b in
@@ -174,7 +174,7 @@ name_stands all (l ∷ ls) t f each known b =
     rw (name_known t l ls)
     (name_by all t f l ls each.0 known (λ b''. name_stands all ls (after t (label_text l ls)) f each.1 (label_known all t f l ls known) b'') (place_of t.places (l ∷ ls)) refl b')
 
--- ---- the places of what was written stay
+-- ---- written places stay
 
 pub stands_known : (all : List ℕ) (t : Text) (n : List (List ℕ)) → PlacesStand all t → AllByRecursion (Known all (length t.octets) n) t.places
 stands_known all t n stand = known_all all (length t.octets) n t.places stand
@@ -202,7 +202,7 @@ as_is_places : (t : Text) (xs : List ℕ) → (after t (as_is xs)).places ≡ t.
 unfolding after
 as_is_places t xs = append-nil t.places
 
--- all places, those before the name too, where no place of a longer name is in doubt
+-- all places, also the places before the name, if no place of a longer name is in doubt
 abbrev NewStand : List ℕ → List Place → ℕ → List Place → Type 0
 NewStand all old end now = (ps : List Place) × (now ≡ old ++ ps) × AllByRecursion (Stands all end) ps
 

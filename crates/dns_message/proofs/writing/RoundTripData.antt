@@ -1,4 +1,4 @@
--- The data of records that was written is there.
+-- Written record data is laid out.
 use Rattle.std.proofs.Common.{◌≡◌, ℕ, ◌+◌, ◌≤◌, Bool, true, false, cond, List, [], ◌∷◌, ◌++◌, length, take, drop, get_or, Option, Some, None, refl, sym, ap, subst, ◌∙◌, append_assoc, arith}
 use Rattle.std.specs.List.{AllByRecursion}
 use Rattle.std.specs.Prelude.{IsTrue, is_some}
@@ -16,7 +16,7 @@ use Rattle.dns_message.proofs.names.NameLaws.{within_complete}
 use Rattle.dns_message.proofs.writing.WriterLaws.{after_both}
 use Rattle.dns_message.proofs.writing.RoundTrip.{Begins, begins_back, begins_long, behind_as_is, octet_at, after_length, after_more, PlacesStand, stands_known, label_stands, name_stands, name_places, as_is_stands}
 
--- ---- a name written out in full
+-- ---- a name in full
 
 pub full_stands : (all : List ℕ) (ls : List (List ℕ)) (front more : List ℕ) (f : ℕ) → AllByRecursion IsLabel ls → all ≡ front ++ (name_octets ls ++ more) → NameAt all (length front) f ls (length front + length (name_octets ls))
 unfolding after
@@ -32,7 +32,7 @@ full_stands all (l ∷ ls) front more f labels whole =
     let rest : NameAt all (length next) f ls (length front + length (name_octets (l ∷ ls))) = rw (← size) (full_stands all ls next more f labels.1 whole') in
     label_stands all t f (length front + length (name_octets (l ∷ ls))) l ls labels.0 (record { more = name_octets ls ++ more; whole = whole' }) rest
 
--- ---- parts written as they are held
+-- ---- parts written as held
 
 part_here : (part : Part) (all front first more : List ℕ) (stop : ℕ) → IsPart part first → all ≡ front ++ (first ++ more) → length front + length first ≤ stop → PartAt part all stop (length front) first (length front + length first)
 part_here Name all front first more stop (labels, name, is) whole le =
@@ -58,7 +58,7 @@ parts_here (part ∷ parts) xs all front more stop (more_parts first rest is_par
 
 -- ---- parts written field by field
 
--- what is written of a part is there
+-- a written part is laid out
 record Made (part : Part) (first rest : List ℕ) : Type 0 where
   field : Field
   is : first_field part (first ++ rest) ≡ Some (field, rest)
@@ -99,7 +99,7 @@ made String first rest (text, is) =
           (rw here (octets_stand all t (label_octets text) (length text + 1) stop (omega arith) b le), as_is_stands all t (label_octets text) stand);
     })
 
--- what is written of the parts is there
+-- written parts are laid out
 pub record Fielded (parts : List Part) (xs : List ℕ) : Type 0 where
   pub fields : List Field
   pub is : fields_of parts xs ≡ Some fields
@@ -140,7 +140,7 @@ fielded [] [] no_parts = record {
 fielded [] (x ∷ xs) shaped = elim shaped [ ]
 fielded (part ∷ parts) xs (more_parts first rest is_part others is) = fielded_more part parts xs first rest is (made part first rest is_part) (fielded parts rest others)
 
--- data of its type's shape has its parts
+-- data of the type's shape has the parts
 pub shaped_fields : (kind : ℕ) (shape : Shape) (rdata : List ℕ) → Some shape ≡ shape_of kind → IsShaped kind rdata → IsTrue (is_some (fields_of shape.parts rdata))
 shaped_fields kind shape rdata is shaped =
     let parts : HasParts shape.parts rdata = subst (λ (s : Option Shape). IsOfShape s rdata) (sym is) shaped in
@@ -179,7 +179,7 @@ data_by (Some shape) rdata all t shaped stand b = by_flag shape.compressed b
     by_flag true b' = fields_stand shape.parts rdata all t (fielded shape.parts rdata shaped) stand b'
     by_flag false b' = plain_stands shape.parts false rdata all t shaped stand b'
 
--- the data that was written is there
+-- written data is laid out
 pub data_stands : (kind : ℕ) (rdata all : List ℕ) (t : Text) (len : ℕ) → IsShaped kind rdata → PlacesStand all t → Begins all (after t (data_text kind rdata)).octets
     → length (after t (data_text kind rdata)).octets ≡ length t.octets + len → DataAt kind all (length t.octets) len rdata × PlacesStand all (after t (data_text kind rdata))
 unfolding data_text

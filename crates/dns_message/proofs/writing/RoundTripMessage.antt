@@ -1,4 +1,4 @@
--- The questions, records and whole messages that were written are there.
+-- Written questions, records and whole messages are laid out.
 use Rattle.std.proofs.Common.{◌≡◌, ℕ, ◌+◌, ◌*◌, ◌/◌, ◌%◌, ◌<◌, ◌≤◌, Bool, true, false, List, [], ◌∷◌, ◌++◌, length, drop, get_or, Some, Result, Ok, Err, refl, sym, ap, subst, ◌∙◌, append_assoc, arith}
 use Rattle.std.specs.Prelude.{OnOk}
 use Rattle.std.specs.List.{AllByRecursion}
@@ -78,14 +78,14 @@ question_stands all q t is stand b =
 
 -- ---- records
 
--- data after its length is the length, followed by the data
+-- data with its length is the length, followed by the data
 with_length_is : (t : Text) (w : Writing) → after t (with_length w) ≡ after (after t (as_is (octets16 (length (w t.places (length t.octets + 2)).octets)))) w
 unfolding after with_length
 with_length_is t w =
     let text : List ℕ = (w t.places (length t.octets + 2)).octets in
     rw (append-nil t.places, length-append t.octets (octets16 (length text)), append_assoc t.octets (octets16 (length text)) text) refl
 
--- what was written of the head is there, and the places stay
+-- the written head is laid out, and the places stay
 record HeadStands (all : List ℕ) (r : Record) (t h : Text) : Type 0 where
   after : ℕ
   owner : NameAt all (length t.octets) (length t.octets) r.owner after
@@ -270,7 +270,7 @@ header_places : (m : Message) → (after nothing (header_text m)).places ≡ []
 unfolding after ◌▹◌
 header_places m = refl
 
--- ---- the whole
+-- ---- the whole message
 
 both_all : {X : Type 0} (P Q : X → Type 0) (xs : List X) → AllByRecursion P xs → AllByRecursion Q xs → AllByRecursion (λ x. P x × Q x) xs
 both_all P Q [] ps qs = tt
@@ -322,14 +322,14 @@ message_spelled m is counted shapes short =
       additional = ds.0;
     }
 
--- what a writer holds at the end spells the message
+-- a writer's octets at the end spell the message
 pub spelled_whole : {A : Type 0} (limit : ℕ) (old new : Writer A) (m : Message) → limit ≤ 65535 → IsEmpty old → Writes old new (message_text m) → length new.octets.items ≤ limit → IsMessage m → IsCounted m → HasShapes m → Spells new.octets.items m
 spelled_whole limit old new m le empty step within is counted shapes =
     let whole : new.octets.items ≡ written m = (step nothing empty).octets ∙ written_after m in
     let P : List ℕ → Type 0 = λ bytes. Spells bytes m in
     subst P (sym whole) (message_spelled m is counted shapes (omega (arith, within, le, ap length whole)))
 
--- what the writer did with all of it, where that is no fault
+-- a writer's result without a fault spells the message
 pub spelled_done : {A : Type 0} (limit : ℕ) (done : Result (Unit {0}) Fault) (old new : Writer A) (m : Message) → limit ≤ 65535 → IsEmpty old → Puts limit done old new (message_text m) (IsMessage m)
     → OnOk done (IsCounted m → HasShapes m → Spells new.octets.items m)
 spelled_done limit (Ok x) old new m le empty puts = λ counted shapes. spelled_whole limit old new m le empty puts.0 puts.1 puts.2 counted shapes

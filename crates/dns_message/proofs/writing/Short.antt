@@ -1,4 +1,4 @@
--- A message with at most one question, and without records, is short.
+-- A message with at most a question, and without records, is short.
 use Rattle.std.proofs.Common.{ℕ, ◌+◌, ◌≤◌, List, [], ◌∷◌, ◌++◌, length, arith, Option, Some, None}
 use Rattle.std.specs.Option.{IfSome}
 use Rattle.std.proofs.lemmas.List.{length-append}
@@ -8,7 +8,7 @@ use Rattle.dns_message.specs.Values.{Question, Message}
 use Rattle.dns_message.specs.Borrowed.{message_of}
 use Rattle.dns_message.specs.Writing.{Place, Writing, as_is, ◌▹◌, each, octets16, pointer_or, label_text, name_text, question_text, record_text, header_text, written, place_of}
 
--- wherever it is written, it has at most `most` octets
+-- written at any place, at most `most` octets
 abbrev Short : ℕ → Writing → Type 0
 Short most w = (places : List Place) (o : ℕ) → length (w places o).octets ≤ most
 
@@ -35,7 +35,7 @@ label_short label rest short places o (Some offset) = let some = some_octets res
 label_short label rest short places o None =
     let all = short_both (length label + 1) (size_of rest) (label_text label rest) (name_text rest) (λ ps p. omega arith) short places o in omega (arith, all)
 
--- a name takes no more than its labels do
+-- a name takes no more than its labels
 name_short : (name : List (List ℕ)) → Short (size_of name) (name_text name)
 unfolding name_text
 name_short [] places o = omega arith

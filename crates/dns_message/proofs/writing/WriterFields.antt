@@ -16,9 +16,9 @@ use Rattle.dns_message.specs.Fields.{Field, first_field, fields_of}
 use Rattle.dns_message.specs.Writing.{Writing, as_is, ◌▹◌, each, field_text, by_fields}
 use Rattle.dns_message.specs.Writer.{field_in, IsFirst}
 
--- ---- a name that no pointer can end
+-- ---- a name without a pointer at its end
 
--- a name without a pointer is there in full
+-- a name without a pointer is laid out in full
 pub record InFull (bytes : List ℕ) (o e : ℕ) (ls : List (List ℕ)) : Type 0 where
   pub octets : drop o bytes ≡ octets_of ls ++ (0 ∷ drop e bytes)
   pub each : AllByRecursion IsLabel ls
@@ -72,7 +72,7 @@ pub name_first : (xs : List ℕ) (e : ℕ) → InFront xs e → IsFirst Name xs 
 unfolding first_field
 name_first xs e front = record { is = rw front.is refl; laid = λ same. front.laid }
 
--- ---- one part after another
+-- ---- a part after another
 
 is_some_map : (f : Field) (o : Option (List Field)) → is_some (option_map (λ fields. f ∷ fields) o) ≡ is_some o
 is_some_map f None = refl
@@ -91,7 +91,7 @@ unfolding fields_of
 all_parts [] = refl
 all_parts (x ∷ xs) = grind arith
 
--- what is written of octets by their parts
+-- the writing of octets by their parts
 abbrev pub parts_text : List Part → List ℕ → Writing
 parts_text parts xs = by_fields (fields_of parts xs) xs
 
@@ -109,7 +109,7 @@ unfolding fields_of each
 parts_done [] some = refl
 parts_done (x ∷ xs) some = absurd cc
 
--- ---- the parts from the one at i on
+-- ---- the parts from i on
 
 pub more_at : (parts : List Part) (i : ℕ) (d : Part) (xs first rest : List ℕ) → i < length parts → IsFirst (get_or parts i d) xs first rest
     → is_some (fields_of (drop i parts) xs) ≡ is_some (fields_of (drop (i + 1) parts) rest)

@@ -1,4 +1,4 @@
--- The state of a writer after something more was written.
+-- The state of a writer after further writing.
 use Rattle.std.proofs.Common.{◌≡◌, ℕ, ◌+◌, ◌-◌, ◌<◌, ◌≤◌, Bool, true, false, cond, ◌&&◌, leb, take, List, [], ◌∷◌, ◌++◌, length, Option, Some, None, refl, sym, ap, ◌∙◌, append_assoc, arith}
 use Rattle.std.specs.Bool.{Decides}
 use Rattle.std.specs.Option.{option_map, IfSome}
@@ -12,7 +12,7 @@ use Rattle.dns_message.specs.declared.writing.writer.Writer.{Writer}
 use Rattle.dns_message.specs.Writing.{Place, Text, Writing, as_is, after, ◌▹◌, labels_eq, place_of, pointer_to, octets16, places_at, label_text, name_text}
 use Rattle.dns_message.specs.Writer.{Holds, HoldsText, Writes, IsKnown, IsPutIn, pointer_known, pointer_in}
 
--- ---- one thing after another
+-- ---- a writing after another
 
 -- writing both after a text is writing the second after the text with the first
 pub after_both : (t : Text) (a b : Writing) → after t (a ▹ b) ≡ after (after t a) b
@@ -37,7 +37,7 @@ after_octets : (t : Text) (xs ys : List ℕ) → after (after t (as_is xs)) (as_
 unfolding after
 after_octets t xs ys = rw (append_assoc t.octets xs ys, append-nil t.places, append-nil t.places) refl
 
--- octets that are written at once are written one after another
+-- octets written at once are octets written one after another
 pub in_turn : {A : Type 0} (old new : Writer A) (a : Writing) (xs ys : List ℕ) → Writes old new (a ▹ as_is (xs ++ ys)) → Writes old new (a ▹ as_is xs ▹ as_is ys)
 in_turn old new a xs ys step t h =
     let apart : after t (a ▹ as_is xs ▹ as_is ys) ≡ after t (a ▹ as_is (xs ++ ys)) =
@@ -46,13 +46,13 @@ in_turn old new a xs ys step t h =
 
 -- ---- on the way
 
--- the writer holds a text that becomes the goal once what is left is written
+-- the writer holds a text; with `left` written, the text becomes the goal
 pub record Reaches {A : Type 0} (now : Writer A) (left : Writing) (goal : Text) : Type 0 where
   pub text : Text
   pub holds : Holds now text
   pub rest : after text left ≡ goal
 
--- what is left to write, of the whole
+-- the rest to write of the whole
 abbrev pub GoesOn : {A : Type 0} → Writer A → Writer A → Writing → Writing → Type 0
 GoesOn start now left whole = (t : Text) → Holds start t → Reaches now left (after t whole)
 
@@ -69,13 +69,13 @@ ends start mid now left whole so_far step t h =
     let r = so_far t h in
     rw (← r.rest) (step r.text r.holds)
 
--- `other` is left, if it gives the text of `left` after each text that the writer holds
+-- `other` may replace `left` if both give equal texts after each text of the writer
 pub instead : {A : Type 0} (start mid : Writer A) (left other whole : Writing) → GoesOn start mid left whole → ((u : Text) → Holds mid u → after u left ≡ after u other) → GoesOn start mid other whole
 instead start mid left other whole so_far same t h =
     let r = so_far t h in
     record { text = r.text; holds = r.holds; rest = sym (same r.text r.holds) ∙ r.rest }
 
--- what is left is equal to this
+-- an equal rest may replace the rest
 pub along : {A : Type 0} (start mid : Writer A) (left other whole : Writing) → left ≡ other → GoesOn start mid left whole → GoesOn start mid other whole
 along start mid left other whole same so_far = instead start mid left other whole so_far (λ u h. ap (after u) same)
 
@@ -94,7 +94,7 @@ same_tests true false d e f g = sym (e.1 (f (d.0 refl)))
 same_tests false true d e f g = d.1 (g (e.0 refl))
 same_tests false false d e f g = refl
 
--- octets are those of a name where their labels are the name
+-- octets are a name's exactly if their labels are
 same_name : (octets : List ℕ) (name : List (List ℕ)) → IsLaidOut octets → bytes_eq octets (octets_of name) ≡ labels_eq (labels_of octets) name
 same_name octets name laid =
     same_tests (bytes_eq octets (octets_of name)) (labels_eq (labels_of octets) name) (bytes_eq-Decides octets (octets_of name))
@@ -121,11 +121,11 @@ no_place : (r : Option ℕ) → option_map pointer_to r ≡ None → r ≡ None
 no_place None is = refl
 no_place (Some p) is = absurd cc
 
--- the pointers are those of the places
+-- the pointers lead to the places
 abbrev pub PointInto : {A : Type 0} → Pointers A → List Place → Type 0
 PointInto ps places = (name : List (List ℕ)) → pointer_known ps (octets_of name) ≡ option_map pointer_to (place_of places name)
 
--- they are also once a name begins that was not known
+-- and still do after an unknown name begins
 one_more : {A : Type 0} (ps qs : Pointers A) (places : List Place) (octets : List ℕ) (offset : ℕ) → IsLaidOut octets → pointer_known ps octets ≡ None → IsPutIn ps qs octets offset → PointInto ps places
     → PointInto qs (places ++ places_at offset (labels_of octets))
 one_more ps qs places octets offset laid unknown updated into q = rw (updated (octets_of q)) (by_reach (leb offset 16383))
@@ -143,7 +143,7 @@ one_more ps qs places octets offset laid unknown updated into q = rw (updated (o
     by_reach true = by_test (bytes_eq octets (octets_of q)) refl
     by_reach false = rw (append-nil places) (into q)
 
--- names that are shorter than one that begins stay unknown
+-- names shorter than a beginning name stay unknown
 pub none_shorter : {A : Type 0} (ps qs : Pointers A) (octets behind : List ℕ) (offset : ℕ) → length behind < length octets → IsPutIn ps qs octets offset
     → ((q : List ℕ) → length q ≤ length octets → pointer_known ps q ≡ None) → (q : List ℕ) → length q ≤ length behind → pointer_known qs q ≡ None
 none_shorter ps qs octets behind offset shorter updated none q short = rw (updated q) (by_test (leb offset 16383) (bytes_eq octets q) refl)
@@ -167,7 +167,7 @@ pointer_left : (t : Text) (label : List ℕ) (rest : List (List ℕ)) (offset : 
 unfolding after name_text
 pointer_left t label rest offset there = rw there refl
 
--- a name to which there is a pointer
+-- a name with a pointer
 pub known_left : {A : Type 0} (ps : Pointers A) (octets label : List ℕ) (rest : List (List ℕ)) (pointer : ℕ) → IsLaidOut octets → labels_of octets ≡ label ∷ rest → pointer_known ps octets ≡ Some pointer
     → (u : Text) → PointInto ps u.places → after u (name_text (labels_of octets)) ≡ after u (as_is (octets16 pointer))
 known_left ps octets label rest pointer laid labels known u into =
@@ -180,14 +180,14 @@ known_left ps octets label rest pointer laid labels known u into =
         let e : pointer_to p ≡ pointer = cc in
         rw (labels, ← e) (pointer_left u label rest p (rw labels at there))
 
--- the text once a name's front is written, and these pointers are those into it
+-- the text with a name's front written, and the pointers into this text
 pub record Ahead {A : Type 0} (ps : Pointers A) (front : List ℕ) (left : Writing) (start goal : Text) : Type 0 where
   pub text : Text
   pub octets : text.octets ≡ start.octets ++ front
   pub into : PointInto ps text.places
   pub rest : after text left ≡ goal
 
--- the ends of a name are looked up and remembered down to this one, and none of its octets is
+-- the name's ends are looked up and remembered down to this end, and no octet of the name is
 -- written
 pub record OnTheWay {A : Type 0} (start now : Writer A) (name end : List ℕ) (is_first : Bool) : Type 0 where
   pub front : List ℕ
@@ -235,11 +235,11 @@ way_goes_on start now next name end label behind is_first offset way splits unkn
           };
     }
 
--- the front of the root is the whole
+-- the front before the root is the whole name
 pub all_of : (name end : List ℕ) → end ≡ [] → name ≡ take (length name - length end) name
 all_of name end none = sym (take_all (length name - length end) name (omega (arith, ap length none)))
 
--- the octets of the front are written, and what is written for the end
+-- the octets of the front and the writing of the end are written
 pub way_ends : {A : Type 0} (start now mid new : Writer A) (name end front last : List ℕ) (is_first : Bool) → OnTheWay start now name end is_first → front ≡ take (length name - length end) name
     → mid.octets.items ≡ now.octets.items ++ front → mid.pointers ≡ now.pointers → ((u : Text) → PointInto now.pointers u.places → after u (name_text (labels_of end)) ≡ after u (as_is last)) → Writes mid new (as_is last)
     → Writes start new (name_text (labels_of name))
@@ -250,9 +250,9 @@ way_ends start now mid new name end front last is_first way front_is grown same 
     let holds : Holds mid r.text = record { octets = grown ∙ rw (is, way.octets, h.octets, r.octets) refl; pointers = λ q. rw same (r.into q) } in
     rw (← r.rest, ends_as r.text r.into) (step r.text holds)
 
--- ---- a pointer that is looked up once
+-- ---- a pointer looked up once
 
--- its pointer is the whole of a known name
+-- a known name's pointer is the whole name
 pointer_is_name : {A : Type 0} (w : Writer A) (octets : List ℕ) (pointer : ℕ) → IsLaidOut octets → IsKnown w octets pointer → (t : Text) → Holds w t → after t (name_text (labels_of octets)) ≡ after t (as_is (octets16 pointer))
 pointer_is_name w octets pointer laid known t h = is_by (labels_of octets) refl
   where
@@ -278,7 +278,7 @@ place_stays (p ∷ ps) qs name o there = stays_by (labels_eq p.name name) (place
     stays_by true more is = is
     stays_by false more is = more is
 
--- what is written later leaves the pointer of a name as it is
+-- later writing leaves a name's pointer unchanged
 pub stays_known : {A : Type 0} (old new : Writer A) (w : Writing) (octets : List ℕ) (pointer : ℕ) → IsLaidOut octets → HoldsText old → Writes old new w → IsKnown old octets pointer → IsKnown new octets pointer
 unfolding after
 stays_known old new w octets pointer laid (t, h) step known = record { is = known_by (place_of t.places (labels_of octets)) refl; some = known.some }

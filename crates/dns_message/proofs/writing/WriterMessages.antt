@@ -16,7 +16,7 @@ use Rattle.dns_message.proofs.writing.WriterLaws.{after_both, both}
 use Rattle.dns_message.proofs.writing.WriterSets.{none_written}
 use Rattle.dns_message.proofs.writing.WriterRecords.{after_long, refused_behind, refused_as, writes_as}
 
--- ---- how long a text is at least
+-- ---- the least length of a text
 
 abbrev AtLeast : ℕ → Writing → Type 0
 AtLeast n w = (places : List Place) (o : ℕ) → n ≤ length (w places o).octets
@@ -31,7 +31,7 @@ unfolding ◌▹◌
 back_long n a b long places o =
     omega (arith, long (places ++ (a places o).places) (o + length (a places o).octets), length-append (a places o).octets (b (places ++ (a places o).places) (o + length (a places o).octets)).octets)
 
--- a list takes an octet for each element at least
+-- a list takes at least an octet for each element
 each_long : {X : Type 0} (w : X → Writing) → ((x : X) → AtLeast 1 (w x)) → (xs : List X) → AtLeast (length xs) (each w xs)
 unfolding each ◌▹◌
 each_long w some [] places o = omega arith
@@ -75,7 +75,7 @@ fits_in : (limit : ℕ) (m : Message) → length (written m) ≤ limit → writt
 unfolding written_within
 fits_in limit m within = rw (le-ltb limit (length (written m)) within) refl
 
--- a message whose lists no header can count is too large for every limit
+-- a message with lists too long for a header's counts is too large for every limit
 pub uncounted : (limit : ℕ) (m : Message) → limit ≤ 65535 → (CanBeCounted m → ⊥) → written_within limit m ≡ Err TooLarge
 uncounted limit m le not_ = by (cases_lt limit (length (written m)))
   where
@@ -85,7 +85,7 @@ uncounted limit m le not_ = by (cases_lt limit (length (written m)))
         let short = lists_short m in
         absurd (not_ (record { questions = omega (arith, short.0, within); answers = omega (arith, short.1, within); authority = omega (arith, short.2, within); additional = omega (arith, short.3, within) }))
 
--- ---- the whole
+-- ---- the whole message
 
 abbrev pub nothing : Text
 nothing = record { octets = []; places = [] }
@@ -109,13 +109,13 @@ written_whole limit old new m empty step within =
     let whole : new.octets.items ≡ written m = (step nothing empty).octets ∙ written_after m in
     rw whole (fits_in limit m (rw (← whole) within))
 
--- what the writer did with all of it
+-- the writer's result for the whole message
 pub whole_done : {A : Type 0} (limit : ℕ) (done : Result (Unit {0}) Fault) (old new : Writer A) (m : Message) (fact : Type 0) → IsEmpty old → Puts limit done old new (message_text m) fact
     → MatchResult done (λ _. written_within limit m ≡ Ok new.octets.items) (λ fault. Fails fault (written_within limit m))
 whole_done limit (Ok x) old new m fact empty puts = written_whole limit old new m empty puts.0 puts.1
 whole_done limit (Err fault) old new m fact empty refused = refused_whole limit fault old m empty refused
 
--- ---- a part that is refused, and more after it
+-- ---- a refused part, with more after it
 
 pub refused_more : {A : Type 0} (limit : ℕ) (fault : Fault) (old : Writer A) (a b : Writing) → Refused limit fault old a → Refused limit fault old (a ▹ b)
 refused_more limit Memory old a b refused = tt
@@ -185,16 +185,16 @@ pub header_written : {A : Type 0} (old new : Writer A) (h : Header) (flags : ℕ
 header_written old new h flags counts xs four f is step =
     writes_as old new (as_is xs) (counted_header h counts) (ap as_is is ∙ rw f (header_whole h counts four)) step
 
--- the header of a message, from its lists
+-- a message's header, from the lists
 pub header_of_lists : {A : Type 0} (w v : Writer A) (m : Message) (h : Header) (qs : List Question) (as_ ns ds : List Record) → h ≡ m.header → qs ≡ m.questions → as_ ≡ m.answers → ns ≡ m.authority → ds ≡ m.additional
     → Writes w v (counted_header h (length qs ∷ length as_ ∷ length ns ∷ length ds ∷ [])) → Writes w v (header_text m)
 header_of_lists w v m h qs as_ ns ds eh eq ea en ed step = writes_as w v _ (header_text m) (rw (eh, eq, ea, en, ed) refl) step
 
--- and from its counts
+-- and from the counts
 pub header_of_counts : {A : Type 0} (w v : Writer A) (m : Message) (h : Header) (counts : List ℕ) → h ≡ m.header → counts ≡ list_counts m → Writes w v (counted_header h counts) → Writes w v (header_text m)
 header_of_counts w v m h counts eh ec step = writes_as w v _ (header_text m) (rw (eh, ec) refl) step
 
--- nothing is left where there are no further records
+-- without further records the writing is whole
 pub no_more_written : {A : Type 0} (w v : Writer A) (m : Message) → [] ≡ m.additional → Writes w v (to_authority m) → Writes w v (message_text m)
 no_more_written w v m none step = section_written w v v (to_authority m) record_text [] m.additional none step (none_written v record_text)
 

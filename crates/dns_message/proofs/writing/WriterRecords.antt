@@ -17,7 +17,7 @@ pub after_long : (t : Text) (w : Writing) → length t.octets ≤ length (after 
 unfolding after
 after_long t w = omega (arith, length-append t.octets (w t.places (length t.octets)).octets)
 
--- ---- what passes the limit on the way passes it at the end
+-- ---- a limit passed on the way is passed at the end
 
 pub refused_on : {A : Type 0} (limit : ℕ) (fault : Fault) (start mid : Writer A) (a left whole : Writing) → GoesOn start mid (a ▹ left) whole → Refused limit fault mid a → Refused limit fault start whole
 refused_on limit Memory start mid a left whole so_far refused = tt
@@ -36,7 +36,7 @@ pub too_large : {A : Type 0} (limit : ℕ) (fault : Fault) (old new : Writer A) 
 too_large limit fault old new a step is passed =
     rw is (λ t h. omega (arith, passed, ap length (step t h).octets))
 
--- ---- a list, one thing after another
+-- ---- a list, an element after another
 
 pub each_at : {X : Type 0} (w : X → Writing) (xs : List X) (i : ℕ) (x : X) → i < length xs → x ≡ get_or xs i x → each w (drop i xs) ≡ (w x ▹ each w (drop (i + 1) xs))
 unfolding each
@@ -52,9 +52,9 @@ holds_on start mid left whole so_far (t, h) = let r = so_far t h in (r.text, r.h
 pub holds_after : {A : Type 0} (old new : Writer A) (a : Writing) → Writes old new a → HoldsText old → HoldsText new
 holds_after old new a step (t, h) = (after t a, step t h)
 
--- ---- data after its length
+-- ---- data after the length
 
--- the text once the data was written after two zero octets
+-- the text with the data written after two zero octets
 pub record Zeroed (t : Text) (w : Writing) : Type 0 where
   pub octets : (after (after t (as_is (0 ∷ 0 ∷ []))) w).octets ≡ (t.octets ++ 0 ∷ 0 ∷ []) ++ (w t.places (length t.octets + 2)).octets
   pub places : (after (after t (as_is (0 ∷ 0 ∷ []))) w).places ≡ t.places ++ (w t.places (length t.octets + 2)).places
@@ -66,7 +66,7 @@ zeroed t w = record {
   places = rw (append-nil t.places, length-append t.octets (0 ∷ 0 ∷ [])) refl;
 }
 
--- the length is that of what follows the two octets
+-- the length is of the octets after the two octets
 pub length_behind : (t : Text) (w : Writing) → length (after (after t (as_is (0 ∷ 0 ∷ []))) w).octets ≡ length t.octets + 2 + length (w t.places (length t.octets + 2)).octets
 length_behind t w =
     let z = zeroed t w in
@@ -82,7 +82,7 @@ length_set t w full xs start len start_is len_is full_is set =
     let behind : drop (start + 2) full ≡ text = ap (drop (start + 2)) (full_is ∙ (zeroed t w).octets) ∙ drop_at (t.octets ++ 0 ∷ 0 ∷ []) text (start + 2) (omega (arith, length-append t.octets (0 ∷ 0 ∷ []), start_is)) in
     set ∙ rw (front, behind, len_is) (append_assoc t.octets (octets16 (length text)) text)
 
--- octets with no name in them, after their length
+-- octets without a name, after their length
 plain_after : (t : Text) (xs : List ℕ) → after t (with_length (as_is xs)) ≡ after t (as_is (octets16 (length xs)) ▹ as_is xs)
 unfolding after with_length ◌▹◌
 plain_after t xs = refl
@@ -100,12 +100,12 @@ plain_refused limit t xs w h passed = omega (arith, passed, plain_size t xs, ap 
 pub plain_long : {A : Type 0} (old new : Writer A) (xs : List ℕ) → HoldsText old → Writes old new (with_length (as_is xs)) → length new.octets.items ≡ length old.octets.items + 2 + length xs
 plain_long old new xs (t, h) step = omega (arith, ap length (step t h).octets, plain_size t xs, ap length h.octets)
 
--- ---- from what the fields hold to the plain values
+-- ---- from the values in fields to plain values
 
 pub writes_as : {A : Type 0} (old new : Writer A) (a b : Writing) → a ≡ b → Writes old new a → Writes old new b
 writes_as old new a b same step t h = let P : Writing → Type 0 = λ w. Holds new (after t w) in subst P same (step t h)
 
--- a question, its type and class at once
+-- a question, with type and class at once
 pub question_written : {A : Type 0} (old mid new : Writer A) (q : Question) (labels : List (List ℕ)) (kind class : ℕ) (xs : List ℕ) → labels ≡ q.name → kind ≡ q.kind → class ≡ q.class → xs ≡ octets16 kind ++ octets16 class
     → Writes old mid (name_text labels) → Writes mid new (as_is xs) → Writes old new (question_text q)
 question_written old mid new q labels kind class xs named is_kind is_class is name step =
@@ -113,7 +113,7 @@ question_written old mid new q labels kind class xs named is_kind is_class is na
     (both old mid new (name_text q.name) (as_is (octets16 q.kind ++ octets16 q.class)) (writes_as old mid (name_text labels) (name_text q.name) (ap name_text named) name)
     (writes_as mid new (as_is xs) (as_is (octets16 q.kind ++ octets16 q.class)) (ap as_is (is ∙ rw (is_kind, is_class) refl)) step))
 
--- what comes before the data, the numbers at once
+-- a record's head before the data, with the numbers at once
 pub head_written : {A : Type 0} (old new : Writer A) (r : Record) (xs : List ℕ) → xs ≡ octets16 r.kind ++ (octets16 r.class ++ octets32 r.ttl) → Writes old new (name_text r.owner ▹ as_is xs) → Writes old new (head_text r)
 head_written old new r xs is step =
     in_turn old new (name_text r.owner ▹ as_is (octets16 r.kind)) (octets16 r.class) (octets32 r.ttl)
@@ -122,14 +122,14 @@ head_written old new r xs is step =
 pub question_is : (q : Question) (labels : List (List ℕ)) (kind class : ℕ) → labels ≡ q.name → kind ≡ q.kind → class ≡ q.class → IsName labels → kind < 65536 → class < 65536 → IsQuestion q
 question_is q labels kind class named is_kind is_class name k c = record { name = subst IsName named name; kind = omega (arith, is_kind, k); class = omega (arith, is_class, c) }
 
--- a record, from what its fields hold
+-- a record, from the values of its fields
 pub record_as : (r : Record) (labels owner : List (List ℕ)) (kind class ttl : ℕ) (octets rdata : List ℕ) → record { owner = owner; kind = kind; class = class; ttl = ttl; rdata = rdata } ≡ r → labels ≡ owner → octets ≡ rdata
     → record_of labels kind class ttl octets ≡ r
 record_as r labels owner kind class ttl octets rdata is named same = rw (named, same) is
 
 -- ---- the loops over a list
 
--- what is left of the list begins with its element at i
+-- the rest of the list begins with the element at i
 pub left_from : {A X : Type 0} (start mid : Writer A) (w : X → Writing) (xs : List X) (i : ℕ) (x : X) → i < length xs → x ≡ get_or xs i x
     → GoesOn start mid (each w (drop i xs)) (each w xs) → GoesOn start mid (w x ▹ each w (drop (i + 1) xs)) (each w xs)
 left_from start mid w xs i x lt is so_far = along start mid (each w (drop i xs)) (w x ▹ each w (drop (i + 1) xs)) (each w xs) (each_at w xs i x lt is) so_far
@@ -147,7 +147,7 @@ element_written start mid now w xs i x lt is so_far step =
 pub list_written : {A X : Type 0} (start mid : Writer A) (w : X → Writing) (xs : List X) (i : ℕ) → length xs ≤ i → GoesOn start mid (each w (drop i xs)) (each w xs) → Writes start mid (each w xs)
 list_written start mid w xs i le so_far = all_done start mid (each w (drop i xs)) (each w xs) (each_end w xs i le) so_far
 
--- ---- what was written before passes no limit, and more does
+-- ---- the octets so far pass no limit, with more octets they do
 
 pub refused_behind : {A : Type 0} (limit : ℕ) (fault : Fault) (old mid : Writer A) (a b : Writing) → Writes old mid a → Refused limit fault mid b → Refused limit fault old (a ▹ b)
 refused_behind limit Memory old mid a b step refused = tt
@@ -159,9 +159,9 @@ refused_behind limit NameLong old mid a b step refused = absurd refused
 refused_behind limit Rdata old mid a b step refused = absurd refused
 refused_behind limit NoQuestion old mid a b step refused = absurd refused
 
--- ---- data after its length, as a writer holds it
+-- ---- data after the length, in a writer
 
--- the length of what was written
+-- the length of the written octets
 pub so_long : {A : Type 0} (old mid full : Writer A) (w : Writing) → HoldsText old → Writes old mid (as_is (0 ∷ 0 ∷ [])) → Writes mid full w → length old.octets.items + 2 ≤ length full.octets.items
 so_long old mid full w (t, h) zeros step =
     omega (arith, ap length h.octets, ap length (step (after t (as_is (0 ∷ 0 ∷ []))) (zeros t h)).octets, length_behind t w)
@@ -208,7 +208,7 @@ set_length start number xs whole inside set =
 pub refused_as : {A : Type 0} (limit : ℕ) (fault : Fault) (old : Writer A) (a b : Writing) → a ≡ b → Refused limit fault old a → Refused limit fault old b
 refused_as limit fault old a b same refused = let P : Writing → Type 0 = λ w. Refused limit fault old w in subst P same refused
 
--- ---- what holds of each element
+-- ---- properties of each element
 
 all_push : {X : Type 0} (P : X → Type 0) (xs : List X) (x : X) → AllByRecursion P xs → P x → AllByRecursion P (xs ++ x ∷ [])
 all_push P [] x all one = (one, tt)

@@ -1,4 +1,4 @@
--- The records of sets, written one set after another.
+-- The records of sets, written set after set.
 use Rattle.std.proofs.Common.{◌≡◌, ℕ, ◌+◌, ◌<◌, ◌≤◌, List, [], ◌∷◌, ◌++◌, length, take, get_or, refl, sym, ap, subst, ◌∙◌, arith}
 use Rattle.std.specs.Prelude.{Result, Ok, Err}
 use Rattle.std.specs.List.{AllByRecursion}
@@ -16,9 +16,9 @@ use Rattle.dns_message.specs.declared.writing.borrowed.DataRef.{DataRef}
 use Rattle.dns_message.specs.Writer.{Writes, Puts, Refused}
 use Rattle.dns_message.proofs.writing.WriterLaws.{after_both, writes_nothing}
 
--- ---- two writings that give one text
+-- ---- writings with equal texts
 
--- whatever text is there, both leave the same
+-- after any text, both give equal texts
 abbrev pub SameText : Writing → Writing → Type 0
 SameText a b = (t : Text) → after t a ≡ after t b
 
@@ -39,7 +39,7 @@ after_nothing : (t : Text) → after t (as_is []) ≡ t
 unfolding after
 after_nothing t = rw (append-nil t.octets, append-nil t.places) refl
 
--- ---- lists of none and of one
+-- ---- lists of none and of a single element
 
 pub none_written : {A X : Type 0} (w : Writer A) (text : X → Writing) → Writes w w (each text [])
 unfolding each
@@ -72,7 +72,7 @@ pub all_rows : (owner : List (List ℕ)) (kind class ttl : ℕ) (rows : List (Li
 all_rows owner kind class ttl [] all = tt
 all_rows owner kind class ttl (row ∷ rows) all = (all.0, all_rows owner kind class ttl rows all.1)
 
--- the records of a set, from what its fields hold
+-- the records of a set, from the values of its fields
 pub set_of_data : {A : Type 0} (records : List Record) (labels owner : List (List ℕ)) (kind class ttl : ℕ) (from given : DataRef A) → labels ≡ owner → from ≡ given → records_of owner kind class ttl (data_of from) ≡ records
     → records_of labels kind class ttl (data_of given) ≡ records
 set_of_data {A = A} records labels owner kind class ttl from given named same is =
@@ -82,13 +82,13 @@ pub puts_records : {A : Type 0} (limit : ℕ) (r : Result (Unit {0}) Fault) (old
     → Puts limit r old new (each record_text given) (AllByRecursion IsRecord given) → Puts limit r old new (each record_text records) (AllByRecursion IsRecord records)
 puts_records limit r old new given records same puts = let P : List Record → Type 0 = λ rs. Puts limit r old new (each record_text rs) (AllByRecursion IsRecord rs) in subst P same puts
 
--- a set of one record
+-- a set of a single record
 pub puts_one : {A : Type 0} (limit : ℕ) (r : Result (Unit {0}) Fault) (old new : Writer A) (entry : Record)
     → Puts limit r old new (record_text entry) (IsRecord entry) → Puts limit r old new (each record_text (entry ∷ [])) (AllByRecursion IsRecord (entry ∷ []))
 puts_one limit (Ok x) old new entry puts = (one_written old new record_text entry puts.0, puts.1, (puts.2, tt))
 puts_one limit (Err fault) old new entry puts = one_refused limit fault old record_text entry puts
 
--- ---- one set after another
+-- ---- a set after another
 
 more_text : {X : Type 0} (text : X → Writing) (xs ys : List X) → SameText (each text xs ▹ each text ys) (each text (xs ++ ys))
 unfolding each
@@ -117,7 +117,7 @@ all_sets (set ∷ sets) all = all_append IsRecord set (records_in sets) all.0 (a
 pub set_size : (records : List Record) (owner : List (List ℕ)) (kind class ttl : ℕ) (rows : List (List ℕ)) → records_of owner kind class ttl rows ≡ records → length records ≡ length rows
 set_size records owner kind class ttl rows is = sym (ap length is) ∙ length-map rows (record_of owner kind class ttl)
 
--- the records of the sets up to one, and of all
+-- the records of the sets up to a set, and of all
 counted_push : (before : List (List Record)) (last : List Record) → length (records_in (before ++ last ∷ [])) ≡ length (records_in before) + length last
 counted_push before last = rw (flat_map-append (λ (records : List Record). records) before (last ∷ []), append-nil last) (length-append (records_in before) last)
 

@@ -10,8 +10,7 @@ ghost use Rattle.dns_message.specs.Data.{name_of_rdata};
 
 use crate::names::{Bound, Fault, part, put_labels, skip_name};
 use crate::reading::shape::{Part, shape_of};
-use dns_name::Name;
-use plain_values::ShortOctets;
+use dns_name::{Name, ShortOctets};
 use std::alloc::{AllocError, Allocator};
 
 /// The data of a record in a message: its type, and its place.

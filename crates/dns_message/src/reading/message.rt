@@ -6,8 +6,7 @@ ghost use Rattle.dns_message.specs.Questions.{same_question};
 
 use crate::reading::data::read_only_name;
 use crate::reading::header::Header;
-use dns_name::Name;
-use plain_values::{PlainList, ShortOctets};
+use dns_name::{Name, PlainList, ShortOctets};
 use std::alloc::{AllocError, Allocator, Global};
 use std::marker::Model;
 

@@ -10,7 +10,7 @@ ghost use Rattle.dns_message.specs.Records.{octets_end, question_at, record_at, 
 use crate::names::{Bound, Fault, number16, number32, read_name, readable_name_end, skip_name};
 use crate::reading::data::{DataPlace, read_data, skip_data};
 use crate::reading::message::{Question, Rdata, Record};
-use plain_values::PlainList;
+use dns_name::PlainList;
 use std::alloc::Allocator;
 
 /// The place after `count` octets.

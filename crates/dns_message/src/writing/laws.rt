@@ -2,7 +2,7 @@
 //! the contracts.
 
 ghost use Rattle.std.specs.Prelude.{List, ℕ};
-ghost use Rattle.plain_values.specs.Octets.{AreOctets};
+ghost use Rattle.dns_name.specs.PlainValues.Octets.{AreOctets};
 ghost use Rattle.dns_message.specs.Messages.{Spells};
 ghost use Rattle.dns_message.specs.Values as values;
 ghost use Rattle.dns_message.specs.Written.{IsMessage, IsSpelledBack};

@@ -17,7 +17,7 @@ use crate::reading::{Header, Message};
 use crate::writing::borrowed::{MessageParts, RowsRef};
 use crate::writing::records::{put_only_question, put_questions, put_records, put_sets};
 use crate::writing::writer::Writer;
-use plain_values::Octets;
+use dns_name::Octets;
 use std::alloc::{AllocError, Allocator};
 use std::mem;
 

@@ -2,16 +2,16 @@
 
 ghost use Rattle.std.specs.Prelude.{◌≡◌, ◌^◌, ◌<◌, ◌≤◌, Bool, List, length};
 ghost use Rattle.std.specs.List.{AllByRecursion};
-ghost use Rattle.alias_chains.specs.LookingUp.{promoted_all};
-ghost use Rattle.alias_chains.specs.Offering.{put_all, unkept_of, pieces_of};
+ghost use Rattle.step_table.specs.AliasChains.LookingUp.{promoted_all};
+ghost use Rattle.step_table.specs.AliasChains.Offering.{put_all, unkept_of, pieces_of};
 ghost use Rattle.step_table.specs.Steps.{with_entries};
-ghost use Rattle.step_actions.specs.Decision.{IsRouted};
+ghost use Rattle.client_decisions.specs.StepActions.Decision.{IsRouted};
 
 use crate::forwarder::Forwarder;
-use alias_chains::{Slots, offer_all, promote_all};
 use record_cache::Held;
 use std::alloc::Allocator;
 use std::hash::BuildHasher;
+use step_table::chains::{Slots, offer_all, promote_all};
 
 impl<H: BuildHasher + Drop, A: Allocator + Copy> Forwarder<H, A> {
     /// The moment has come.

@@ -6,8 +6,8 @@ ghost use Rattle.step_table.specs.State.{start};
 ghost use Rattle.step_table.specs.Steps.{initial};
 ghost use Rattle.step_table.specs.Row.{TakesNoMemory, effective, Row};
 ghost use Rattle.step_table.specs.Progress.{left_to_do, ServesSomething, next_due, IsInOrder};
-ghost use Rattle.theorem_sound.specs.Runs.{StaysExplained};
-ghost use Rattle.theorem_sound.specs.Explains.{Explains};
+ghost use Rattle.theorem_use.specs.TheoremSound.Runs.{StaysExplained};
+ghost use Rattle.theorem_use.specs.TheoremSound.Explains.{Explains};
 ghost use Rattle.theorem_use.specs.Mirrors.{FullyExplains, StaysFullyExplained};
 ghost use Rattle.theorem_use.specs.Service.{ComesTo, ServesOnTruly};
 ghost use Rattle.forwarder_core.specs.Acting.{Acts};
@@ -16,15 +16,15 @@ mod change;
 mod tick;
 
 use crate::deciding::decide;
+use client_decisions::{Decision, Kept, StepStartRef};
 use outstanding::Inquiries;
 use record_cache::{Cache, LookUpSlot};
 use std::alloc::{AllocError, Allocator, Global};
 use std::hash::BuildHasher;
 use std::marker::Model;
-use step_actions::{Decision, Kept, StepStartRef};
+use step_table::waiting::WaitingQuestions;
 use step_values::{Actions, Event, Outcome};
 use suffix_routes::{Config, Route};
-use waiting_questions::WaitingQuestions;
 
 /// The greatest effective moment, in milliseconds.
 const LATEST: u64 = 1 << 62;
@@ -39,7 +39,7 @@ pub struct Forwarder<H: BuildHasher, A: Allocator = Global> {
 
 impl<H: BuildHasher, A: Allocator> Model for Forwarder<H, A> {
     ghost use Rattle.step_table.specs.State.{Running};
-    ghost use Rattle.step_actions.specs.Kept.{IsKeptForwarder};
+    ghost use Rattle.client_decisions.specs.StepActions.Kept.{IsKeptForwarder};
 
     ghost Value = { Running };
 

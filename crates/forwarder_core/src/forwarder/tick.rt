@@ -2,13 +2,13 @@
 
 ghost use Rattle.std.specs.Prelude.{◌≡◌, [], false, IsTrue, MatchOption};
 ghost use Rattle.step_table.specs.Row.{is_due_at};
-ghost use Rattle.step_actions.specs.Due.{IsDueFirst};
+ghost use Rattle.client_decisions.specs.StepActions.Due.{IsDueFirst};
 ghost use Rattle.step_values.specs.Values.{event_of, tick};
 
 use crate::forwarder::Forwarder;
+use client_decisions::{Due, first_due};
 use std::alloc::Allocator;
 use std::hash::BuildHasher;
-use step_actions::{Due, first_due};
 use step_values::Event;
 
 impl<H: BuildHasher + Drop, A: Allocator + Copy> Forwarder<H, A> {

@@ -1,7 +1,7 @@
 use Rattle.std.proofs.Common.{◌∙◌, ap, Bor}
 use Rattle.std.proofs.lemmas.List.{take_all}
 use Rattle.trust_rank.specs.Values.{Piece}
-use Rattle.record_cache.specs.Values.{Held}
+use Rattle.negative_cache.specs.RecordCache.Values.{Held}
 use Rattle.plain_values.specs.Borrowed.{lent}
 use Rattle.alias_chains.proofs.Chains.{copied_more, held_with}
 use Rattle.alias_chains.proofs.chain.copies.Goals as goal

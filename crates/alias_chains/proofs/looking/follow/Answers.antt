@@ -4,7 +4,7 @@ use Rattle.std.proofs.lemmas.Result.{IfOk-weaker}
 use Rattle.dns_name.specs.Labels.{labels_of}
 use Rattle.plain_values.specs.Borrowed.{lent}
 use Rattle.trust_rank.specs.Walks.{most_aliases}
-use Rattle.record_cache.specs.Values.{Held}
+use Rattle.negative_cache.specs.RecordCache.Values.{Held}
 use Rattle.negative_cache.specs.Values.{found_of, local, rows, alias, no_data, denied, miss}
 use Rattle.alias_chains.proofs.Following.{on_way, on_alias, at_no_target, at_ninth, at_miss, at_local, at_rows, at_no_data, at_denied}
 use Rattle.alias_chains.proofs.looking.follow.Goals.{in-Rows, in-Rows-2, in-Rows-3}

@@ -4,7 +4,7 @@ use Rattle.std.proofs.lemmas.Result.{IfOk-weaker}
 use Rattle.plain_values.specs.Borrowed.{lent}
 use Rattle.trust_rank.specs.declared.slot.Slot.{Slot}
 use Rattle.trust_rank.specs.Walks.{most_aliases}
-use Rattle.record_cache.specs.Values.{Held}
+use Rattle.negative_cache.specs.RecordCache.Values.{Held}
 use Rattle.negative_cache.specs.Values.{found_of, local, rows, alias, no_data, denied, miss}
 use Rattle.alias_chains.specs.Looked.{looked_so, pieces_in, look_up_from, with_used}
 use Rattle.alias_chains.specs.declared.looked.LookUpEnd.TheVariants.{Ends, Missed}

@@ -2,7 +2,7 @@ use Rattle.std.proofs.Common.{◌∙◌, List, ◌∷◌, sym, ap, subst, refl}
 use Rattle.std.specs.Prelude.{map}
 use Rattle.std.proofs.lemmas.List.{length-map}
 use Rattle.trust_rank.specs.Values.{Piece}
-use Rattle.record_cache.specs.Values.{Held, Cache}
+use Rattle.negative_cache.specs.RecordCache.Values.{Held, Cache}
 use Rattle.alias_chains.proofs.Offering.{AreLeft, none_offered, nothing_in, one_more_fits, next_left, loop_ended}
 use Rattle.alias_chains.proofs.offers.offer_all.Goals as goal
 

@@ -1,7 +1,7 @@
 use Rattle.std.proofs.Common.{◌∙◌, ◌++◌, List, sym, ap, append-nil}
 use Rattle.std.specs.Prelude.{map}
 use Rattle.trust_rank.specs.Values.{Piece}
-use Rattle.record_cache.specs.Values.{Held}
+use Rattle.negative_cache.specs.RecordCache.Values.{Held}
 use Rattle.alias_chains.specs.Offering.{held_at}
 use Rattle.alias_chains.proofs.Offering.{nothing_in}
 use Rattle.alias_chains.proofs.offers.push_held.Goals as goal

@@ -1,7 +1,7 @@
 use Rattle.std.proofs.Common.{ap, sym, subst, ◌∙◌, arith}
 use Rattle.std.specs.Option.{IfSome}
 use Rattle.std.proofs.lemmas.Result.{on_ok_weaker}
-use Rattle.dns_name.specs.Labels.{IsName}
+use Rattle.dns_message.specs.DnsName.Labels.{IsName}
 use Rattle.dns_message.proofs.CallerLemmas.{bare_message_is_short}
 use Rattle.answer_builder.specs.Values.{Asked}
 use Rattle.answer_builder.proofs.Names.{asked_is_named}

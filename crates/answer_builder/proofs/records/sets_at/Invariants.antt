@@ -3,7 +3,7 @@ use Rattle.std.specs.Prelude.{flat_map}
 use Rattle.std.specs.List.{AllByRecursion}
 use Rattle.dns_message.specs.Borrowed.{records_in}
 use Rattle.answer_builder.specs.Answers.{answers_of, with_ttl, IsEarlier}
-use Rattle.plain_values.specs.Borrowed.{lent}
+use Rattle.dns_message.specs.PlainValues.Borrowed.{lent}
 use Rattle.answer_builder.proofs.records.sets_at.Given as goal
 
 abbrev pub invariant-loop-held : goal.invariant-loop-held

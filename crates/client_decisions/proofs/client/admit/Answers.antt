@@ -1,8 +1,8 @@
 use Rattle.std.proofs.Common.{◌∙◌, sym, ap, refl}
 use Rattle.outstanding.specs.Lists.{of_question}
 use Rattle.outstanding.specs.Orders.{question_key}
-use Rattle.step_table.specs.State.{StepStart}
-use Rattle.step_table.specs.Steps.{with_promoted}
+use Rattle.step_actions.specs.StepTable.State.{StepStart}
+use Rattle.step_actions.specs.StepTable.Steps.{with_promoted}
 use Rattle.client_decisions.proofs.Clients.{joined_row, new_row}
 use Rattle.step_actions.proofs.CallerLemmas.{decides_by}
 use Rattle.client_decisions.proofs.client.admit.Goals as goal

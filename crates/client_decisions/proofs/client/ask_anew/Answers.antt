@@ -5,12 +5,12 @@ use Rattle.outstanding.specs.Lists.{of_question}
 use Rattle.step_values.specs.declared.action.Why.TheVariants.{InquiriesFull, NoPort}
 use Rattle.suffix_routes.specs.Serving.{serving_route_of}
 use Rattle.dns_message.specs.Values.{Question}
-use Rattle.step_table.specs.State.{StepStart, start}
-use Rattle.step_table.specs.Attempts.{first_ask}
-use Rattle.step_table.specs.Steps.{failed, reply_step, with_promoted}
+use Rattle.step_actions.specs.StepTable.State.{StepStart, start}
+use Rattle.step_actions.specs.StepTable.Attempts.{first_ask}
+use Rattle.step_actions.specs.StepTable.Steps.{failed, reply_step, with_promoted}
 use Rattle.step_actions.specs.Decision.{CanFollow}
 use Rattle.client_decisions.proofs.Clients.{opened_row}
-use Rattle.step_table.proofs.CallerLemmas.{ask_by-some}
+use Rattle.step_actions.proofs.StepTable.CallerLemmas.{ask_by-some}
 use Rattle.step_actions.proofs.CallerLemmas.{first_follows, decides_by}
 use Rattle.client_decisions.proofs.client.ask_anew.Goals as goal
 
@@ -70,7 +70,7 @@ open-requires-clause-follows g c =
     (sym c.in-Some.is ∙ c.in_ok-ask.ensures ∙ ap (λ (r : StepStart). first_ask
     (start r.config r.moment r.words r.state) c.wanted.result.now c.args.route) (sym c.start.view_is)))
 
--- it asks what the question wants
+-- the ask is for the wanted question
 pub open-requires-clause-same : goal.open-requires-clause-same
 open-requires-clause-same g c =
     (ask_by-some c.args.start.now.moment c.wanted.result.now c.args.route _ 1 _ _ c.in-Some.ask

@@ -1,8 +1,8 @@
 use Rattle.std.proofs.Common.{◌≡◌, ◌∙◌, subst, sym, get_or, arith}
 use Rattle.std.specs.Prelude.{unwrap_or}
 use Rattle.std.proofs.lemmas.Result.{IfOk-weaker}
-use Rattle.step_table.specs.State.{StepStart, start}
-use Rattle.step_table.specs.Attempts.{ask_by, first_ask, peer_at}
+use Rattle.step_actions.specs.StepTable.State.{StepStart, start}
+use Rattle.step_actions.specs.StepTable.Attempts.{ask_by, first_ask, peer_at}
 use Rattle.step_actions.specs.Attempts.{pair_of}
 use Rattle.client_decisions.proofs.Clients.{asked_first}
 use Rattle.client_decisions.proofs.client.first_ask.Goals as goal

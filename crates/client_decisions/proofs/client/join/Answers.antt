@@ -1,9 +1,9 @@
 use Rattle.std.proofs.Common.{ap, sym, subst, refl, ◌∙◌}
 use Rattle.std.specs.Prelude.{map}
 use Rattle.record_cache.specs.Values.{Held}
-use Rattle.waiting_questions.specs.Values.{Waiting}
+use Rattle.step_actions.specs.WaitingQuestions.Values.{Waiting}
 use Rattle.step_values.specs.Values.{actions_of}
-use Rattle.step_table.specs.Steps.{with_promoted}
+use Rattle.step_actions.specs.StepTable.Steps.{with_promoted}
 use Rattle.step_actions.specs.declared.decision.Change.TheVariants.{Join}
 use Rattle.step_actions.specs.Decision.{CanWait}
 use Rattle.step_actions.proofs.CallerLemmas.{carries_nothing, next_is}

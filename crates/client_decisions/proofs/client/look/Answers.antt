@@ -2,13 +2,13 @@ use Rattle.std.proofs.Common.{◌≡◌, ◌∙◌, [], ap, sym, subst}
 use Rattle.std.specs.List.{AllByRecursion}
 use Rattle.answer_builder.specs.Answers.{IsEarlier}
 use Rattle.plain_values.specs.Borrowed.{lent}
-use Rattle.alias_chains.specs.LookingUp.{LookUp, goes_on}
-use Rattle.alias_chains.specs.Looked.{chain_of}
-use Rattle.alias_chains.proofs.CallerLemmas.{look_up_holds, held_holds}
-use Rattle.waiting_questions.specs.Values.{Waiting}
-use Rattle.step_table.specs.State.{StepStart}
-use Rattle.step_table.specs.Clients.{fate_of, waits_with}
-use Rattle.step_table.specs.Progress.{IsOnRoute}
+use Rattle.step_actions.specs.AliasChains.LookingUp.{LookUp, goes_on}
+use Rattle.step_actions.specs.AliasChains.Looked.{chain_of}
+use Rattle.step_actions.proofs.AliasChains.CallerLemmas.{look_up_holds, held_holds}
+use Rattle.step_actions.specs.WaitingQuestions.Values.{Waiting}
+use Rattle.step_actions.specs.StepTable.State.{StepStart}
+use Rattle.step_actions.specs.StepTable.Clients.{fate_of, waits_with}
+use Rattle.step_actions.specs.StepTable.Progress.{IsOnRoute}
 use Rattle.step_actions.specs.Fates.{IsFate}
 use Rattle.step_actions.proofs.CallerLemmas.{decides_by, later_entries, waits_missed}
 use Rattle.client_decisions.proofs.Hits.{fate_row, own_waits}

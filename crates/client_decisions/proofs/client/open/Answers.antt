@@ -2,7 +2,7 @@ use Rattle.std.proofs.Common.{ap, sym, subst, refl, ◌∙◌, ◌∷◌, []}
 use Rattle.std.specs.Prelude.{map}
 use Rattle.record_cache.specs.Values.{Held}
 use Rattle.step_values.specs.Values.{actions_of}
-use Rattle.step_table.specs.Steps.{with_promoted}
+use Rattle.step_actions.specs.StepTable.Steps.{with_promoted}
 use Rattle.step_actions.specs.declared.decision.Change.TheVariants.{Open}
 use Rattle.step_actions.specs.declared.decision.Opening.{Opening}
 use Rattle.step_actions.specs.Decision.{CanWait, CanFollow}

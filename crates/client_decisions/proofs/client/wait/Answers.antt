@@ -1,7 +1,7 @@
 use Rattle.std.proofs.Common.{◌≡◌, ◌∙◌, ◌<◌, ◌≤◌, length, ap, arith, refl}
-use Rattle.step_table.specs.State.{StepStart, start}
-use Rattle.step_table.specs.Clients.{row_of_waiting, waits_with}
-use Rattle.step_table.specs.Steps.{with_promoted}
+use Rattle.step_actions.specs.StepTable.State.{StepStart, start}
+use Rattle.step_actions.specs.StepTable.Clients.{row_of_waiting, waits_with}
+use Rattle.step_actions.specs.StepTable.Steps.{with_promoted}
 use Rattle.client_decisions.proofs.Clients.{full_row, waiting_row}
 use Rattle.step_actions.proofs.CallerLemmas.{decides_by}
 use Rattle.client_decisions.proofs.client.wait.Goals as goal

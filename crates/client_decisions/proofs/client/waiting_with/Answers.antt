@@ -1,6 +1,6 @@
 use Rattle.std.proofs.Common.{Some, ◌∙◌}
 use Rattle.std.proofs.lemmas.Result.{IfOk-weaker}
-use Rattle.waiting_questions.specs.Onward.{waits_on}
+use Rattle.step_actions.specs.WaitingQuestions.Onward.{waits_on}
 use Rattle.client_decisions.proofs.client.waiting_with.Goals as goal
 
 pub returns : goal.returns

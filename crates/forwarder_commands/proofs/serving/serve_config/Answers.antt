@@ -1,7 +1,7 @@
 use Rattle.std.proofs.Common.{◌≡◌, ◌∙◌, ℕ, sym, subst}
 use Rattle.std.proofs.lemmas.Result.{IfOk-weaker}
-use Rattle.step_table.specs.State.{Running}
-use Rattle.step_table.specs.Steps.{initial}
+use Rattle.replay_script.specs.StepTable.State.{Running}
+use Rattle.replay_script.specs.StepTable.Steps.{initial}
 use Rattle.forwarder_commands.specs.Service.{ServesAndReports, ServesFrom, journal_of}
 use Rattle.forwarder_commands.proofs.serving.serve_config.Goals as goal
 

@@ -1,5 +1,5 @@
 use Rattle.std.proofs.Common.{◌≡◌, ◌∙◌, List, ℕ, false, ap, sym, subst}
-use Rattle.reply_match.specs.declared.Verdict.TheVariants.{Stranger}
+use Rattle.step_table.specs.ReplyMatch.declared.Verdict.TheVariants.{Stranger}
 use Rattle.step_values.specs.Requests.{is_taken}
 use Rattle.outstanding.specs.Lists.{on_path as ask_on}
 use Rattle.step_values.specs.declared.event.Event.{Event as OwnedEvent}
@@ -7,7 +7,7 @@ use Rattle.step_values.specs.Values.{event_of}
 use Rattle.step_table.specs.Row.{Happens, TakesNoMemory}
 use Rattle.step_table.specs.Replies.{row_of_delivery, verdict_on}
 use Rattle.step_table.specs.Clients.{row_of_request}
-use Rattle.step_actions.specs.Decision.{next_of}
+use Rattle.client_decisions.specs.StepActions.Decision.{next_of}
 use Rattle.forwarder_core.proofs.deciding.decide.Goals as goal
 
 pub returns-in_ok-next-in-Client-clause-row : goal.returns-in_ok-next-in-Client-clause-row

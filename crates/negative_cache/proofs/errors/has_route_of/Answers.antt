@@ -11,14 +11,14 @@ use Rattle.suffix_routes.proofs.CallerLemmas.{routes_above_same, routes_above_di
 use Rattle.negative_cache.proofs.Options.{option_decides, option_differs}
 use Rattle.negative_cache.proofs.errors.has_route_of.Goals as goal
 
--- no suffix before a place that the name is under has more octets than this
+-- no route before place i has a longer suffix for the name than `size`
 abbrev NoneLonger : List Route → List (List ℕ) → ℕ → ℕ → Type 0
 NoneLonger routes name size i = (k : ℕ) (other : Route) → k < i → slice_get routes k ≡ Some other → IsUnder name other.suffix → size_of other.suffix ≤ size
 
 size_is : (octets : List ℕ) → IsLaidOut octets → size_of (labels_of octets) ≡ length octets + 1
 size_is octets laid = let size : size_of (labels_of octets) ≡ 1 + length octets = size_with_labels [] octets laid in omega (arith, size)
 
--- one more whose suffix is no longer
+-- a further route, with no longer suffix
 one_more : (routes : List Route) (name : List (List ℕ)) (size i : ℕ) (r : Route) → slice_get routes i ≡ Some r → NoneLonger routes name size i
     → (IsUnder name r.suffix → size_of r.suffix ≤ size) → NoneLonger routes name size (i + 1)
 one_more routes name size i r there before short k other lt found under =
@@ -43,7 +43,7 @@ stays routes all name above size i same differ under is end none =
         let found : slice_get routes k ≡ Some other = subst (λ (rs : List Route). slice_get rs k ≡ Some other) (sym same) there in
         omega (arith, is, none k other (omega (arith, end, slice_get_within routes k other found)) found mine)
 
--- one is
+-- a suffix is longer
 leaves : (routes all : List Route) (name above : List (List ℕ)) (size i : ℕ) (r : Route) → routes ≡ all → IsUnder name above → size_of above ≡ size
     → slice_get routes i ≡ Some r → IsUnder name r.suffix → size < size_of r.suffix → false ≡ option_eq nat_eq (route_of all above) (route_of all name)
 leaves routes all name above size i r same under is there mine long =

@@ -8,7 +8,7 @@ use Rattle.suffix_routes.proofs.CallerLemmas.{route_of_lowered}
 use Rattle.negative_cache.proofs.Climbing.{on_route, off_route}
 use Rattle.negative_cache.proofs.errors.name_error_on.Goals as goal
 
--- the answer for two names holds of their keys
+-- the answer for two names is the answer for their keys
 of_keys : (routes : List Route) (name asked : List (List ℕ)) (told said : Bool) → told ≡ option_eq nat_eq (route_of routes name) (route_of routes asked) → told ≡ said
     → option_eq nat_eq (route_of routes (lowered name)) (route_of routes (lowered asked)) ≡ said
 of_keys routes name asked told said is so = (λ i. option_eq nat_eq (route_of_lowered routes name i) (route_of_lowered routes asked i)) ∙ sym is ∙ so

@@ -5,9 +5,9 @@ use Rattle.suffix_routes.specs.Values.{Config}
 use Rattle.step_values.specs.Values.{StepInput, Step}
 use Rattle.step_table.specs.State.{Running}
 use Rattle.step_table.specs.Row.{Row}
-use Rattle.theorem_sound.proofs.CallerLemmas.{input_more}
-use Rattle.theorem_use.specs.Service.{ComesTo}
-use Rattle.theorem_use.proofs.CallerLemmas.{run_serves_truly, came_more}
+use Rattle.serving_loop.proofs.TheoremSound.CallerLemmas.{input_more}
+use Rattle.serving_loop.specs.TheoremUse.Service.{ComesTo}
+use Rattle.serving_loop.proofs.TheoremUse.CallerLemmas.{run_serves_truly, came_more}
 use Rattle.network_model.proofs.run.run_list.Goals as goal
 
 pub loop-entry-init : goal.loop-entry-init

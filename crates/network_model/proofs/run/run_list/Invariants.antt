@@ -1,6 +1,6 @@
 use Rattle.std.proofs.Common.{◌≡◌, take}
 use Rattle.std.specs.Prelude.{map}
-use Rattle.theorem_use.specs.Service.{ComesTo}
+use Rattle.serving_loop.specs.TheoremUse.Service.{ComesTo}
 use Rattle.network_model.proofs.run.run_list.Given as goal
 
 abbrev pub invariant-loop-entry : goal.invariant-loop-entry

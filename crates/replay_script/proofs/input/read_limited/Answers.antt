@@ -4,7 +4,7 @@ use Rattle.std.proofs.lemmas.List.{take_all, length-take}
 use Rattle.replay_script.specs.declared.input.TheConstants.{LARGEST}
 use Rattle.replay_script.proofs.input.read_limited.Goals as goal
 
--- what was read of at most n + 1 octets is all of them, where it is n at most
+-- the octets read, at most n of up to n + 1, are all
 all_read : (n : ℕ) (all octets : List ℕ) → octets ≡ take (n + 1) all → length octets ≤ n → octets ≡ all
 all_read n all octets front few =
     let size : length octets ≡ min (n + 1) (length all) = ap length front ∙ length-take (n + 1) all in

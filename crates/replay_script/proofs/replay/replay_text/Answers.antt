@@ -1,7 +1,7 @@
 use Rattle.std.proofs.Common.{inl, subst, []}
-use Rattle.step_table.specs.State.{Running}
-use Rattle.theorem_use.specs.Service.{ComesTo}
-use Rattle.theorem_use.proofs.CallerLemmas.{run_serves_truly}
+use Rattle.forwarder_core.specs.StepTable.State.{Running}
+use Rattle.forwarder_core.specs.TheoremUse.Service.{ComesTo}
+use Rattle.forwarder_core.proofs.TheoremUse.CallerLemmas.{run_serves_truly}
 use Rattle.replay_script.specs.Runs.{lines_of, RunsLines}
 use Rattle.replay_script.proofs.replay.replay_text.Goals as goal
 

@@ -1,6 +1,6 @@
 use Rattle.std.proofs.Common.{List, ap, subst}
 use Rattle.step_values.specs.Values.{Action, StepInput, Outcome}
-use Rattle.step_table.specs.Row.{Row}
+use Rattle.forwarder_core.specs.StepTable.Row.{Row}
 use Rattle.replay_script.specs.Printing.{Writes, printed_all}
 use Rattle.replay_script.proofs.RunLaws.{input_read, line_run}
 use Rattle.replay_script.proofs.replay.run_line.Goals as goal

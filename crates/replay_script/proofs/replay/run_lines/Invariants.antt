@@ -1,6 +1,6 @@
 use Rattle.std.proofs.Common.{ℕ, ◌+◌, ◌≤◌, List, Option, length}
 use Rattle.std.specs.Prelude.{Result}
-use Rattle.step_table.specs.State.{Running}
+use Rattle.forwarder_core.specs.StepTable.State.{Running}
 use Rattle.replay_script.specs.declared.events.TheConstants.{MOST_LINES}
 use Rattle.replay_script.specs.declared.fault.ReplayFault.{ReplayFault}
 use Rattle.replay_script.specs.Runs.{lines_of, RunsLines}

@@ -1,6 +1,6 @@
 use Rattle.std.proofs.Common.{ap, arith}
 use Rattle.suffix_routes.specs.Values.{Config}
-use Rattle.waiting_questions.specs.Values.{Waiting}
+use Rattle.step_texts.specs.WaitingQuestions.Values.{Waiting}
 use Rattle.step_actions.proofs.due.deadline.Goals as goal
 
 pub overflow_add-result : goal.overflow_add-result

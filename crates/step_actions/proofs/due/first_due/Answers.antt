@@ -1,6 +1,6 @@
 use Rattle.std.proofs.Common.{◌^◌, ◌<◌, ◌∙◌, ℕ, ap, arith, sym, subst}
 use Rattle.outstanding.specs.Values.{Ask}
-use Rattle.step_table.specs.Replies.{timeout_of}
+use Rattle.step_texts.specs.StepTable.Replies.{timeout_of}
 use Rattle.step_actions.specs.declared.due.Oldest.TheVariants.{Question, Ask as OfAsk}
 use Rattle.step_actions.specs.Due.{IsDueFirst}
 use Rattle.step_actions.proofs.DueFirst.{ask_alone, ask_first, deadline_fits, oldest_fits, question_alone, question_first}

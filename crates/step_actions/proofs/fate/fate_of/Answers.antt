@@ -6,8 +6,8 @@ use Rattle.plain_values.specs.Borrowed.{lent}
 use Rattle.record_cache.specs.Values.{Held}
 use Rattle.step_values.specs.Values.{Action}
 use Rattle.step_values.specs.declared.action.Why.TheVariants.{Answered}
-use Rattle.step_table.specs.State.{StepStart}
-use Rattle.step_table.specs.Steps.{gets, sends, transport_of}
+use Rattle.step_texts.specs.StepTable.State.{StepStart}
+use Rattle.step_texts.specs.StepTable.Steps.{gets, sends, transport_of}
 use Rattle.step_actions.proofs.Fates.{it_missed, ended_fate, long_fate}
 use Rattle.step_actions.proofs.fate.fate_of.Goals as goal
 

@@ -5,8 +5,8 @@ use Rattle.suffix_routes.specs.Serving.{is_local, serving_route_of}
 use Rattle.record_cache.specs.Values.{Held}
 use Rattle.answer_builder.specs.Answers.{IsEarlier}
 use Rattle.step_values.specs.Values.{Action}
-use Rattle.step_table.specs.State.{StepStart}
-use Rattle.step_table.specs.Steps.{denied_locally, gets}
+use Rattle.step_texts.specs.StepTable.State.{StepStart}
+use Rattle.step_texts.specs.StepTable.Steps.{denied_locally, gets}
 use Rattle.step_actions.proofs.Fates.{chain_missed, denied_by_key, denied_fate, served_by_key, served_fate, unrouted_fate}
 use Rattle.step_actions.proofs.fate.missed.Goals as goal
 

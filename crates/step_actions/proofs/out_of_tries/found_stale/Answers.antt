@@ -7,9 +7,9 @@ use Rattle.plain_values.specs.Borrowed.{lent}
 use Rattle.suffix_routes.specs.Values.{Config}
 use Rattle.trust_rank.specs.Walks.{most_aliases}
 use Rattle.record_cache.specs.Laws.{Among}
-use Rattle.negative_cache.specs.Moments.{CacheAt}
-use Rattle.alias_chains.specs.StaleLookUps.{look_up_stale}
-use Rattle.step_table.specs.State.{StepStart}
+use Rattle.step_texts.specs.NegativeCache.Moments.{CacheAt}
+use Rattle.step_texts.specs.AliasChains.StaleLookUps.{look_up_stale}
+use Rattle.step_texts.specs.StepTable.State.{StepStart}
 use Rattle.step_actions.proofs.out_of_tries.found_stale.Goals as goal
 
 pub look_up_stale-requires : goal.look_up_stale-requires

@@ -2,11 +2,11 @@ use Rattle.std.proofs.Common.{◌∙◌, ◌+◌, ◌∷◌, [], List, drop, ap,
 use Rattle.std.specs.Prelude.{filter}
 use Rattle.std.specs.List.{AllByRecursion}
 use Rattle.std.proofs.lemmas.List.{at_drop_all}
-use Rattle.waiting_questions.specs.Values.{waits_for}
+use Rattle.step_texts.specs.WaitingQuestions.Values.{waits_for}
 use Rattle.step_values.specs.Values.{Action, actions_of}
-use Rattle.step_table.specs.State.{StepStart}
-use Rattle.step_table.specs.Steps.{closes}
-use Rattle.step_table.specs.Failures.{runs_out}
+use Rattle.step_texts.specs.StepTable.State.{StepStart}
+use Rattle.step_texts.specs.StepTable.Steps.{closes}
+use Rattle.step_texts.specs.StepTable.Failures.{runs_out}
 use Rattle.step_actions.specs.Decision.{with_replies}
 use Rattle.step_actions.specs.Kept.{HoldsEarlier}
 use Rattle.step_actions.proofs.Folds.{lasts_filter, one_last, one_of_those}

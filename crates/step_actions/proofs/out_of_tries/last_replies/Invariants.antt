@@ -1,7 +1,7 @@
 use Rattle.std.proofs.Common.{◌≡◌, [], ◌∷◌, drop}
 use Rattle.step_values.specs.Values.{actions_of}
-use Rattle.step_table.specs.Steps.{closes}
-use Rattle.step_table.specs.Failures.{runs_out}
+use Rattle.step_texts.specs.StepTable.Steps.{closes}
+use Rattle.step_texts.specs.StepTable.Failures.{runs_out}
 use Rattle.step_actions.specs.Decision.{with_replies}
 use Rattle.step_actions.proofs.out_of_tries.last_replies.Given as goal
 

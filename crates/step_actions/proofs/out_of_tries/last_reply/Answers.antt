@@ -6,9 +6,9 @@ use Rattle.plain_values.specs.Borrowed.{lent}
 use Rattle.record_cache.specs.Laws.{Among}
 use Rattle.answer_builder.specs.Transports.{stale_answer_of}
 use Rattle.step_values.specs.declared.action.Why.TheVariants.{Stale}
-use Rattle.step_table.specs.State.{StepStart}
-use Rattle.step_table.specs.Steps.{sends, transport_of}
-use Rattle.step_table.specs.Failures.{with_stale_ttl}
+use Rattle.step_texts.specs.StepTable.State.{StepStart}
+use Rattle.step_texts.specs.StepTable.Steps.{sends, transport_of}
+use Rattle.step_texts.specs.StepTable.Failures.{with_stale_ttl}
 use Rattle.step_texts.proofs.CallerLemmas.{stale_alike}
 use Rattle.step_actions.proofs.CallerLemmas.{later_entries}
 use Rattle.step_actions.proofs.Folds.{held_among}

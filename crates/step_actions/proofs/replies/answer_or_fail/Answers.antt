@@ -4,7 +4,7 @@ use Rattle.std.proofs.lemmas.Bool.{cond-false, lt-leb}
 use Rattle.std.proofs.lemmas.Result.{IfOk-weaker}
 use Rattle.record_cache.specs.Values.{Held}
 use Rattle.step_values.specs.declared.action.Why.TheVariants.{ChainLong}
-use Rattle.step_table.specs.Steps.{failed}
+use Rattle.step_texts.specs.StepTable.Steps.{failed}
 use Rattle.step_actions.proofs.replies.answer_or_fail.Goals as goal
 
 pub returns-then-saturating_add-clause-says : goal.returns-then-saturating_add-clause-says

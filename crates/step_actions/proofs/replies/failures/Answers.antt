@@ -1,7 +1,7 @@
 use Rattle.std.proofs.Common.{◌∙◌, ◌+◌, ◌∷◌, [], List, drop, ap, sym, arith}
 use Rattle.std.proofs.lemmas.List.{at_drop_all}
 use Rattle.step_values.specs.Values.{Action, actions_of}
-use Rattle.step_table.specs.Steps.{closes, fails}
+use Rattle.step_texts.specs.StepTable.Steps.{closes, fails}
 use Rattle.step_actions.specs.Decision.{with_replies}
 use Rattle.step_actions.proofs.Folds.{failures_filter, one_failed}
 use Rattle.step_actions.proofs.replies.failures.Goals as goal

@@ -1,6 +1,6 @@
 use Rattle.std.proofs.Common.{◌≡◌, [], ◌∷◌, drop}
 use Rattle.step_values.specs.Values.{actions_of}
-use Rattle.step_table.specs.Steps.{closes, fails}
+use Rattle.step_texts.specs.StepTable.Steps.{closes, fails}
 use Rattle.step_actions.specs.Decision.{with_replies}
 use Rattle.step_actions.proofs.replies.failures.Given as goal
 

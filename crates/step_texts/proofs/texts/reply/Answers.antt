@@ -1,7 +1,7 @@
 use Rattle.std.proofs.Common.{◌∙◌, ap}
 use Rattle.std.proofs.lemmas.Result.{IfOk-weaker}
 use Rattle.answer_builder.specs.Transports.{text_of}
-use Rattle.waiting_questions.specs.Values.{Waiting}
+use Rattle.step_table.specs.WaitingQuestions.Values.{Waiting}
 use Rattle.step_table.specs.Steps.{sends, transport_of}
 use Rattle.step_texts.specs.Spelling.{sends_text}
 use Rattle.step_texts.proofs.Telling.{sent_by}

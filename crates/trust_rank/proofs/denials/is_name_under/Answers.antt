@@ -1,4 +1,4 @@
-use Rattle.dns_name.proofs.CallerLemmas.{is_under_decides, answer_is_test}
+use Rattle.dns_message.proofs.DnsName.CallerLemmas.{is_under_decides, answer_is_test}
 use Rattle.trust_rank.proofs.denials.is_name_under.Goals as goal
 
 pub returns : goal.returns

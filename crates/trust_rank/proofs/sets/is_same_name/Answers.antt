@@ -1,4 +1,4 @@
-use Rattle.dns_name.proofs.CallerLemmas.{same_decides, answer_is_test}
+use Rattle.dns_message.proofs.DnsName.CallerLemmas.{same_decides, answer_is_test}
 use Rattle.trust_rank.proofs.sets.is_same_name.Goals as goal
 
 pub returns : goal.returns

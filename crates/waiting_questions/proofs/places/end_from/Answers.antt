@@ -8,13 +8,13 @@ use Rattle.waiting_questions.proofs.Ranges.{upper_parted, range_from, ends_at}
 use Rattle.waiting_questions.proofs.Numbered.{length_keys, told_by_item, parted_items, point_of_keys}
 use Rattle.waiting_questions.proofs.places.end_from.Goals as goal
 
--- one that comes after is not sought any more
+-- a question above the sought question is neither equal nor below
 not_le : (o : Ordering) → is_gt o ≡ true → is_le o ≡ false
 not_le Less t = absurd (false≢true t)
 not_le Equal t = absurd (false≢true t)
 not_le Greater t = refl
 
--- one that does not come after is sought, or comes before
+-- a question not above the sought question is equal or below
 le_from : (o : Ordering) → is_gt o ≡ false → is_le o ≡ true
 le_from Less t = refl
 le_from Equal t = refl

@@ -2,7 +2,7 @@ use Rattle.std.proofs.Common.{◌≡◌, suc, ap, ◌∙◌, arith, rules}
 use Rattle.std.specs.List.{remove_range}
 use Rattle.waiting_questions.proofs.table.take_range.Goals as goal
 
--- one key is a range that ends after it
+-- a range of a single key ends right after it
 pub returns-in-Some : goal.returns-in-Some
 returns-in-Some g c =
     let last : suc c.args.start ≡ c.args.end = omega (arith, c.in-1.is, c.requires.low) in

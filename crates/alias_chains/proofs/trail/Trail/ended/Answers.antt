@@ -1,7 +1,7 @@
 use Rattle.std.proofs.Common.{◌∙◌, ◌++◌, ◌∷◌, [], ap, Bor}
 use Rattle.std.proofs.lemmas.List.{map-append}
 use Rattle.trust_rank.specs.declared.slot.Slot.{Slot}
-use Rattle.record_cache.specs.Values.{Held}
+use Rattle.negative_cache.specs.RecordCache.Values.{Held}
 use Rattle.plain_values.specs.Borrowed.{lent}
 use Rattle.alias_chains.specs.Looked.{looked_so}
 use Rattle.alias_chains.specs.declared.looked.LookUpEnd.TheVariants.{Ends}

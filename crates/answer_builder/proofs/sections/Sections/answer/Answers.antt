@@ -1,6 +1,6 @@
 use Rattle.std.proofs.Common.{map, ◌∙◌}
 use Rattle.answer_builder.specs.Answers.{with_ttl}
-use Rattle.plain_values.specs.Borrowed.{lent}
+use Rattle.dns_message.specs.PlainValues.Borrowed.{lent}
 use Rattle.answer_builder.proofs.Chains.{pieces_ending}
 use Rattle.answer_builder.proofs.sections.Sections.answer.Goals as goal
 

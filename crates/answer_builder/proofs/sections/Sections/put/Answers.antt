@@ -1,6 +1,6 @@
 use Rattle.std.proofs.Common.{[], ◌∷◌, true, false, ap, sym, subst, ◌∙◌, arith}
 use Rattle.std.specs.Option.{IfSome}
-use Rattle.dns_name.specs.Labels.{IsName}
+use Rattle.dns_message.specs.DnsName.Labels.{IsName}
 use Rattle.dns_message.proofs.CallerLemmas.{bare_message_is_short}
 use Rattle.answer_builder.specs.Values.{Asked, Sections}
 use Rattle.answer_builder.specs.Answers.{answer_header}

@@ -3,13 +3,13 @@ use Rattle.std.proofs.lemmas.Result.{err_from_is_err_and}
 use Rattle.std.proofs.Common.{◌∙◌, ◌≤◌, ℕ, ap, refl, sym, subst}
 use Rattle.std.specs.List.{AllByRecursion}
 use Rattle.suffix_routes.specs.Values.{Config}
-use Rattle.alias_chains.specs.Offering.{pieces_of}
+use Rattle.step_table.specs.AliasChains.Offering.{pieces_of}
 use Rattle.step_values.specs.Values.{event_of}
 use Rattle.step_table.specs.Row.{TakesNoMemory, effective, is_due_at}
 use Rattle.step_table.specs.State.{Running, StepStart, start}
-use Rattle.step_actions.specs.Decision.{changed, FitsChange, IsDecided, IsRouted}
-use Rattle.step_actions.specs.Putting.{state_of}
-use Rattle.step_actions.proofs.CallerLemmas.{kept_put}
+use Rattle.client_decisions.specs.StepActions.Decision.{changed, FitsChange, IsDecided, IsRouted}
+use Rattle.client_decisions.specs.StepActions.Putting.{state_of}
+use Rattle.client_decisions.proofs.StepActions.CallerLemmas.{kept_put}
 use Rattle.forwarder_core.proofs.CarryingOut.{carried_out, fits_at, quiet_at, row_is}
 use Rattle.forwarder_core.proofs.forwarder.Forwarder.act_on.Goals as goal
 

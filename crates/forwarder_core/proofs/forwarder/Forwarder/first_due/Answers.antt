@@ -1,8 +1,8 @@
 use Rattle.std.proofs.Common.{◌≡◌, [], ◌^◌, subst}
 use Rattle.std.specs.Prelude.{MatchOption}
 use Rattle.step_table.specs.State.{Running}
-use Rattle.step_actions.specs.Due.{IsDueFirst}
-use Rattle.step_actions.proofs.CallerLemmas.{later_taken}
+use Rattle.client_decisions.specs.StepActions.Due.{IsDueFirst}
+use Rattle.client_decisions.proofs.StepActions.CallerLemmas.{later_taken}
 use Rattle.forwarder_core.proofs.forwarder.Forwarder.first_due.Goals as goal
 
 pub first_due-requires-clause-limits : goal.first_due-requires-clause-limits

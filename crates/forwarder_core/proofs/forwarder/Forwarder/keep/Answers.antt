@@ -3,12 +3,12 @@ use Rattle.std.proofs.lemmas.List.{length-map}
 use Rattle.std.specs.List.{AllByRecursion}
 use Rattle.record_cache.specs.Values.{Held}
 use Rattle.answer_builder.specs.Answers.{IsEarlier}
-use Rattle.alias_chains.specs.LookingUp.{promoted_all}
-use Rattle.alias_chains.specs.Offering.{put_all, unkept_of, pieces_of}
+use Rattle.step_table.specs.AliasChains.LookingUp.{promoted_all}
+use Rattle.step_table.specs.AliasChains.Offering.{put_all, unkept_of, pieces_of}
 use Rattle.step_table.specs.Progress.{IsOnRoute}
 use Rattle.step_table.specs.State.{Running}
 use Rattle.step_table.specs.Steps.{with_entries}
-use Rattle.step_actions.specs.Decision.{IsRouted}
+use Rattle.client_decisions.specs.StepActions.Decision.{IsRouted}
 use Rattle.forwarder_core.proofs.Entries.{all_promoted, all_offered, all_now, kept_in_turn}
 use Rattle.forwarder_core.proofs.KeptLaws.{kept_entries}
 use Rattle.forwarder_core.proofs.forwarder.Forwarder.keep.Goals as goal

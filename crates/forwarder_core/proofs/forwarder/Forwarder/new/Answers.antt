@@ -3,8 +3,8 @@ use Rattle.std.specs.Prelude.{map}
 use Rattle.suffix_routes.specs.Values.{Config, Route}
 use Rattle.outstanding.specs.Values.{Inquiries}
 use Rattle.step_table.specs.State.{State}
-use Rattle.theorem_sound.specs.Explains.{Explains}
-use Rattle.theorem_sound.proofs.CallerLemmas.{start_explained}
+use Rattle.theorem_use.specs.TheoremSound.Explains.{Explains}
+use Rattle.theorem_use.proofs.TheoremSound.CallerLemmas.{start_explained}
 use Rattle.theorem_use.specs.Mirrors.{FullyExplains}
 use Rattle.theorem_use.specs.Service.{ComesTo}
 use Rattle.theorem_use.proofs.CallerLemmas.{start_fully_explained}

@@ -1,6 +1,6 @@
 use Rattle.std.proofs.Common.{◌≤◌, sym, subst}
 use Rattle.step_table.specs.State.{Running}
-use Rattle.step_actions.proofs.CallerLemmas.{kept_later}
+use Rattle.client_decisions.proofs.StepActions.CallerLemmas.{kept_later}
 use Rattle.forwarder_core.proofs.forwarder.Forwarder.pass.Goals as goal
 
 pub invariant_of-self : goal.invariant_of-self

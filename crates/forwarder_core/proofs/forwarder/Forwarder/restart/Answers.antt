@@ -6,7 +6,7 @@ use Rattle.outstanding.specs.Values.{Inquiries}
 use Rattle.step_table.specs.State.{Running}
 use Rattle.step_table.specs.Steps.{initial}
 use Rattle.forwarder_core.proofs.KeptLaws.{kept_first, zeros_as, room_is, cache_is}
-use Rattle.step_actions.proofs.CallerLemmas.{put_back}
+use Rattle.client_decisions.proofs.StepActions.CallerLemmas.{put_back}
 use Rattle.forwarder_core.proofs.forwarder.Forwarder.restart.Goals as goal
 
 pub invariant_of-self : goal.invariant_of-self

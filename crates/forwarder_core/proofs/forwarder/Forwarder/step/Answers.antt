@@ -1,6 +1,6 @@
 use Rattle.std.proofs.lemmas.Result.{IfOk-weaker}
 use Rattle.step_table.proofs.CallerLemmas.{less_is_left, left_is_bounded}
-use Rattle.theorem_sound.proofs.CallerLemmas.{row_stays}
+use Rattle.theorem_use.proofs.TheoremSound.CallerLemmas.{row_stays}
 use Rattle.theorem_use.proofs.CallerLemmas.{row_stays_fully_explained, row_serves_on}
 use Rattle.forwarder_core.proofs.forwarder.Forwarder.step.Goals as goal
 

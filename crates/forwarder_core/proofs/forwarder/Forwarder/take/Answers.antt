@@ -4,7 +4,7 @@ use Rattle.step_table.specs.State.{Running}
 use Rattle.forwarder_core.proofs.Ticks.{idle_row}
 use Rattle.forwarder_core.proofs.forwarder.Forwarder.take.Goals as goal
 
--- a tick where nothing is due
+-- a tick with nothing due
 pub returns-then-is_idle_tick-clause-acts : goal.returns-then-is_idle_tick-clause-acts
 returns-then-is_idle_tick-clause-acts g c =
     let idle = c.is_idle_tick.ensures c.if-is_idle_tick.true in

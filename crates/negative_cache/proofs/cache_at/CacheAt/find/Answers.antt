@@ -1,7 +1,7 @@
 use Rattle.std.proofs.Common.{◌≡◌, ◌∙◌, ℕ, Option, Some, ap, rules}
 use Rattle.dns_name.specs.Labels.{lowered}
 use Rattle.dns_message.specs.Values.{Question}
-use Rattle.trust_rank.specs.declared.slot.Slot.{Slot}
+use Rattle.record_cache.specs.TrustRank.declared.slot.Slot.{Slot}
 use Rattle.record_cache.specs.Values.{Held}
 use Rattle.record_cache.specs.Entries.{ending}
 use Rattle.negative_cache.specs.Entries.{is_set, is_no_data}
@@ -12,7 +12,7 @@ use Rattle.negative_cache.proofs.cache_at.CacheAt.find.Goals as goal
 abbrev slot_of : Question → Slot
 slot_of q = record { key = lowered q.name; class = q.class; kind = Some q.kind }
 
--- the alias beside the slot of a question is the one at the question's name
+-- the alias of a question's slot is the alias at the question's name
 beside : (moment : ℕ) (at : Slot → Option Held) (slot : Slot) (q : Question) (kind : ℕ) → slot ≡ slot_of q → kind ≡ q.kind
     → alias_at moment at slot.key slot.class kind ≡ alias_at moment at (lowered q.name) q.class q.kind
 beside moment at slot q kind same asked = λ i. alias_at moment at ((same i).key) ((same i).class) (asked i)

@@ -1,6 +1,6 @@
 use Rattle.std.proofs.Common.{sym, subst, List}
 use Rattle.step_values.specs.Values.{Step}
-use Rattle.theorem_use.specs.Service.{ComesTo}
+use Rattle.serving_loop.specs.TheoremUse.Service.{ComesTo}
 use Rattle.network_model.proofs.recorded.Recorded.new.Goals as goal
 
 pub invariant_of-result : goal.invariant_of-result

@@ -2,7 +2,7 @@ use Rattle.std.proofs.Common.{◌∙◌, ap, subst, [], ◌∷◌, ◌++◌, Lis
 use Rattle.step_values.specs.Values.{StepInput, Step}
 use Rattle.step_table.specs.State.{Running}
 use Rattle.step_table.specs.Row.{Row}
-use Rattle.theorem_use.proofs.CallerLemmas.{came_more}
+use Rattle.serving_loop.proofs.TheoremUse.CallerLemmas.{came_more}
 use Rattle.network_model.specs.Recordings.{Recording}
 use Rattle.network_model.proofs.recorded.Recorded.step.Goals as goal
 

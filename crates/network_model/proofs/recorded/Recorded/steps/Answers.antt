@@ -1,8 +1,8 @@
 use Rattle.std.proofs.Common.{List, sym, ap, subst}
 use Rattle.suffix_routes.specs.Values.{Config}
 use Rattle.step_values.specs.Values.{Step}
-use Rattle.theorem_use.specs.Service.{ServesTruly}
-use Rattle.theorem_use.proofs.CallerLemmas.{run_serves_truly}
+use Rattle.serving_loop.specs.TheoremUse.Service.{ServesTruly}
+use Rattle.serving_loop.proofs.TheoremUse.CallerLemmas.{run_serves_truly}
 use Rattle.network_model.specs.Recordings.{Recording}
 use Rattle.network_model.proofs.recorded.Recorded.steps.Goals as goal
 

@@ -1,5 +1,5 @@
 use Rattle.std.proofs.Common.{◌≡◌, sym, ap, ◌∙◌}
-use Rattle.dns_name.specs.Labels.{octets_of}
+use Rattle.dns_message.specs.DnsName.Labels.{octets_of}
 use Rattle.outstanding.specs.Orders.{octets_number}
 use Rattle.outstanding.proofs.keyed.QuestionKey.of_name.Goals as goal
 

@@ -1,5 +1,5 @@
 use Rattle.std.proofs.Common.{ℕ, List, ap, ap₂, ◌∙◌}
-use Rattle.dns_name.specs.Labels.{lowered}
+use Rattle.dns_message.specs.DnsName.Labels.{lowered}
 use Rattle.outstanding.specs.declared.keyed.QuestionKey.{QuestionKey}
 use Rattle.outstanding.specs.Orders.{name_number}
 use Rattle.outstanding.proofs.keyed.QuestionKey.of_ref.Goals as goal

@@ -10,7 +10,7 @@ use Rattle.outstanding.proofs.KeyNumbers.{keys_put, numbered_put}
 use Rattle.outstanding.proofs.Indexed.{path_listed, question_listed, indexed_same, put_indexed, put_asks}
 use Rattle.outstanding.proofs.table.Table.put.Goals as goal
 
--- the path is listed: no
+-- impossible: the path is listed
 pub unreachable-requires : goal.unreachable-requires
 unreachable-requires g c =
     let is : c.behind-ask.inside.path ≡ c.args.ask.path = ap (λ (a : Ask). a.path) (c.behind-ask.view_is ∙ c.ask.ensures) in
@@ -18,7 +18,7 @@ unreachable-requires g c =
     (subst (λ (p : Path). IsAt (to_path p) c.args.self.now.asks (keys_of c.args.self.now.by_path.items) c.in_default.field-0) is c.in_default.ensures.found)
     c.requires.path
 
--- the question is listed: no
+-- impossible: the question is listed
 pub unreachable-requires-in_default-place_of : goal.unreachable-requires-in_default-place_of
 unreachable-requires-in_default-place_of g c =
     let is : c.key.result.now ≡ question_key c.args.ask.question = c.key.ensures in

@@ -27,13 +27,13 @@ pub index-requires-2 : goal.index-requires-2
 index-requires-2 g c =
     present_at c.args.self.now.asks c.args.self.now.by_path.items c.in-Ok.place c.key-key.result c.index.result.now c.requires.keys.paths c.in-Ok.ensures.found.in_range c.index.ensures c.key-key.ensures.key
 
--- the question has no key: no
+-- impossible: the question has no key
 pub unreachable-requires : goal.unreachable-requires
 unreachable-requires g c =
     has_question c.args.self.now.asks (keys_of c.args.self.now.by_path.items) (keys_of c.args.self.now.by_question.items) c.args.self.now.by_arrival.keys c.requires.keys c.key-key.result c.index-2.result.now c.index-2.ensures c.in_default-place_of.field-0
     (subst (λ (k : QuestionKey). IsGap (to_question k) c.args.self.now.asks (keys_of c.args.self.now.by_question.items) c.in_default-place_of.field-0) c.key.ensures c.in_default-place_of.ensures.absent)
 
--- its key is in turn
+-- the ask's key is in the order of arrival
 pub place_of-arrival_rank-requires : goal.place_of-arrival_rank-requires
 place_of-arrival_rank-requires g c =
     let v = c.requires.keys.arrivals.complete c.key-key.result (is_some_of (get c.args.self.now.asks c.key-key.result) c.index-2.result.now c.index-2.ensures) in

@@ -3,8 +3,8 @@ use Rattle.std.proofs.lemmas.Result.{err_from_is_err_and}
 use Rattle.std.specs.List.{AllByRecursion}
 use Rattle.std.specs.Vec.{with_items}
 use Rattle.outstanding.specs.Lists.{AreListed}
-use Rattle.waiting_questions.specs.Values.{Waiting}
-use Rattle.step_table.specs.Steps.{tcp_count}
+use Rattle.step_texts.specs.WaitingQuestions.Values.{Waiting}
+use Rattle.step_texts.specs.StepTable.Steps.{tcp_count}
 use Rattle.step_actions.specs.declared.decision.Change.{Change}
 use Rattle.step_actions.specs.declared.decision.Opening.{Opening}
 use Rattle.step_actions.specs.declared.decision.Redirect.{Redirect}

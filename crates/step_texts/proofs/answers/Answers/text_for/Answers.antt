@@ -3,7 +3,7 @@ use Rattle.std.proofs.lemmas.Result.{IfOk-weaker}
 use Rattle.plain_values.specs.Borrowed.{lent}
 use Rattle.answer_builder.specs.Transports.{text_of}
 use Rattle.answer_builder.specs.Values.{Sections}
-use Rattle.waiting_questions.specs.Values.{Waiting}
+use Rattle.step_table.specs.WaitingQuestions.Values.{Waiting}
 use Rattle.step_texts.specs.Spelling.{ok_text}
 use Rattle.step_texts.proofs.Fronts.{has_front}
 use Rattle.step_texts.proofs.TextLaws.{found_text, own_text, spelled_more}

@@ -1,0 +1,1 @@
+pub use Rattle.step_actions.specs as StepActions

@@ -1,0 +1,1 @@
+pub use Rattle.serving_loop.proofs.TheoremUse as TheoremUse
