@@ -1,1 +1,1 @@
-"""What a capture shows of the forwarder, explained by its own step (`forwarder replay`)."""
+"""What a capture shows of the forwarder, judged by what the forwarder claims."""

@@ -1,54 +1,48 @@
 """Captures as tcpdump and Wireshark write them: classic pcap, and pcapng."""
 import struct
-from typing import NamedTuple
 
-import dpkt
-
+from .times import LATEST
 from .wording import counted
 
 MOST_OCTETS = 1 << 18  # of one packet, by any system's limits
-LATEST = 253_402_300_800_000_000  # microseconds: the beginning of the year 10000
 BLOCK = 12  # octets of a block of pcapng at least
 INTERFACE, OLD_PACKET, SIMPLE_PACKET, STATISTICS, PACKET = 1, 2, 3, 5, 6
 LOST = (5, 7)  # options of a block of statistics: what the interface and the system dropped
 SECTION = b"\x0a\x0d\x0d\x0a"  # in either order
+# Classic pcap by its first octets: the order of octets, and nanoseconds in a unit of its time.
+CLASSIC = {
+    b"\xd4\xc3\xb2\xa1": ("<", 1000),
+    b"\xa1\xb2\xc3\xd4": (">", 1000),
+    b"\x4d\x3c\xb2\xa1": ("<", 1),
+    b"\xa1\xb2\x3c\x4d": (">", 1),
+}
 
 
 class Unreadable(Exception):
     """What can't be read at all; the text says why."""
 
 
-class Packet(NamedTuple):
-    """A packet: when it was captured, in microseconds since 1970, its link type, and the octets
-    that were kept."""
-
-    moment: int
-    link: int
-    octets: bytes
-
-
 class Source:
-    """A capture that is read from its beginning to its end.
-
-    dpkt passes over both: a read that got less than it wanted, and a size that can't be."""
+    """The octets of a capture, from its beginning to its end. `is_short` says that the last read got
+    less than it wanted."""
 
     def __init__(self, file):
         self.file, self.at, self.is_short = file, 0, False
         self.ahead = file.read(4)
 
     def read(self, size):
-        if size > MOST_OCTETS:
-            raise dpkt.UnpackError(f"a packet of {size} octets can't be: reading stops at octet {self.at - 16}")
-        octets, self.ahead = self.ahead[:size], self.ahead[size:]
-        if len(octets) < size:
-            octets += self.file.read(size - len(octets))
+        octets = self.file.read(size - len(self.ahead)) if len(self.ahead) < size else b""
+        if self.ahead:
+            octets, self.ahead = self.ahead[:size] + octets, self.ahead[size:]
         self.is_short = len(octets) < size
         self.at += len(octets)
         return octets
 
 
 class Capture:
-    """The packets of a capture, and in `notes` what was wrong with it, a line each."""
+    """The packets of a capture, each with its moment in microseconds since 1970, its link type, its
+    octets, and whether the capture kept less than all. `notes` has a line for each thing that was
+    wrong, `lost` the packets that each interface lost by its own count."""
 
     def __init__(self, file):
         self.source, self.notes, self.lost = Source(file), [], {}
@@ -57,7 +51,7 @@ class Capture:
             raise Unreadable("is empty")
         if begins == SECTION:
             self.reader = self._next_generation
-        elif int.from_bytes(begins, "big") in dpkt.pcap.MAGIC_TO_PKT_HDR:
+        elif begins in CLASSIC:
             self.reader = self._classic
         else:
             raise Unreadable("is no capture: neither pcap nor pcapng")
@@ -70,27 +64,29 @@ class Capture:
             self.notes.append(f"the capture lost {lost}, by its own count")
 
     def _classic(self):
-        try:
-            reader = dpkt.pcap.Reader(self.source)
-        except dpkt.NeedData:
-            raise Unreadable("ends within its header") from None
-        try:
-            for moment, octets in reader:
-                if self.source.is_short:
-                    raise dpkt.NeedData
-                # Nanoseconds come as a Decimal, microseconds as a float, which is off by less than
-                # half of one.
-                exact = round if isinstance(moment, float) else int
-                yield Packet(exact(moment * 1_000_000), reader.datalink() & 0xFFFF, octets)
-        except dpkt.NeedData:
-            self.notes.append("the capture ends within a packet; what is before it was read")
-        except dpkt.UnpackError as fault:
-            self.notes.append(str(fault))
+        read, source = self.source.read, self.source
+        head = read(24)
+        if source.is_short:
+            raise Unreadable("ends within its header")
+        order, unit = CLASSIC[head[:4]]
+        link = struct.unpack_from(order + "I", head, 20)[0] & 0xFFFF
+        fields = struct.Struct(order + "4I").unpack
+        while head := read(16):
+            if source.is_short:
+                break
+            whole, part, kept, size = fields(head)
+            if kept > MOST_OCTETS:
+                self.notes.append(f"a packet of {kept} octets can't be: reading stops at octet {source.at - 16}")
+                return
+            octets = read(kept)
+            if source.is_short:
+                break
+            yield whole * 1_000_000 + part * unit // 1000, link, octets, kept < size
+        else:
+            return
+        self.notes.append("the capture ends within a packet; what is before it was read")
 
     def _next_generation(self):
-        """Without dpkt: its reader has each packet on the first interface, with the link type and
-        the clock of that one, passes over what a capture lost, and takes a block that the file's
-        end cuts for a whole one."""
         order, interfaces = "<", []
         while True:
             at = self.source.at
@@ -133,13 +129,13 @@ class Capture:
             options = dict(options_of(order, body[8:]))
             interfaces.append((link, resolution(options.get(9, b"\x06")), options.get(14, bytes(8))))
         elif kind in (PACKET, OLD_PACKET):
-            number, high, low, kept = struct.unpack_from(order + "4I", body)
+            number, high, low, kept, size = struct.unpack_from(order + "5I", body)
             if kind == OLD_PACKET:
                 number = struct.unpack_from(order + "H", body)[0]
             link, (units, per), offset = interfaces[number]
             moment = ((high << 32) | low) * units // per + struct.unpack(order + "q", offset)[0] * 1_000_000
             if 0 <= moment < LATEST:
-                return Packet(moment, link, body[20 : 20 + kept])
+                return moment, link, body[20 : 20 + kept], kept < size
             self.note_once("packets with a time that can't be are left out")
         elif kind == SIMPLE_PACKET:
             self.note_once("packets without a time (simple packet blocks) are left out")
@@ -152,6 +148,22 @@ class Capture:
     def note_once(self, text):
         if text not in self.notes:
             self.notes.append(text)
+
+
+def counts_losses(file):
+    """Whether a capture says that it lost packets, by its own count, which may come at its end. The file
+    is read from its beginning, and is at its beginning afterwards."""
+    if not file.seekable():
+        return False
+    begins = file.read(4)
+    file.seek(0)
+    if begins != SECTION:
+        return False
+    capture = Capture(file)
+    for _ in capture.packets():
+        pass
+    file.seek(0)
+    return any(capture.lost.values())
 
 
 def options_of(order, octets):

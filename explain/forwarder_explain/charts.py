@@ -1,7 +1,8 @@
 """Charts of a page, as SVG within it."""
 from html import escape
 
-from .story import clock
+from .times import SECOND
+from .wording import clock
 
 WIDTH, HEIGHT, LEFT = 900, 180, 50
 MOST_LABELS = 6
@@ -18,7 +19,7 @@ def over_time(bars, colours, begins, link):
     most, number = max(heights.values(), default=1), (max(heights, default=first) - first) // step + 1
     width = (WIDTH - LEFT) / number
     yield f'<svg viewBox="0 0 {WIDTH} {HEIGHT + 25}" role="img" width="{WIDTH}">'
-    yield f"<title>Questions by {step // 1_000_000:,} s and by what became of them</title>"
+    yield f"<title>Questions by {step // SECOND:,} s and by what became of them</title>"
     yield f'<text x="{LEFT - 6}" y="12" text-anchor="end" font-size="12">{most:,}</text>'
     yield f'<text x="{LEFT - 6}" y="{HEIGHT}" text-anchor="end" font-size="12">0</text>'
     for moment in sorted(heights):

@@ -5,7 +5,7 @@ import tomllib
 from typing import NamedTuple
 
 from .capture import Unreadable
-from .messages import from_text, is_under
+from .messages import from_text, parents
 
 DEFAULTS = {
     "questions": 1024,
@@ -15,6 +15,18 @@ DEFAULTS = {
     "ask_ms": 1500,
     "deadline_ms": 8000,
     "stale_s": 0,
+}
+
+
+UNREACHABLE = {  # by the codes of ICMP (RFC 792; RFC 1122, 3.2.2.1; RFC 1812, 5.2.7.1)
+    0: "network unreachable",
+    1: "host unreachable",
+    2: "no such protocol",
+    3: "port closed",
+    4: "too large for the way",
+    9: "network forbidden",
+    10: "host forbidden",
+    13: "forbidden by a packet filter",
 }
 
 
@@ -45,7 +57,7 @@ class Configuration:
             )
             for each in table["route"]
         ]
-        self.routes.sort(key=lambda route: -len(route.suffix))
+        self.by_suffix = {route.suffix: route for route in self.routes}
         self.servers = {server for route in self.routes for server in route.servers}
         self._found = {}
 
@@ -54,29 +66,15 @@ class Configuration:
         if key not in self._found:
             if len(self._found) > 20_000:
                 self._found.clear()
-            self._found[key] = next((route for route in self.routes if is_under(key, route.suffix)), None)
+            above = (self.by_suffix.get(name) for name in parents(key))
+            self._found[key] = next(filter(None, above), None)
         return self._found[key]
-
-    def ports_among(self, key, ports):
-        """Which of some ports the servers of a name's route have, and whether all these servers have one of them."""
-        route = self.route_of(key) if ports else None
-        found = [port for _, port in route.servers if port in ports] if route else []
-        return found, bool(found) and len(found) == len(route.servers)
 
 
 def peer(text):
     """Address in four octets, and port."""
     address, _, port = text.partition(":")
     return bytes(map(int, address.split("."))), int(port)
-
-
-def shown(peer_):
-    """A peer as the configuration writes it."""
-    return f"{address_text(peer_[0])}:{peer_[1]}"
-
-
-def address_text(octets):
-    return ".".join(map(str, octets))
 
 
 def read(path, program):

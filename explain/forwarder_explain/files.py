@@ -46,4 +46,4 @@ def first_moment(path):
             packet = next(Capture(file).packets(), None)
         except Unreadable:
             return None
-    return packet and packet.moment
+    return packet and packet[0]

@@ -1,42 +1,18 @@
 """Explains a capture as it grows: each question once it is known what became of it (`--follow`)."""
-import contextlib
-import os
 import signal
+import sys
 import time
-from types import SimpleNamespace
+from collections import deque
 
-from . import comparing
 from .capture import Capture, Unreadable
-from .carrying import Base
-from .configuration import shown
-from .doubts import Doubts
+from .clock import Straightened
 from .files import opened
-from .growing import LOOK, Pipe, Ring
-from .kept import History
-from .live import Intake, Live, fits
-from .options import chosen, moment_of, span_of
-from .remembered import Beginnings, Queries
-from .replay import TooLong
-from .report import Row, Summary
-from .rounds import Round, place_to_keep
-from .story import Teller
-from .tally import Tally
-from .traffic import Query, Question
-from .wording import counted
-
-PAUSE = 0.3  # seconds between two rounds
-SETTLED = 200_000  # microseconds after an answer in which what belongs to it may still come
-GONE = 1_000_000  # microseconds after the end of a connection in which an answer is looked for
-MARGIN = 1_000_000  # microseconds beyond the deadline for which events are kept, and beyond a try in doubt
-LATE = 2_000_000, 30_000_000  # microseconds beyond the deadline, if the service goes on, and if not
-BACK = 600_000_000  # microseconds before the first question that is shown, of which it is seen what is kept
-RENEWED = 10_000_000  # microseconds between two looks for what is over
-AT_ONCE = 2000  # events of one round
-CONTEXT = 300  # events before those of a round
-MOST_CONTEXT = 8000  # such events if a question waits: at 500 questions a second those of its deadline
-LOOKS = 1.0  # seconds between two looks in a round
-BEHIND = 5  # seconds by which a run is behind before that is said; again at each double of them
-UNHEARD = 30  # seconds without a question, after which that is said
+from .growing import Pipe, Ring
+from .options import span_of
+from .packets import Decoder
+from .running import Run
+from .times import BACK, BEHIND, LOOK, OUT_OF_ORDER, PAUSE, SECOND, UNHEARD
+from .wording import counted, shown
 
 
 class Stopped(Exception):
@@ -55,319 +31,137 @@ class Behind:
         self.note, self.least, self.said = note, float("inf"), 0
 
     def look(self, passed):
-        """Takes how many seconds have passed, from any beginning, without those of the packets."""
+        """Takes how many microseconds have passed, from any beginning, without those of the packets."""
         self.least = min(self.least, passed)
-        self.look_meanwhile(passed)
-        if self.said and passed - self.least < BEHIND / 2:
-            self.said = 0
-            self.note("no longer behind what comes")
-
-    def look_meanwhile(self, passed):
-        """Takes the same of the first packet of a round that goes on."""
         behind = passed - self.least
         if behind >= max(BEHIND, 2 * self.said):
             self.said = behind
-            self.note(f"{behind:,.0f} s behind what comes")
-
-    def begin_anew(self):
-        """The times of the packets were changed."""
-        self.least = float("inf")
+            self.note(f"{behind / SECOND:,.0f} s behind what comes")
+        if self.said and behind < BEHIND / 2:
+            self.said = 0
+            self.note("no longer behind what comes")
 
 
 class Follower:
-    """Follows a capture. `show` prints a Row, `say` when the service began anew or had ended, and
-    `note` what could not be read."""
+    """Follows a capture: takes packets as they come, and has them explained in order."""
 
-    context, most_context = CONTEXT, MOST_CONTEXT
-
-    def __init__(self, options, settings, show, say, note):
-        self.options, self.settings, self.show, self.note = options, settings, show, note
-        self.live, self.intake, self.tally = Live(settings), Intake(note), Tally()
-        self.queries, self.beginnings = Queries(settings, self.tally), Beginnings(say)
-        # The first packet, from when on packets are read, the last one, and when things were done.
-        self.first, self.back, self.seen, self.last = None, 0, 0, 0
-        self.began_at, self.seen_at, self.done_at, self.forgotten = time.monotonic(), 0, 0, 0
-        # For how many seconds nothing has come, and what time it is for the capture.
-        self.quiet, self.now = 0, 0
-        self.events, self.came, self.base, self.history = [], 0, None, None
-        self.wanted, self.doubtful, self.guessed, self.accepted = set(), set(), {}, {}
-        self.is_stopped, self.is_last, self.is_told, self.behind = False, False, False, Behind(note)
-        self.working = None  # the moment of the first packet of the round that goes on
+    def __init__(self, options, settings, note):
+        self.options, self.settings, self.note = options, settings, note
+        self.decoder, self.straightened, self.waiting = Decoder(), Straightened(), deque()
+        self.run, self.behind, self.back = None, Behind(note), 0
+        self.stops = 0  # signals that came
+        self.is_last = self.is_told = False
+        self.began = self.came = self.looked = now()
 
     def stop(self, *_):
-        self.is_stopped = True
-
-    def meanwhile(self, *_):
-        """Called again and again, also in the middle of a round: says how far the run is behind."""
-        if self.working is not None:
-            self.behind.look_meanwhile(time.monotonic() - self.working / 1_000_000)
+        self.stops += 1
+        if self.stops > 1:
+            raise Ended
 
     # What comes.
 
     def take(self, packet):
-        """Takes a packet, and explains what has become known by the time."""
-        if packet.moment < self.back:
+        """Takes a packet of the capture."""
+        if packet[0] < self.back:
             return
-        if self.first is None:
-            self.first = packet.moment
-        self.last, self.seen_at, self.quiet = packet.moment, time.monotonic(), 0
-        self.intake.take(packet)
-        if len(self.intake.raw) >= AT_ONCE or self.seen_at - self.done_at > PAUSE:
-            self.go_on(False)
-            self.behind.look(time.monotonic() - self.seen / 1_000_000)
+        self.came = now()
+        found = self.decoder.read(*packet)
+        if found is not None:
+            self.waiting.append(self.straightened.put(found))
+        self.go_on(self.waiting[-1].moment - OUT_OF_ORDER if self.waiting else 0)
+        if self.came - self.looked > PAUSE:
+            self.looked = self.came
+            self.behind.look(self.came - packet[0])
+
+    def go_on(self, until):
+        """Explains what came up to a moment."""
+        if len(self.waiting) > 1 and self.waiting[-1].moment < self.waiting[-2].moment:
+            self.waiting = deque(sorted(self.waiting, key=lambda each: each.moment))
+        while self.waiting and self.waiting[0].moment <= until:
+            packet = self.waiting.popleft()
+            if self.run is None:
+                self.run = Run(self.options, self.settings, packet.moment, False, self.note, True)
+            if self.straightened.steps:
+                self.run.explaining.loosen(*self.straightened.steps.pop(0))
+            self.run.explaining.take(packet)
+            if self.run.explaining.clock.notes:
+                self.note(self.run.explaining.clock.notes.pop(0))
+        if self.run is not None:
+            self.run.show_restarts()
+        while self.straightened.notes:
+            self.note(self.straightened.notes.pop(0))
+
+    def flush(self):
+        """Explains all that came."""
+        self.go_on(float("inf"))
 
     def reading(self):
         """Called before each read. After a signal there is one more: of what was there when it came."""
-        if self.is_stopped:
+        if self.stops:
             if self.is_last:
                 raise Stopped
             self.is_last = True
 
     def idle(self):
         """Called while nothing comes."""
-        if self.is_stopped:
+        if self.stops:
             raise Stopped
-        if time.monotonic() - self.done_at > PAUSE:
-            self.quiet = time.monotonic() - self.seen_at
-            self.go_on(self.quiet > 2 * LOOK)
-
-    def go_on(self, is_quiet, is_end=False):
-        """A round, if there is something for it."""
-        packets = self.intake.given(is_quiet or is_end)
-        self.seen = max(self.seen, self.intake.latest, self.last + self.intake.offset if is_end else 0)
-        self.now = self.seen + round(1_000_000 * self.quiet)
-        self.working = packets[0].moment if packets else None
-        if packets or is_end:
-            self.enter(packets, is_end)
-        due = self.due(is_end)
-        if self.events and (due or is_end or self.came >= AT_ONCE):
-            self.round(due, is_end)
-            self.came = 0
-        self.done_at, self.working = time.monotonic(), None
+        quiet = now() - self.came
+        if quiet > 2 * LOOK:
+            self.flush()
+            if self.run is not None:
+                self.run.explaining.let_pass(quiet)
+                self.run.show_restarts()
         self.look_for_questions()
-
-    def enter(self, packets, is_end):
-        """Puts what packets carry among the events."""
-        events, left = self.live.taken(packets, is_end)
-        if self.base is not None:
-            for event in events:  # one that comes too late for its place
-                event.moment = event.read = max(event.moment, self.base.moment)
-        self.events = self.live.without_others([each for each in self.events + events if each not in left])
-        self.events.sort(key=lambda event: event.moment)
-        self.came += len(events)
-        self.wanted.update(self.choose([each for each in events if isinstance(each, Question)]))
-        if self.base is None and self.events:
-            history = History(self.settings, [], self.events[0].moment // 1000, None)
-            self.base = Base(history, self.events[0].moment, 0)
-        if self.seen - self.forgotten > RENEWED:
-            self.live.forget(self.seen)
-            self.intake.forget()
-            self.forgotten = self.seen
-
-    def choose(self, questions):
-        """Those of new questions that the options choose."""
-        return chosen(self.options, questions, self.first)
 
     def look_for_questions(self):
         """Says once that there are packets, and no question among them."""
-        if not self.is_told and self.first is not None and self.done_at - self.began_at > UNHEARD:
-            self.is_told = True
-            if not self.live.has_question:
-                self.note(f"has no question to {shown(self.settings.listen)} yet, where the configuration listens")
-
-    # What is known.
-
-    def due(self, is_end):
-        """The questions of which it is known what became of them."""
-        outputs = [event.moment for event in self.events if isinstance(event, Query)]
-        outputs += [question.answer.moment for question in self.live.questions if question.answer]
-        last = max(outputs, default=0)
-        return [each for each in self.live.questions if is_end or self.is_due(each, last)]
-
-    def is_due(self, question, last):
-        """Whether a question is over; the service sent something last at a moment."""
-        now, answer = self.now, question.answer
-        if answer and fits(question):
-            return now - answer.moment > SETTLED
-        if question.refused or not question.wants_answer():
-            return now - max(question.moment, question.refused or 0) > SETTLED
-        connection = question.connection
-        if connection and (connection.reset or False in connection.fin):
-            return now - (connection.reset or (connection.fin[False],))[0] > GONE
-        due = question.moment + 1000 * self.settings.limits["deadline_ms"]
-        return now - due > (LATE[0] if last > due else LATE[1])
-
-    def round(self, due, is_end):
-        """Explains the questions that are due."""
-        over = set(due)
-        keep = self.to_keep(over)
-        traffic = self.traffic()
-        ends, before = self.seen if is_end else self.now, self.events[-1].moment
-        last = self.events[-1]
-        since = (keep.moment if keep else self.base.moment) - self.horizon()
-        restarted = [moment_of(text, self.first) for text in self.options.restarted]
-        cutter = Round(self.settings, traffic, ends, self.base, restarted, keep, since)
-        self.history, cutter.keeps_scripts = cutter.history, bool(self.options.script)
-        if cutter.leaps:
-            self.behind.begin_anew()
-            self.intake.shift(last.moment - before)
-            self.seen += last.moment - before
-            self.now += last.moment - before
-        for text in cutter.leaps:
-            self.note(text)
-        has_begun = self.beginnings.look(cutter)
-        ended = cutter.ended([each for each in self.live.questions if not each.answer and each not in over])
-        over.update(ended)
-        self.judge(cutter, traffic, [each for each in over if each in self.wanted], is_end)
-        over -= self.doubtful
-        self.wanted -= over
-        self.live.settle(over)
-        if has_begun or len(self.events) > self.most_context:
-            self.base = cutter.kept
-            self.base.read_late(self.accepted)
-        self.retire(self.base.moment - self.horizon())
-
-    def traffic(self):
-        """What is known, as a round takes it."""
-        there = set(self.events)  # with what earlier rounds took to belong to a packet that was lost
-        orphans = [each for each in self.live.orphans if each not in there]
-        unasked = [each for each in self.live.unasked if each not in there]
-        live = self.live
-        return SimpleNamespace(
-            events=self.events,
-            orphans=orphans,
-            unasked=unasked,
-            unsolicited=live.unsolicited,
-            unreached=live.unreached,
-            missing_ports=live.missing_ports,
-        )
-
-    def horizon(self):
-        """Microseconds before a base of which the events are kept."""
-        return 1000 * self.settings.limits["deadline_ms"] + MARGIN
-
-    def to_keep(self, over):
-        """The event before which the next base is to be, if there are enough by then. No question
-        that waits for what becomes of it is before that, unless there are very many events."""
-        begins = sum(event.moment < self.base.moment for event in self.events)
-        count = len(self.events) - begins
-        if count <= 2 * self.context:
-            return None
-        waiting = [
-            (each.answer or each).moment
-            for each in self.live.questions
-            if each in self.wanted and (each not in over or each in self.doubtful)
-        ]
-        latest = float("inf") if count > self.most_context else min(waiting, default=float("inf"))
-        foreign = self.history.foreign if self.history else ()
-        keep = place_to_keep(self.events, len(self.events) - self.context, latest, foreign)
-        return keep if keep is not None and keep.moment > self.base.moment else None
-
-    def judge(self, cutter, traffic, judged, is_end):
-        """Explains questions, in windows that become smaller where one has too many lines."""
-        until = None if is_end or all(each.answer for each in judged) else self.now
-        kept = cutter.kept.moment
-        guessed = [each for each in self.wanted - set(judged) if not each.answer and each.moment < kept]
-        while True:
-            try:
-                found = list(cutter.parts(judged + guessed, self.options.program, until))
-                if not cutter.keep_longer(each for part in found for each in part.results.items()):
-                    break
-            except TooLong:
-                if cutter.aim < 20:
-                    raise Unreadable("has too much in flight at one time for a script") from None
-                cutter.cut_smaller()
-        teller = Teller(self.settings, cutter.history, traffic.missing_ports())
-        others = [each for part in found for each in part.others]
-        doubts, rows = Doubts(self.settings, traffic, cutter, others), {}
-        for part in found:
-            for question, result in part.results.items():
-                rows[question] = Row(question, doubts.put_apart(question, result), teller)
-            self.queries.judge(part)
-            self.accepted.update(part.accepted)
-        for question in guessed:
-            if question in rows:
-                self.guessed[question] = rows[question]
-        self.doubtful = {each for each in judged if not is_end and self.is_doubtful(each, rows.get(each), kept)}
-        told = set(judged) - self.doubtful
-        for part in found:
-            self.keep_script(part.script, [rows[each] for each in part.results if each in told])
-        for question in sorted(told, key=lambda each: each.moment):
-            row = rows.get(question) or self.guessed.pop(question, None)
-            self.guessed.pop(question, None)
-            if row is not None and (row.failed() or not self.options.failures):
-                self.tell(row)
-
-    def keep_script(self, text, rows):
-        """Takes the script of a window, and the rows of the questions of which it is told."""
-
-    def tell(self, row):
-        """Counts and shows a question."""
-        self.tally.add(row)
-        self.show(row)
-
-    def is_doubtful(self, question, row, kept):
-        """Whether an answer differs, and what comes soon may explain it, as long as it is not before
-        what is kept."""
-        if row is None or row.result.same != comparing.DIFFERENT or question.answer.moment < kept:
-            return False
-        return self.now - question.answer.moment < 1000 * self.settings.limits["ask_ms"] + MARGIN
-
-    def retire(self, since):
-        """Counts and forgets what is before a moment."""
-        count = sum(event.moment < since for event in self.events)
-        self.queries.count(self.events[:count], self.history, since)
-        self.events = self.events[count:]
-        self.accepted = {reply: moment for reply, moment in self.accepted.items() if reply.moment >= since}
+        if self.is_told or self.run is None or now() - self.began < UNHEARD:
+            return
+        self.is_told = True
+        if not self.run.explaining.traffic.sides.questions:
+            self.note(f"has no question to {shown(self.settings.listen)} yet, where the configuration listens")
 
     # The end.
 
     def end(self):
-        """Explains what is left; gives the summary."""
-        self.go_on(True, True)
-        if not self.live.has_question:
+        """Explains what is left; gives whether an answer is different."""
+        self.flush()
+        if self.run is None or not self.run.explaining.traffic.sides.questions:
             raise Unreadable(f"has no question to {shown(self.settings.listen)}, where the configuration listens")
-        self.retire(float("inf"))
-        for text in [*self.intake.decoder.notes(), *self.live.notes(self.settings), *self.queries.notes()]:
+        self.run.explaining.end()
+        for text in [*self.decoder.notes(), *self.run.notes()]:
             self.note(text)
-        return Summary(self.tally, self.beginnings.at_end())
+        return self.run.finish()
 
     def end_at_once(self):
-        """Says what is left out; gives the summary of what was explained."""
-        left = self.intake.raw + self.intake.waiting
-        count = len(self.wanted) + sum(getattr(each, "target", None) in self.live.listen for each in left)
-        self.note(f"a second signal ended the run: left out the last {counted(count, 'question')}, or about so many")
-        return Summary(self.tally, self.beginnings.at_end())
+        """Says what is left out; gives whether an answer is different."""
+        explaining = self.run.explaining if self.run else None
+        count = explaining.traffic.clients.count + len(explaining.held) if explaining else 0
+        self.note(f"a second signal ended the run: left out {counted(count, 'question')}")
+        return self.run.finish() if self.run else False
 
 
-def follow(options, settings, follower):
-    """Follows a capture until it ends, or until SIGINT or SIGTERM; gives the summary. After a second signal this takes
-    no further round."""
-    own = os.getpid()
+def now():
+    """The clock of this machine that is never set, in microseconds."""
+    return time.monotonic_ns() // 1000
 
-    def heed(*_):
-        if follower.is_stopped and os.getpid() == own:
-            raise Ended
-        follower.stop()
 
-    heeded = {signal.SIGINT: heed, signal.SIGTERM: heed, signal.SIGALRM: lambda *_: look(follower)}
-    handlers = {number: signal.signal(number, handler) for number, handler in heeded.items()}
-    signal.setitimer(signal.ITIMER_REAL, LOOKS, LOOKS)
+def follow(options, settings, note):
+    """Follows a capture until it ends, or until SIGINT or SIGTERM; gives whether an answer is different. After a
+    second signal it ends at once."""
+    if hasattr(sys.stdout, "reconfigure"):
+        sys.stdout.reconfigure(line_buffering=True)
+    follower = Follower(options, settings, note)
+    handlers = {number: signal.signal(number, follower.stop) for number in (signal.SIGINT, signal.SIGTERM)}
     try:
         read(options, follower)
         return follower.end()
     except Ended:
         return follower.end_at_once()
     finally:
-        signal.setitimer(signal.ITIMER_REAL, 0)
         for number, handler in handlers.items():
             signal.signal(number, handler)
-
-
-def look(follower):
-    """Has a follower say how far it is behind. If the program just writes to standard error, the next look says it."""
-    with contextlib.suppress(RuntimeError):
-        follower.meanwhile()
 
 
 def read(options, follower):
@@ -391,6 +185,6 @@ def files_of(options, follower):
         return [Pipe(opened("-"), follower)]
     ring = Ring(options.capture, follower, follower.note)
     options.since = options.since or f"{time.time():.6f}"
-    follower.first = ring.queue[0][0] if ring.queue else round(1_000_000 * time.time())
-    follower.back = ring.since = span_of(options, follower.first)[0] - BACK
+    first = ring.queue[0][0] if ring.queue else time.time_ns() // 1000
+    follower.back = ring.since = span_of(options, first)[0] - BACK
     return ring.captures()

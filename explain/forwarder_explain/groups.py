@@ -7,11 +7,11 @@ lines, is known at the end.
 import tempfile
 from html import escape
 
-from . import comparing
+from . import judge
 from .capture import Unreadable
-from .configuration import address_text
 from .tally import MOST_COUNTED, OTHERS, REASONS, reason_of, reason_text
-from .wording import counted, moment_text
+from .times import SECOND
+from .wording import address_text, counted, moment_text, server_text
 
 MOST_LINES, MOST_OF_BAR = 100, 20  # lines to which a number leads, and a part of a bar
 MOST_BARS = 75
@@ -25,18 +25,11 @@ FATES = {
     "expired data": "#e0b03a",
     "failed": "#c6402f",
     "without an answer": "#5d4a66",
-    "not judged": "#8a6d4b",
-    "not the step's answer": "#d6259a",
+    "refused": "#222222",
+    "open": "#8a6d4b",
+    "different": "#d6259a",
 }
-CACHED, ASKED, DENIED, EXPIRED, FAILED, UNANSWERED, UNJUDGED, WRONG = FATES
-WITHOUT = {
-    comparing.REFUSED: "refused by the service's machine",
-    comparing.ENDED: "the service ended first",
-    comparing.GONE: "the connection ended first",
-    comparing.UNANSWERED: "no answer was captured",
-    comparing.OPEN: "no answer",
-    comparing.DROPPED: "dropped: no question",
-}
+CACHED, ASKED, DENIED, EXPIRED, FAILED, NO_ANSWER, REFUSED, OPEN, WRONG = FATES
 
 
 class Group:
@@ -87,7 +80,7 @@ class Groups:
         self.found, self.linked, self.kinds, self.lines, self.made = {}, {}, {}, Lines(), 0
         # The moments of the first and the last question, and how long a bar of the page is, and one that is
         # counted until then, in microseconds.
-        self.span, self.bar, self.step = None, 1_000_000, 1_000_000
+        self.span, self.bar, self.step = None, SECOND, SECOND
 
     def add(self, row):
         """Takes the next question."""
@@ -112,10 +105,10 @@ class Groups:
         first, last = self.span = min(first, moment), max(last, moment)
         if (last - first) // self.bar < MOST_BARS - 1:
             return
-        fitting = (each for each in STEPS if (last - first) // (1_000_000 * each) < MOST_BARS - 1)
+        fitting = (each for each in STEPS if (last - first) // (SECOND * each) < MOST_BARS - 1)
         step = next(fitting, STEPS[-1])
-        self.bar = 1_000_000 * step
-        part = 1_000_000 * next(each for each in PARTS if step % each == 0)
+        self.bar = SECOND * step
+        part = SECOND * next(each for each in PARTS if step % each == 0)
         if part > self.step:
             self.lengthen(part)
 
@@ -139,18 +132,18 @@ class Groups:
         fate, client = fate_of(row), self.known("client", address_text(row.question.peer[0]))
         yield fate, ""
         yield row.question.moment // self.step * self.step, fate
-        yield "reason", reason_text(*reason_of(row.result))
+        yield "reason", reason_text(*reason_of(row))
         yield "client", client
         if fate == CACHED:
             yield "from the cache, of client", client
         if row.failed():
             yield "failed, of client", client
-        if fate in (EXPIRED, FAILED, UNANSWERED, WRONG):
+        if fate in (EXPIRED, FAILED, NO_ANSWER, REFUSED, WRONG):
             yield "failure", self.known("failure", failure_of(row, fate))
-        for attempt in row.result.attempts:
-            server = f"{attempt.server}{' over TCP' if attempt.transport == 'tcp' else ''}"
+        for query, how, _ in row.tries():
+            server = server_text(query)
             yield "server", server
-            if attempt.how != "answered":
+            if how != "answered":
                 yield "failed, at server", server
 
     def known(self, kind, of):
@@ -199,34 +192,33 @@ class Groups:
 
 def line_of(row):
     """What is shown of a question, from its style on."""
-    differs = "\n".join(row.differs()) if row.result.same == comparing.DIFFERENT else ""
+    differs = "\n".join(row.differs()) if row.is_different() else ""
     more = f"<pre>{escape(differs)}</pre>" if differs else ""
     return f'style="border-color:{FATES[fate_of(row)]}">{escape(row.line())}{more}'
 
 
 def fate_of(row):
     """One of FATES."""
-    result = row.result
-    if result.same == comparing.DIFFERENT:
+    if row.is_different():
         return WRONG
     if row.answer is None:
-        return UNANSWERED
-    if result.reason == 12:
+        return REFUSED if row.is_refused() else NO_ANSWER
+    if row.verdict.reason == 12:
         return EXPIRED
     if row.code not in ("NOERROR", "NXDOMAIN"):
         return FAILED
-    if result.reason == 13:
+    if row.verdict.reason == 13:
         return DENIED
-    if result.same == comparing.STOOD:
-        return UNJUDGED
-    return ASKED if result.attempts else CACHED
+    if row.verdict.kind == judge.OPEN:
+        return OPEN
+    return ASKED if row.is_asked() else CACHED
 
 
 def failure_of(row, fate):
     """The name, the type, and why it failed."""
-    why = REASONS.get(row.result.reason, fate)
+    why = REASONS.get(row.verdict.reason, fate)
     if row.answer is None:
-        why = WITHOUT.get(row.result.same, fate)
+        why = row.outcome()
     elif fate != EXPIRED:
         why = f"{row.code}, {why}"
     return row.name.lower(), row.kind, why

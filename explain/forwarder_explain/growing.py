@@ -7,8 +7,8 @@ from collections import deque
 
 from .capture import Unreadable
 from .files import first_moment, opened
+from .times import LOOK, SECOND
 
-LOOK = 0.1  # seconds between two looks for more
 AT_ONCE = 1 << 16  # octets of one read
 MOST_HEAD = 512  # octets at the beginning of a file by which it is known
 
@@ -41,7 +41,7 @@ class Pipe(Growing):
 
     def more(self):
         """The next octets; none at the end."""
-        while not select.select([self.number], [], [], LOOK)[0]:
+        while not select.select([self.number], [], [], LOOK / SECOND)[0]:
             self.reader.idle()
         self.reader.reading()
         return os.read(self.number, AT_ONCE)
@@ -136,7 +136,7 @@ class Ring:
 
     def wait(self):
         self.reader.idle()
-        time.sleep(LOOK)
+        time.sleep(LOOK / SECOND)
 
     def captures(self):
         """Each capture, as a file that grows."""

@@ -19,62 +19,26 @@ SHAPES = {
     33: (6, NAME),
     35: (4, STRING, STRING, STRING, NAME),
 }
-TYPES = {
-    1: "A",
-    2: "NS",
-    5: "CNAME",
-    6: "SOA",
-    12: "PTR",
-    13: "HINFO",
-    15: "MX",
-    16: "TXT",
-    17: "RP",
-    18: "AFSDB",
-    28: "AAAA",
-    29: "LOC",
-    33: "SRV",
-    35: "NAPTR",
-    39: "DNAME",
-    41: "OPT",
-    43: "DS",
-    44: "SSHFP",
-    46: "RRSIG",
-    47: "NSEC",
-    48: "DNSKEY",
-    50: "NSEC3",
-    51: "NSEC3PARAM",
-    52: "TLSA",
-    64: "SVCB",
-    65: "HTTPS",
-    99: "SPF",
-    250: "TSIG",
-    251: "IXFR",
-    252: "AXFR",
-    255: "ANY",
-    256: "URI",
-    257: "CAA",
+TYPES = {  # by name
+    int(number): name
+    for name, number in (
+        pair.split(" ")
+        for pair in (
+            "A 1,NS 2,CNAME 5,SOA 6,PTR 12,HINFO 13,MX 15,TXT 16,RP 17,AFSDB 18,AAAA 28,LOC 29,SRV 33,"
+            "NAPTR 35,DNAME 39,OPT 41,DS 43,SSHFP 44,RRSIG 46,NSEC 47,DNSKEY 48,NSEC3 50,"
+            "NSEC3PARAM 51,TLSA 52,SVCB 64,HTTPS 65,SPF 99,TSIG 250,IXFR 251,AXFR 252,ANY 255,"
+            "URI 256,CAA 257"
+        ).split(",")
+    )
 }
 CODES = (
-    "NOERROR",
-    "FORMERR",
-    "SERVFAIL",
-    "NXDOMAIN",
-    "NOTIMP",
-    "REFUSED",
-    "YXDOMAIN",
-    "YXRRSET",
-    "NXRRSET",
-    "NOTAUTH",
-    "NOTZONE",
-    "code 11",
-    "code 12",
-    "code 13",
-    "code 14",
-    "code 15",
+    *"NOERROR FORMERR SERVFAIL NXDOMAIN NOTIMP REFUSED YXDOMAIN YXRRSET NXRRSET NOTAUTH NOTZONE".split(" "),
+    *(f"code {number}" for number in range(11, 16)),
 )
 CNAME, SOA, NS, OPT = 5, 6, 2, 41
 ANSWER, AUTHORITY = 0, 1
 HEADER = 12  # octets
+COUNTS, HEAD = struct.Struct(">4H").unpack_from, struct.Struct(">2HIH").unpack_from
 
 
 class Malformed(Exception):
@@ -82,25 +46,23 @@ class Malformed(Exception):
 
 
 class Question(NamedTuple):
-    """What is asked: `key` is the name in lower case."""
+    """What is asked: `key` is the name in lower case; `same` is what makes questions equal, `written` their
+    octets, the name as it is spelled."""
 
     name: bytes
     key: bytes
     kind: int
     klass: int
+    same: tuple
+    written: bytes
 
-    def of(self):
-        """What makes questions equal."""
-        return self.key, self.kind, self.klass
-
-    def written(self):
-        """The octets of a question, the name as it is spelled."""
-        return self.name + struct.pack(">2H", self.kind, self.klass)
+    def text(self):
+        """Name and type, as a person writes them."""
+        return f"{text(self.name)} {kind_text(self.kind, self.klass)}"
 
 
 class Record(NamedTuple):
-    """A record; `at` is the offset of its lifetime in the message, `data` has its names written
-    out."""
+    """A record; `data` has its names written out."""
 
     section: int
     owner: bytes
@@ -109,7 +71,6 @@ class Record(NamedTuple):
     klass: int
     seconds: int
     data: bytes
-    at: int
 
 
 def identifier(octets):
@@ -163,7 +124,7 @@ def name_at(octets, at):
         raise Malformed("a name") from None
 
 
-@functools.lru_cache(maxsize=20_000)
+@functools.lru_cache(maxsize=5_000)
 def question_in(body):
     """The one question of a message without its identifier, or None."""
     return read_question(b"\0\0" + body)
@@ -178,7 +139,8 @@ def read_question(octets):
         kind, klass = struct.unpack_from(">2H", octets, at)
     except (Malformed, struct.error):
         return None
-    return Question(name, name.lower(), kind, klass)
+    key = name.lower()
+    return Question(name, key, kind, klass, (key, kind, klass), name + octets[at : at + 4])
 
 
 def question_of(octets):
@@ -191,25 +153,34 @@ def question_of(octets):
     return found if found or len(octets) <= 512 else question_in(octets[2:])
 
 
-def records(octets):
-    """The records of the answer and authority sections; raises where they can't be read."""
+def records(octets, asked=None):
+    """The records of the answer and authority sections; raises where they can't be read. Of an answer the
+    question is known, which is written out in it."""
     if len(octets) < HEADER:
         raise Malformed("a header")
-    counts = struct.unpack_from(">4H", octets, 4)
-    at, found = 12, []
+    counts = COUNTS(octets, 4)
+    at, found, known = HEADER, [], None
     try:
-        for _ in range(counts[0]):
-            at = name_at(octets, at)[1] + 4
+        if asked is not None:
+            at += len(asked.written)
+            known = b"\xc0\x0c"
+        else:
+            for _ in range(counts[0]):
+                at = name_at(octets, at)[1] + 4
         for section in range(3):
             for _ in range(counts[section + 1]):
-                owner, at = name_at(octets, at)
-                kind, klass, seconds, size = struct.unpack_from(">2HIH", octets, at)
+                if known is not None and octets[at : at + 2] == known:
+                    owner, key, at = asked.name, asked.key, at + 2
+                else:
+                    owner, at = name_at(octets, at)
+                    key = owner.lower()
+                kind, klass, seconds, size = HEAD(octets, at)
                 start, at = at + 10, at + 10 + size
                 if at > len(octets):
                     raise Malformed("a record")
-                data = written_out(octets, kind, start, at)
+                data = written_out(octets, kind, start, at) if kind in SHAPES else octets[start:at]
                 if section < 2:
-                    found.append(Record(section, owner, owner.lower(), kind, klass, seconds, data, start - 6))
+                    found.append(Record(section, owner, key, kind, klass, seconds, data))
     except (struct.error, IndexError):
         raise Malformed("a record") from None
     return found
@@ -217,11 +188,8 @@ def records(octets):
 
 def written_out(octets, kind, start, end):
     """The RDATA between two offsets with its names written out."""
-    shape = SHAPES.get(kind)
-    if shape is None:
-        return octets[start:end]
     parts, at = [], start
-    for part in shape:
+    for part in SHAPES[kind]:
         if part is NAME:
             name, after = name_at(octets, at)
             parts.append(name)
@@ -234,6 +202,7 @@ def written_out(octets, kind, start, end):
     return b"".join(parts)
 
 
+@functools.lru_cache(maxsize=5_000)
 def text(name):
     """A name in letters; what is no letter, digit, hyphen or underscore is escaped as RFC 1035 5.1
     has it."""
@@ -272,7 +241,7 @@ def parents(key):
 
 
 def is_under(key, suffix):
-    return any(above == suffix for above in parents(key))
+    return key == suffix or key.endswith(suffix) and any(above == suffix for above in parents(key))
 
 
 def kind_text(kind, klass=1):

@@ -6,7 +6,8 @@ import re
 
 from . import messages
 from .capture import Unreadable
-from .configuration import address_text
+from .times import MINUTE, SECOND
+from .wording import address_text, shown
 
 # Of times: the form, and whether it has a date.
 FORMS = (
@@ -22,9 +23,9 @@ FORMS = (
 def arguments(words):
     parser = argparse.ArgumentParser(
         prog="forwarder-explain",
-        description="Explain what the DNS forwarder did, from a capture of its traffic: have its proved step answer "
-        "the same questions, with the replies that its servers gave, say what became of each, and compare each answer.",
-        epilog="Status: 0 if no answer differs from the step's, 1 if one does, 2 if something can't be read. "
+        description="Explain what the DNS forwarder did, from a capture of its traffic: say what became of each "
+        "question, and judge each answer by what the forwarder claims.",
+        epilog="Status: 0 if no answer is different, 1 if one is, 2 if something can't be read. "
         "See forwarder-explain(1).",
     )
     parser.add_argument("configuration", metavar="CONFIG", help="the configuration that the forwarder had")
@@ -95,16 +96,24 @@ def is_client(text):
 def moment_of(text, first):
     """A time of the command line, in microseconds since 1970; without a date on the day of the
     capture's beginning."""
+    return span_of_text(text, first)[0]
+
+
+def span_of_text(text, first):
+    """From when and until when a time of the command line is: it may be written to the minute, to the second, or
+    more exactly."""
     if re.fullmatch(r"\d{9,}(\.\d+)?", text):
-        return int(float(text) * 1_000_000)
-    day = datetime.datetime.fromtimestamp(first / 1_000_000).date()
+        since = round(float(text) * SECOND)
+        return since, since + (0 if "." in text else SECOND)
+    day = datetime.datetime.fromtimestamp(first / SECOND).date()
     for form, dated in FORMS:
         try:
             found = datetime.datetime.strptime(text, form)
         except ValueError:
             continue
         found = found if dated else datetime.datetime.combine(day, found.time())
-        return int(found.timestamp() * 1_000_000)
+        since = round(found.timestamp() * SECOND)
+        return since, since + (0 if "%f" in form else SECOND if "%S" in form else MINUTE)
     raise Unreadable("is no time; 14:03, 14:03:02.5 and 2026-11-28T14:03 are", text)
 
 
@@ -113,15 +122,15 @@ def span_of(options, first):
     since = moment_of(options.since, first) if options.since else None
     until = moment_of(options.until, first) if options.until else None
     if options.at:
-        at = moment_of(options.at, first)
-        lasts = 60 if re.search(r"(^|T)\d+:\d+$", options.at) else 1
+        at, end = span_of_text(options.at, first)
+        end = max(end, at + SECOND)
         since = at if since is None else max(since, at)
-        until = at + 1_000_000 * lasts if until is None else min(until, at + 1_000_000 * lasts)
+        until = end if until is None else min(until, end)
     return since, until
 
 
-def chosen(options, questions, first):
-    """The questions that the options choose."""
+def chooser(options, first):
+    """Says of a question whether the options choose it."""
     since, until = span_of(options, first)
     suffix = messages.from_text(options.name) if options.name else None
     if options.name and suffix is None:
@@ -130,10 +139,8 @@ def chosen(options, questions, first):
     def is_chosen(question):
         if since is not None and question.moment < since or until is not None and question.moment >= until:
             return False
-        if options.client:
-            address = address_text(question.peer[0])
-            if options.client not in (address, f"{address}:{question.peer[1]}"):
-                return False
+        if options.client and options.client not in (address_text(question.peer[0]), shown(question.peer)):
+            return False
         return suffix is None or question.asked is not None and messages.is_under(question.asked.key, suffix)
 
-    return [question for question in questions if is_chosen(question)]
+    return is_chosen

@@ -17,6 +17,7 @@ from dpkt.tcp import TH_SYN as SYN
 from dpkt.udp import UDP
 
 from .capture import Unreadable
+from .times import SAME_FRAME, SAME_PACKET
 from .wording import counted
 
 LINKS = {
@@ -27,6 +28,9 @@ LINKS = {
     pcap.DLT_LINUX_SLL: SLL,
     pcap.DLT_LINUX_SLL2: SLL2,
 }
+MOST_SEEN = 8192  # packets of the last time
+MOST_IN_PIECES = 1000  # datagrams in fragments, of which some are missing
+VLAN = b"\x81\0"
 TRANSPORTS = {IP_PROTO_TCP: "tcp", IP_PROTO_UDP: "udp"}
 ANY_INTERFACE = (pcap.DLT_LINUX_SLL, pcap.DLT_LINUX_SLL2)
 # Of link types: where the protocol is, if anywhere, and where IP begins.
@@ -36,20 +40,21 @@ PLAIN_LINKS = {
     pcap.DLT_LINUX_SLL2: (0, 20),
     **dict.fromkeys((12, 14, 101, pcap.DLT_IPV4), (None, 0)),
 }
-SAME_PACKET = 5000  # microseconds within which a packet is seen on several interfaces
 
 
 class Datagram(NamedTuple):
-    """UDP: peers are `(address, port)`, the address in four octets."""
+    """UDP: peers are `(address, port)`, the address in four octets. Of one that `is_cut` the capture kept
+    the beginning alone."""
 
     moment: int
     source: tuple
     target: tuple
     octets: bytes
+    is_cut: bool = False
 
 
 class Segment(NamedTuple):
-    """TCP."""
+    """TCP. One that `is_cut` has fewer octets than it had."""
 
     moment: int
     source: tuple
@@ -57,6 +62,7 @@ class Segment(NamedTuple):
     sequence: int
     flags: int
     octets: bytes
+    is_cut: bool = False
 
 
 class Unreachable(NamedTuple):
@@ -82,18 +88,18 @@ class Decoder:
         self.seen = {}
         self.pieces = {}
 
-    def read(self, packet):
+    def read(self, moment, link, octets, is_cut):
         """A Datagram, a Segment, an Unreachable, or None."""
-        moment, link, octets = packet
         self.links[link] = self.links.get(link, 0) + 1
         whole = plain_datagram(link, octets)
         if whole is None:
-            return self.read_by_dpkt(moment, link, octets)
-        if link in ANY_INTERFACE and self.is_double(moment, whole):
+            self.cut += is_cut
+            return self.read_by_dpkt(moment, link, octets, is_cut)
+        if self.is_double(moment, link, whole):
             return None
         return datagram(moment, whole)
 
-    def read_by_dpkt(self, moment, link, octets):
+    def read_by_dpkt(self, moment, link, octets, is_cut):
         """Any packet that dpkt knows."""
         try:
             frame = LINKS[link](octets)
@@ -103,32 +109,34 @@ class Decoder:
             octets = octets[len(frame) - len(ip) :][: ip.len or None]  # a length of 0 is left to the network card
         except Exception:  # dpkt reads all protocols that it knows, and refuses with more than errors of its own
             return None
-        if link in ANY_INTERFACE and self.is_double(moment, octets):
+        if self.is_double(moment, link, octets):
             return None
-        if len(octets) < ip.len:
+        if len(octets) < ip.len and not is_cut:
             self.cut += 1
-            return None
+            is_cut = True
         if ip.mf or ip.offset:
-            payload = self.whole(ip, octets[4 * ip.hl :])
+            payload = None if is_cut else self.whole(ip, octets[4 * ip.hl :])
             if payload is None:
                 return None
             ip = IP(IP(p=ip.p, src=ip.src, dst=ip.dst, len=0).pack_hdr() + payload)
-        return carried(moment, ip)
+        return carried(moment, ip, is_cut)
 
-    def is_double(self, moment, octets):
-        """Whether the same packet was just seen on another interface, as it happens with `tcpdump
-        -i any`."""
-        octets = octets[:8] + octets[9:10] + octets[12:]  # without what each router changes
-        last = self.seen.get(octets)
-        self.seen[octets] = moment
-        if len(self.seen) > 4096:
+    def is_double(self, moment, link, octets):
+        """Whether the same packet was just seen on another interface, as it happens with `tcpdump -i any`, and on
+        a bridge."""
+        octets = hash(octets[:8] + octets[9:10] + octets[12:])  # without what each router changes
+        last, self.seen[octets] = self.seen.get(octets, 0), moment
+        if len(self.seen) > MOST_SEEN:
             self.seen = {key: when for key, when in self.seen.items() if moment - when <= SAME_PACKET}
-        return last is not None and moment - last <= SAME_PACKET
+        return moment - last <= (SAME_PACKET if link in ANY_INTERFACE else SAME_FRAME)
 
     def whole(self, ip, payload):
         """The payload once all fragments are there (RFC 791 3.2), else None."""
         key = ip.src, ip.dst, ip.id, ip.p
         pieces = self.pieces.setdefault(key, {})
+        if len(self.pieces) > MOST_IN_PIECES:
+            del self.pieces[next(iter(self.pieces))]
+            self.incomplete += 1
         pieces[8 * ip.offset] = (payload, bool(ip.mf))
         octets = b""
         while len(octets) in pieces:
@@ -153,7 +161,7 @@ class Decoder:
         for link, count in unknown.items():
             yield f"left out: {counted(count, 'packet')} of link type {link}, which is not known here"
         if self.cut:
-            yield f"left out: {counted(self.cut, 'packet')} cut short by the capture (tcpdump -s)"
+            yield f"{counted(self.cut, 'packet')} cut short by the capture (tcpdump -s)"
         if self.fragments:
             yield f"{counted(self.fragments, 'datagram')} put together from fragments"
         incomplete = self.incomplete + len(self.pieces)
@@ -167,6 +175,8 @@ def plain_datagram(link, octets):
     if link not in PLAIN_LINKS:
         return None
     kind, at = PLAIN_LINKS[link]
+    if kind == 12 and octets[12:14] == VLAN:
+        kind, at = 16, 18
     if len(octets) < at + 28 or kind is not None and octets[kind : kind + 2] != b"\x08\0":
         return None
     head, _, size, _, fragment, _, protocol = struct.unpack_from(">2B3H2B", octets, at)
@@ -184,13 +194,14 @@ def datagram(moment, octets):
     return Datagram(moment, source, target, octets[at + 8 : at + max(8, size)])
 
 
-def carried(moment, ip):
+def carried(moment, ip, is_cut):
     """What a packet carries: a Datagram, a Segment, an Unreachable, or None."""
     data = ip.data
     if isinstance(data, UDP):
-        return Datagram(moment, (ip.src, data.sport), (ip.dst, data.dport), data.data[: max(0, data.ulen - 8)])
+        octets = bytes(data.data)[: max(0, data.ulen - 8)]
+        return Datagram(moment, (ip.src, data.sport), (ip.dst, data.dport), octets, is_cut)
     if isinstance(data, TCP):
-        return Segment(moment, (ip.src, data.sport), (ip.dst, data.dport), data.seq, data.flags, data.data)
+        return Segment(moment, (ip.src, data.sport), (ip.dst, data.dport), data.seq, data.flags, data.data, is_cut)
     if isinstance(data, ICMP) and data.type == ICMP_UNREACH and isinstance(data.data, ICMP.Unreach):
         return unreachable(moment, data.code, ip.src, data.data.ip)
     return None

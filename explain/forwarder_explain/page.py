@@ -9,9 +9,8 @@ from html import escape
 
 from .capture import Unreadable
 from .charts import latency, over_time
-from .configuration import shown
-from .groups import FATES, MOST_LINES, MOST_OF_BAR, Groups
-from .wording import moment_text
+from .groups import FATES, MOST_LINES, MOST_OF_BAR
+from .wording import moment_text, shown
 
 MOST_FAILURES = 30  # names with a reason
 STYLE = """body{font:15px/1.45 sans-serif;max-width:72em;margin:1em auto;padding:0 1em;color:#222;background:#fff}

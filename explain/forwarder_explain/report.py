@@ -1,34 +1,25 @@
 """Lines, counts, and the same for programs."""
 import json
 
-from . import comparing, messages, story
-from .configuration import address_text, shown
-from .story import clock
-from .tally import Tally
-from .traffic import Query
-from .wording import counted, duration
+from . import judge, messages
+from .clients import DROPPED, REFUSED
+from .times import MILLISECOND, SECOND
+from .wording import clock, code_text, counted, duration, message_text, server_text, shown
 
-# What is said of questions that are not compared: the verb for one and for more, and the rest.
-UNCOMPARED = (
-    (comparing.BEFORE, ("rests", "rest"), "on what was kept before the capture began"),
-    (comparing.LOST, ("rests", "rest"), "on a packet that the capture lost"),
-    (comparing.STOOD, ("is", "are"), "not judged, since the service stood still"),
-    (comparing.UNANSWERED, ("got", "got"), "no answer that was captured, and the step gives one"),
-    (comparing.GONE, ("got", "got"), "no answer, since the connection had ended"),
-    (comparing.OPEN, ("got", "got"), "no answer: the capture ended, or the question was not taken"),
-    (comparing.DROPPED, ("was", "were"), "dropped: no question"),
-    (comparing.REFUSED, ("was", "were"), "refused by the service's machine"),
-    (comparing.ENDED, ("got", "got"), "no answer, since the service ended first"),
-)
+VERSION = 2  # of the objects of --json
 
 
 class Row:
-    """A question with its result, in words, which are made when they are wanted."""
+    """A question with its fate, in words, which are made when they are wanted."""
 
-    __slots__ = ("question", "result", "teller")
+    __slots__ = ("question", "teller")
 
-    def __init__(self, question, result, teller):
-        self.question, self.result, self.teller = question, result, teller
+    def __init__(self, question, teller):
+        self.question, self.teller = question, teller
+
+    @property
+    def verdict(self):
+        return self.question.verdict
 
     @property
     def answer(self):
@@ -36,19 +27,20 @@ class Row:
 
     @property
     def code(self):
-        return code_text(self.answer.octets) if self.answer else "-"
+        return code_text(self.answer) if self.answer is not None else "-"
 
     @property
     def took(self):
-        return (self.answer.moment - self.question.moment) / 1000 if self.answer else None
+        """Microseconds from the question to its answer, if it got one."""
+        return self.question.answered - self.question.moment if self.answer is not None else None
 
     @property
     def client(self):
-        return f"{address_text(self.question.peer[0])}:{self.question.peer[1]}"
+        return shown(self.question.peer)
 
     @property
     def transport(self):
-        return self.question.client.split(" ")[0]
+        return "tcp" if self.question.is_over_tcp() else "udp"
 
     @property
     def name(self):
@@ -59,109 +51,117 @@ class Row:
         asked = self.question.asked
         return messages.kind_text(asked.kind, asked.klass) if asked else "-"
 
-    @property
-    def words(self):
-        return self.teller.words(self.question, self.result)
+    def is_refused(self):
+        return self.question.over is not None and self.question.over[0] is REFUSED and self.answer is None
+
+    def outcome(self):
+        """Why there is no answer."""
+        return self.teller.outcome(self.question)
+
+    def is_different(self):
+        return self.verdict.kind == judge.DIFFERENT
+
+    def is_asked(self):
+        """Whether what is answered came while the question waited."""
+        used = [each for each in self.verdict.used if each is not None]
+        return not used or any(each.reply and each.reply.moment >= self.question.moment for each in used)
 
     def failed(self):
         """Whether `--failures` shows it."""
-        if self.result.same == comparing.DROPPED:
+        if self.question.over and self.question.over[0] is DROPPED:
             return False
-        return (
-            self.code not in ("NOERROR", "NXDOMAIN")
-            or self.result.same == comparing.DIFFERENT
-            or self.result.reason == 12
-        )
+        return self.code not in ("NOERROR", "NXDOMAIN") or self.is_different() or self.verdict.reason == 12
 
     def line(self):
         took = f"{duration(self.took)} ms" if self.took is not None else "-"
         asked = f"{self.client} {self.transport} {self.name} {self.kind}"
-        return f"{clock(self.question.moment)} {asked} {self.code} {took}: {self.words}"
+        return f"{clock(self.question.moment)} {asked} {self.code} {took}: {self.teller.words(self.question)}"
 
     def differs(self):
-        """Both messages of an answer that is not the step's."""
-        captured, step = self.answer.octets, self.result.octets
-        yield "    DIFFERENT: this answer is not the step's"
-        yield f"    captured  {story.message_text(captured)}"
-        yield f"              {captured.hex()}"
-        yield f"    the step  {story.message_text(step) if step else 'no answer'}"
-        if step:
-            yield f"              {step.hex()}"
+        """Why an answer is different, and the answer."""
+        yield f"    DIFFERENT: {self.verdict.why}"
+        yield f"    captured  {message_text(self.answer)}"
+        yield f"              {self.answer.hex()}"
+
+    def tries(self):
+        """Each query for a question, with its end."""
+        question = self.question
+        for place, query in enumerate(question.tries):
+            of = query.asked and query.asked.same
+            later = next((each for each in question.tries[place + 1 :] if each.asked and each.asked.same == of), None)
+            yield query, *self.teller.how(question, query, later)
 
     def object(self):
-        result = self.result
+        question = self.question
         said = {
-            "time": self.question.moment / 1_000_000,
+            "time": question.moment / SECOND,
             "client": self.client,
             "transport": self.transport,
             "name": self.name,
             "type": self.kind,
             "code": self.code,
-            "milliseconds": self.took,
-            "reason": result.reason,
-            "words": self.words,
-            "compared": result.same,
-            "read_late_milliseconds": result.late,
-            "script_line": result.line,
+            "milliseconds": self.took / MILLISECOND if self.took is not None else None,
+            "verdict": self.verdict.kind,
+            "why": self.verdict.why,
+            "reason": self.verdict.reason,
+            "words": self.teller.words(question),
             "tries": [
                 {
-                    "name": messages.text(attempt.name),
-                    "server": attempt.server,
-                    "transport": attempt.transport,
-                    "milliseconds": attempt.lasted,
-                    "how": attempt.how,
-                    **({"unfit": list(attempt.unfit)} if attempt.unfit else {}),
-                    **({"icmp": attempt.news} if attempt.news else {}),
+                    "name": messages.text(query.asked.name) if query.asked else "-",
+                    "server": shown(query.server),
+                    "transport": query.transport,
+                    "milliseconds": (query.ended - query.moment) / MILLISECOND if query.ended else None,
+                    "how": how,
+                    **({"unfit": [why for _, why in query.unfit]} if query.unfit else {}),
                 }
-                for attempt in result.attempts
+                for query, how, _ in self.tries()
             ],
         }
-        if result.loss:
-            said["loss"] = result.loss
-        if result.stood:
-            said["stood_still"] = [moment / 1_000_000 for moment in result.stood]
-        if result.same == comparing.DIFFERENT:
-            said["captured"], said["step"] = self.answer.octets.hex(), result.octets.hex()
+        if self.is_different():
+            said["captured"] = self.answer.hex()
         return said
 
 
 class Summary:
-    """What is said at the end: of a Tally, and of when the service began anew or had ended."""
+    """What is said at the end: of a Tally, and of what explained the packets."""
 
-    def __init__(self, tally, beginnings):
-        self.tally, self.beginnings = tally, beginnings
+    def __init__(self, tally, explaining):
+        self.tally, self.refused = tally, explaining.traffic.clients.refused
+        self.restarts = [*explaining.history.restarts, *explaining.history.told]
+        self.restarts.sort(key=lambda each: each.since)
+        self.steps, self.side = explaining.clock.steps, explaining.traffic.sides.missing()
 
     def verdict(self):
-        """The last lines: how many answers are the step's own octets."""
-        tally, same = self.tally, self.tally.same
+        """The last lines: how many answers are right."""
+        tally, kinds = self.tally, self.tally.kinds
         asked = f"{counted(tally.questions, 'question')}, {counted(tally.answers, 'answer')}"
-        parted = f"{same[comparing.SECOND]:,} but for a second, {same[comparing.DIFFERENT]:,} different"
-        yield f"{asked}: {are(same[comparing.SAME])} the step's own octets, {parted}"
-        for word, verb, text in UNCOMPARED:
-            if same[word]:
-                yield f"{same[word]:,} {verb[same[word] != 1]} {text}"
-        if tally.late:
-            rest = f"{tally.late:,} {'rests' if tally.late == 1 else 'rest'} on what was read {story.STILL} ms late"
-            yield f"{rest} or more: the service stood still, or was short of time"
-        for beginning in self.beginnings:
-            yield beginning_text(*beginning)
+        open_ = f"{kinds[judge.OPEN]:,} open, " if kinds[judge.OPEN] else ""
+        yield f"{asked}: {kinds[judge.RIGHT]:,} right, {open_}{kinds[judge.DIFFERENT]:,} different"
+        for why, count in tally.open.most_common():
+            said = f", {self.side}" if self.side and why == judge.BEFORE else ""
+            yield f"{count:,} open: {why}{said}"
+        for over, count in tally.unanswered.most_common():
+            yield f"{counted(count, 'question')} without an answer: {over.removeprefix('no answer: ')}"
+        if self.refused:
+            yield f"{counted(self.refused, 'connection')} refused: nothing listened"
+        for each in self.restarts:
+            yield restart_text(each)
         yield from self.queries_text()
 
     def queries_text(self):
-        """How many of the captured queries are the step's, and what the others are."""
-        paired, others = self.tally.paired, self.tally.other_queries
-        said = f"{counted(paired + others, 'query')} to servers: {are(paired)} the step's"
-        said += f", {are(others)} not" if others else ""
-        never_left, unshown = self.tally.never_left, self.tally.unshown
-        said += f"; {never_left:,} of the step's could not be sent" if never_left else ""
-        yield said + (f"; {unshown:,} of the step's {'has' if unshown == 1 else 'have'} no packet" if unshown else "")
-        for moment, server, transport, asked, on_route in self.tally.others:
-            over = " over TCP" if transport == "tcp" else ""
-            what = f"{messages.text(asked.name)} {messages.kind_text(asked.kind, asked.klass)}"
-            why = "" if on_route else ": it is not of the route of this name"
-            yield f"    {clock(moment)} {shown(server)}{over} was asked for {what}, and not by the step{why}"
-        if others > len(self.tally.others):
-            yield f"    and {others - len(self.tally.others):,} more"
+        """How many queries left, and those that no open question wants."""
+        tally, others = self.tally, self.tally.other_queries
+        for (server, why), count in tally.lacked.most_common():
+            yield f"{counted(count, 'query')} that the capture lacks did not reach {server}: {why}"
+        yield f"{counted(tally.queries, 'query')} to servers" + (
+            f", of which no open question wants {others:,}: another program's, or of a question that the capture lacks"
+            if others
+            else ""
+        )
+        for query in tally.others:
+            yield f"    {clock(query.moment)} {server_text(query)} was asked for {query.asked.text()}"
+        if others > len(tally.others):
+            yield f"    and {others - len(tally.others):,} more"
 
     def tables(self):
         """Counts by reason, by server and by client."""
@@ -178,48 +178,28 @@ class Summary:
         tally = self.tally
         return {
             "summary": {
+                "version": VERSION,
                 "questions": tally.questions,
                 "answers": tally.answers,
-                **tally.same,
-                "queries_of_the_step": tally.paired,
+                "right": tally.all[judge.RIGHT],
+                "open": tally.all[judge.OPEN],
+                "different": tally.all[judge.DIFFERENT],
+                "unanswered": tally.unanswered.total(),
+                "refused": tally.refused,
+                "refused_connections": self.refused,
+                "queries": tally.queries,
                 "other_queries": tally.other_queries,
-                "never_left": tally.never_left,
-                "without_a_packet": tally.unshown,
-                "begun_anew_by": [moment / 1_000_000 for moment, has_begun in self.beginnings if has_begun],
+                "begun_anew_by": [each.begun / SECOND for each in self.restarts if each.begun is not None],
+                "clock_steps": [[-each.by / SECOND, each.at / SECOND] for each in self.steps],
             }
         }
 
 
-def tallied(rows, events, history, explained):
-    """The counts of a whole run."""
-    tally = Tally()
-    for row in rows:
-        tally.add(row)
-    for event in events:
-        if isinstance(event, Query):
-            tally.add_query(event, history)
-    for other in explained.others:
-        tally.add_other(other)
-    for _, server, how in explained.unshown:
-        tally.add_unshown(server, how)
-    tally.paired, tally.never_left = explained.paired, explained.never_left
-    return tally
-
-
-def beginning_text(moment, has_begun):
-    """When the service showed that it had begun anew, or that it had ended."""
-    if has_begun:
-        return f"the service has begun anew by {clock(moment)}: its cache was empty"
-    return f"the service had ended by {clock(moment)}"
-
-
-def code_text(octets):
-    """The result code of a message; one that is too short has none."""
-    return messages.CODES[messages.code(octets)] if len(octets) >= messages.HEADER else f"{len(octets)} octets"
-
-
-def are(number):
-    return f"{number:,} {'is' if number == 1 else 'are'}"
+def restart_text(restart):
+    """That the service began anew, and what shows it."""
+    if restart.begun is None:
+        return f"the service had ended by {clock(restart.since)}: {restart.shown}"
+    return f"the service has begun anew by {clock(restart.begun)}: {restart.shown} at {clock(restart.since)}"
 
 
 def table(title, heads, rows):
@@ -229,12 +209,12 @@ def table(title, heads, rows):
         return
     widths = [max(len(str(row[place])) for row in cells) for place in range(len(heads) + 1)]
     for row in cells:
-        shown = [str(row[0]).ljust(widths[0])]
-        shown += [
+        shown_ = [str(row[0]).ljust(widths[0])]
+        shown_ += [
             str(cell).ljust(width) if head == "how" else str(cell).rjust(width)
             for cell, width, head in zip(row[1:], widths[1:], heads)
         ]
-        yield "  ".join(shown).rstrip()
+        yield "  ".join(shown_).rstrip()
     yield ""
 
 

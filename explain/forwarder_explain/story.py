@@ -1,205 +1,191 @@
-"""What became of a question, in words."""
-import time
+"""What became of a question, in words: what left for it while it waited, and what its answer rests on."""
 from collections import Counter
 
-from . import comparing, messages
-from .messages import CNAME, HEADER
-from .wording import duration
+from . import judge, messages
+from .clients import DROPPED, ENDED, GONE, REFUSED
+from .messages import HEADER
+from .times import MILLISECOND, SECOND, TICK
+from .upstream import ANSWERED, CUT, LAME, MALFORMED, MISSING, REFERRAL, UNTAKEN
+from .wording import clock, duration, server_text, shown
 
-FAILED = {
-    "silent": "silent for {} ms",
-    "silent, no packet": "no packet of it for {} ms",
-    "deadline, no packet": "no packet of it for {} ms, up to the deadline",
-    "deadline": "silent for {} ms, up to the deadline",
-    "cut": "a cut reply after {} ms",
-    "cut, query lost": "a cut reply; the capture lost the query",
-    "cut, reply lost": "a cut reply, which the capture lost",
-    "malformed": "a reply that can't be read after {} ms",
-    "referral": "a referral after {} ms",
-    "lame": "a reply that neither answers nor denies after {} ms",
-    "answered": "answered in {} ms",
-    "answered, query lost": "answered; the capture lost the query",
-    "answered, reply lost": "answered; the capture lost the reply",
-    "never left": "could not be sent",
-    "open": "no reply",
-    "unasked": "the capture has no such query",
-    "unseen": "given up after {} ms, for a reason that the capture does not have",
+ENDS = {
+    ANSWERED: "answered in {} ms",
+    CUT: "a cut reply after {} ms",
+    MALFORMED: "a reply that can't be read after {} ms",
+    REFERRAL: "a referral after {} ms",
+    LAME: "a reply that neither answers nor denies after {} ms",
+    UNTAKEN: "no reply that fits; one came after {} ms and was not taken",
+    MISSING: "a reply of which the capture lacks a part",
 }
-STILL = 300  # milliseconds by which something is read late if the service stood still
 MOST_UNFIT = 3  # kinds of replies that are named
 PLAIN = {
     1: "not exactly one question that can be read",
     2: "an operation that is not served",
     3: "a type or class that is not served",
-    7: "no free port was drawn",
     10: "more than 8 aliases, or they lead in a circle",
     11: "the answer has more than 65,535 octets",
 }
 
 
-def clock(micros):
-    """A moment as the clock of this machine shows it."""
-    seconds, rest = divmod(micros, 1_000_000)
-    return time.strftime("%H:%M:%S", time.localtime(seconds)) + f".{rest // 1000:03}"
-
-
 class Teller:
-    """Puts results into words."""
+    """Puts fates into words."""
 
-    def __init__(self, configuration, history, missing_ports=frozenset()):
-        self.configuration, self.history = configuration, history
-        self.limits, self.missing_ports = configuration.limits, missing_ports
+    def __init__(self, configuration, history):
+        self.configuration, self.history, self.limits = configuration, history, configuration.limits
+        self.ask = self.limits["ask_ms"] * MILLISECOND
 
-    def words(self, question, result):
+    def words(self, question):
         """What became of a question, in one line."""
-        said = self.unjudged(question, result)
-        if said is None:
-            said = self.by_reason(question, result)
-            if question.answer and messages.is_cut(question.answer.octets) and result.reason in (0, 12):
-                said += "; cut, since it has more than 512 octets"
-        if result.late >= STILL:
-            said += f"; read {result.late:,} ms late"
-        if result.loss:
-            said += f"; the capture seems to have lost {result.loss}"
-        if result.same == comparing.UNANSWERED:
-            said += "; no answer was captured"
-        elif result.same == comparing.GONE:
-            said += "; the connection ended before the answer"
-        elif result.same == comparing.BEFORE and result.reason is None:
-            said = self.without_packet(question.asked.key) or "from what was kept before the capture began"
-        return said
+        verdict = question.verdict
+        said = self.without_answer(question) if question.answer is None else self.by_reason(question, verdict)
+        if question.answer and messages.is_cut(question.answer) and verdict.reason in (0, 12):
+            said += "; cut, since it has more than 512 octets"
+        return said + self.meanwhile(question)
 
-    def without_packet(self, key):
-        """Words for an answer of which no packet shows the source, if a server for its name may have been asked; or
-        nothing."""
-        ports, _ = self.configuration.ports_among(key, self.missing_ports)
-        return f"from the cache, or of a server at port {ports[0]}, of which the capture has no packet" if ports else ""
+    def without_answer(self, question):
+        """Words for a question without an answer."""
+        said = self.outcome(question)
+        if said == DROPPED:
+            return said + (": fewer than 12 octets" if len(question.octets) < HEADER else ": a response")
+        return f"{said}; {self.asked(question)}" if question.tries else said
 
-    def unjudged(self, question, result):
-        """Words where the step gives no reply."""
-        if result.same == comparing.REFUSED:
-            went_on = self.history.eras.latest(question.refused) < question.refused
-            return "refused: by a packet filter, since the service went on" if went_on else "refused: nothing listened"
-        if result.same == comparing.ENDED:
-            return "no answer: the service ended first"
-        if result.same == comparing.DROPPED:
-            return "dropped: " + ("fewer than 12 octets" if len(question.octets) < HEADER else "a response")
-        if result.same == comparing.STOOD:
-            since, until = map(clock, result.stood)
-            return f"not judged: the service stood still from {since} to {until}"
-        if result.same == comparing.OPEN:
-            return "no answer: the capture ended, or the question was not taken"
-        if result.reason is None:
-            return self.without_answer(question, result)
-        return None
+    def outcome(self, question):
+        """Why a question has no answer."""
+        over, moment = question.over or (None, None)
+        if over is REFUSED:
+            has_ended = any(each.since <= moment <= each.until for each in self.history.restarts)
+            return "refused: nothing listened" if has_ended else "refused: by a packet filter, since the service went on"
+        return {
+            DROPPED: DROPPED,
+            ENDED: "no answer: the service ended first",
+            GONE: "no answer: the connection ended first",
+            None: "no answer was captured",
+        }[over]
 
-    def without_answer(self, question, result):
-        """Words for an answer of the capture where the step waits still."""
-        said = "the step gives no answer yet"
-        if result.attempts:
-            said += ": it asks " + self.tries(question, result)
-        found = self.history.found.get(question)
-        if found and found.expired:
-            ago = (question.read // 1000 - found.expired.end()) / 1000
-            said += f"; what was kept had expired {ago:,.1f} s before"
-        return said
-
-    def by_reason(self, question, result):
-        reason = result.reason
+    def by_reason(self, question, verdict):
+        reason = verdict.reason
         if reason in PLAIN:
             return PLAIN[reason]
         if reason == 4:
-            return "no route has a suffix that the name is under" + self.aliases(result.octets)
+            return "no route has a suffix that the name is under" + self.aliases(question)
         if reason == 5:
             return f"{self.limits['questions']:,} questions were waiting, as many as may"
         if reason == 6:
             return f"{self.limits['inquiries']:,} different questions were asked at one time, as many as may"
         if reason == 13:
-            name = last_name(question, result.octets)
-            route = self.configuration.route_of(name.lower())
-            return f"denied by the configuration: route {route.shown if route else ''}" + self.aliases(result.octets)
-        failed = self.failed(result)
+            route = self.configuration.route_of(last_name(question))
+            return f"denied by the configuration: route {route.shown if route else ''}" + self.aliases(question)
         if reason == 8:
-            return f"{failed}: {self.tries(question, result)}"
+            return self.failed(question, verdict)
         if reason == 9:
-            return f"the deadline of {self.limits['deadline_ms']:,} ms: {self.tries(question, result)}"
+            tries = self.tries(question)
+            return f"the deadline of {self.limits['deadline_ms']:,} ms" + (f": {tries}" if tries else "")
         if reason == 12:
-            before = ", kept since before the capture" if result.same == comparing.BEFORE else ""
-            return f"expired data{before}, since {failed}: {self.tries(question, result)}" + self.aliases(result.octets)
-        return self.answered(question, result)
+            before = " from before the capture" if verdict.why == judge.BEFORE else ""
+            return f"expired data{before}, since {self.failed(question, verdict)}{self.aliases(question)}"
+        return self.answered(question, verdict) + self.aliases(question)
 
-    def failed(self, result):
-        """That all tries failed, also those before a question came that joined."""
-        tries = self.limits["tries"]
+    def failed(self, question, verdict):
+        """Which tries failed."""
+        tries, listed = self.limits["tries"], self.tries(question)
+        if verdict.why == judge.NOT_SEEN:
+            return f"not all tries are in the capture: {listed}" if listed else "no query for it is in the capture"
         said = f"all {tries} tries failed" if tries > 1 else "the only try failed"
-        names = [attempt.name.lower() for attempt in result.attempts]
-        before = tries - names.count(names[-1]) if names else 0
-        if before <= 0:
-            return said
-        return f"{said}, the first {'one' if before == 1 else before} before this question joined"
+        before = max((each.number for each in question.tries), default=0) - len(question.tries)
+        if before > 0 and question.joined:
+            said += f", the first {'one' if before == 1 else before} before this question joined"
+        return f"{said}: {listed}" if listed else said
 
-    def answered(self, question, result):
-        if result.attempts:
-            verb = "joined a query under way to" if result.joined else "asked"
-            return f"{verb} {self.tries(question, result)}{self.aliases(result.octets)}"
-        return self.from_cache(question, result) + self.aliases(result.octets)
+    def answered(self, question, verdict):
+        """Words for an answer: what was asked for it, or where the cache has it from."""
+        if verdict.kind == judge.DIFFERENT:
+            return self.asked(question) if question.tries else "no query for it is in the capture"
+        replies = [each.reply for each in verdict.used if each is not None]
+        is_cached = bool(replies) and all(reply is None or reply.moment < question.moment for reply in replies)
+        if not is_cached and question.tries:
+            return self.asked(question)
+        if is_cached:
+            return self.from_cache(question, verdict.used[-1])
+        return "no query for it is in the capture"
 
-    def from_cache(self, question, result):
-        found = self.history.found.get(question)
-        if not found or not found.answers or not found.used:
-            return "from the cache"
-        held = found.used[-1]
-        left = left_in(result.octets)
-        if left is None:
-            left = max(0, held.end() - question.moment // 1000) // 1000
-        if held.source is None and self.without_packet(held.key):
-            return self.without_packet(held.key)
-        if held.source is None:
-            origin = f"kept since before the capture, {left:,} s left"
+    def asked(self, question):
+        verb = "joined a query under way to" if question.joined else "asked"
+        return f"{verb} {self.tries(question)}"
+
+    def from_cache(self, question, used):
+        """Where the cache has an answer from."""
+        parts = question.verdict.parts
+        left = parts[-1].seconds if parts and parts[-1].rows else max(0, used.ends()[1] - question.answered) // SECOND
+        if used.reply is None:
+            origin = f"from before the capture, {left:,} s left"
         else:
-            asked = held.source.query
-            origin = f"asked of {server_text(asked)} at {clock(asked.moment)}, {left:,} s left"
-        if held.kind is None and held.key != found.missed:
-            return f"from the cache: {messages.text(held.key)} is denied, and so is what is below it ({origin})"
+            query = used.reply.query
+            origin = f"asked of {server_text(query)} at {clock(query.moment)}, {left:,} s left"
+            asked = query.asked.key
+            if used.form == "name error" and asked != last_name(question):
+                return f"from the cache: {messages.text(asked)} is denied, and so is what is below it ({origin})"
         return f"from the cache ({origin})"
 
-    def tries(self, question, result):
+    def tries(self, question):
         """Each try, in order."""
-        asked, parts = question.asked.key if question.asked else b"", []
-        for attempt in result.attempts:
-            how = how_text(attempt)
-            name = ""
-            if attempt.name.lower() != asked:
-                name, asked = f"for {messages.text(attempt.name)} ", attempt.name.lower()
-            parts.append(f"{name}{attempt.server}{' over TCP' if attempt.transport == 'tcp' else ''} ({how})")
-        return ", ".join(parts) or "no query is known"
+        name, parts, tries = question.asked.key if question.asked else b"", [], question.tries
+        for place, query in enumerate(tries):
+            said = ""
+            if query.asked and query.asked.key != name:
+                name = query.asked.key
+                said = f"for {messages.text(query.asked.name)} "
+            later = next((each for each in tries[place + 1 :] if each.asked and each.asked.key == name), None)
+            parts.append(f"{said}{server_text(query)} ({self.how(question, query, later)[1]})")
+        said = ", ".join(parts)
+        answered = [each.asked.same for each in tries if each.is_shared and each.how is ANSWERED]
+        if len(set(answered)) < len(answered):
+            said += "; two were open at once: one is another program's, or the service was slow"
+        return said
+
+    def how(self, question, query, later):
+        """How a query ended, and the same in a line; `later` is the next one for the same, if any."""
+        until = later.moment if later else question.answered
+        if query.how is not None and (question.answered is None or query.ended <= question.answered):
+            lasted, how = (query.reply.moment if query.reply else query.ended) - query.moment, query.how
+            after = " after {} ms" if lasted else ""
+            return how, ENDS.get(how, how + after).format(duration(lasted))
+        unfit = [why for moment, why in query.unfit if question.answered is None or moment <= question.answered]
+        if unfit:
+            return "unfit", f"no reply that fits; {unfit_text(unfit)}"
+        if any(query.moment < each.since <= (until or each.since) for each in self.history.restarts):
+            return "ended", "given up when the service ended"
+        if until is None:
+            return "open", "no reply"
+        lasted = until - query.moment
+        if lasted >= self.ask - TICK:
+            return "silent", f"silent for {duration(lasted)} ms"
+        if later:
+            return "unseen", f"given up after {duration(lasted)} ms, or another program's"
+        if question.verdict.reason == 9:
+            return "deadline", f"silent for {duration(lasted)} ms, up to the deadline"
+        return "open", "no reply"
 
     @staticmethod
-    def aliases(octets):
+    def aliases(question):
         """How many aliases an answer has, and where they lead."""
-        aliases = aliases_of(octets)
-        if not aliases:
+        found = aliases_of(question)
+        if not found:
             return ""
-        return f"; {len(aliases)} alias{'es' if len(aliases) > 1 else ''} to {messages.text(aliases[-1])}"
+        return f"; {'1 alias' if len(found) == 1 else f'{len(found)} aliases'} to {messages.text(found[-1])}"
 
-
-def left_in(octets):
-    """The seconds that the last record of an answer has left; None if it has none."""
-    found = messages.records(octets)
-    return found[-1].seconds if found else None
-
-
-def how_text(attempt):
-    """How a try ended, and why the replies that came to it were not used."""
-    if attempt.unfit:
-        return f"no reply that fits; {unfit_text(attempt.unfit)}"
-    said = FAILED.get(attempt.how, attempt.how + " after {} ms").format(duration(attempt.lasted))
-    return f"{said}: {attempt.news}" if attempt.news else said
+    @staticmethod
+    def meanwhile(question):
+        """The clients that asked the same while a question waited."""
+        if not question.others or not question.tries:
+            return ""
+        peers = list(dict.fromkeys(map(shown, question.others)))
+        more = " and more" if len(question.others) > 3 else ""
+        return f"; {', '.join(peers[:3])}{more} asked the same meanwhile"
 
 
 def unfit_text(unfit):
-    """The replies that were not used, those of one kind together: one came from 10.0.0.11:53, 2
-    with another identifier."""
+    """The replies that were not used, those of one kind together: one came from 10.0.0.11:53, 2 with another
+    identifier."""
     parts = [f"{'one' if count == 1 else f'{count:,}'} {why}" for why, count in Counter(unfit).items()]
     parts[0] = parts[0].replace(" ", " came ", 1)
     if len(parts) > MOST_UNFIT:
@@ -207,45 +193,13 @@ def unfit_text(unfit):
     return ", ".join(parts)
 
 
-def aliases_of(octets):
+def aliases_of(question):
     """The names that the aliases of an answer lead to, in order."""
-    try:
-        found = [record for record in messages.records(octets) if record.section == 0]
-        question = messages.question_of(octets)
-    except messages.Malformed:
-        return []
-    if question is None or question.kind == CNAME:
-        return []
-    return [record.data for record in found if record.kind == CNAME]
+    parts = question.verdict.parts
+    return [each.rows[0] for each in parts if each.kind == messages.CNAME != question.asked.kind]
 
 
-def last_name(question, octets):
-    aliases = aliases_of(octets)
-    return aliases[-1] if aliases else question.asked.name
-
-
-def server_text(query):
-    address, port = query.server
-    return f"{'.'.join(map(str, address))}:{port}{' over TCP' if query.transport == 'tcp' else ''}"
-
-
-def message_text(octets):
-    """A message in short: code, flags, and the records of its first two sections."""
-    if len(octets) < 12:
-        return f"{len(octets)} octets"
-    parts = [messages.CODES[messages.code(octets)], *(["cut"] if messages.is_cut(octets) else [])]
-    try:
-        for record in messages.records(octets):
-            kind = messages.kind_text(record.kind, record.klass)
-            parts.append(f"{messages.text(record.owner)} {record.seconds} {kind} {data_text(record)}")
-    except messages.Malformed:
-        parts.append("records that can't be read")
-    return "; ".join(parts)
-
-
-def data_text(record):
-    if record.kind == 1 and len(record.data) == 4:
-        return ".".join(map(str, record.data))
-    if record.kind in (2, 5, 12):
-        return messages.text(record.data)
-    return record.data.hex() if len(record.data) <= 24 else f"{record.data[:24].hex()}.. ({len(record.data)} octets)"
+def last_name(question):
+    """The name to which the aliases of an answer lead."""
+    found = aliases_of(question)
+    return found[-1].lower() if found else question.asked.key

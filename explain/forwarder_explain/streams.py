@@ -72,20 +72,22 @@ class Side:
 class Connection:
     """A connection: whoever began it is the client. `fin` and `reset` say how each side ended it.
 
-    `number` is that of a client's connection, `query` that of a connection to a server, and `first`
-    the sequence number with which it began, if the capture has that.
+    `query` is that of a connection to a server, None of a client's; `first` is the sequence number with
+    which it began, if the capture has that; `last` is when its last packet came.
     """
 
     def __init__(self, client, server, moment):
-        self.client, self.server, self.began = client, server, moment
+        self.client, self.server, self.began, self.last = client, server, moment, moment
         self.sides = {True: Side(), False: Side()}
         self.fin, self.reset = {}, None
-        self.number = self.query = self.first = None
-        self.is_refused = False
+        self.query = self.first = None
+        self.is_refused = self.has_gap = False
 
     def take(self, segment):
         """The messages that this segment completes, and whether the client sent them."""
         from_client = segment.source == self.client
+        self.last = segment.moment
+        self.has_gap |= segment.is_cut
         messages = self.sides[from_client].take(segment)
         if segment.flags & RST:
             self.reset = self.reset or (segment.moment, from_client)
@@ -98,6 +100,7 @@ class Connection:
         and its octets."""
         found = []
         for from_client, side in self.sides.items():
+            self.has_gap |= bool(side.waiting)
             while side.waiting:
                 side.skip_gap()
                 found += [(side.moment, from_client, message) for message in side.messages()]

@@ -2,10 +2,9 @@
 questions."""
 from collections import Counter, defaultdict
 
-from . import comparing, story
-from .configuration import address_text
-from .strangers import strangeness
-from .wording import duration
+from . import judge
+from .upstream import ANSWERED, REPLIED
+from .wording import address_text, duration, server_text
 
 REASONS = {
     0: "answered",
@@ -23,23 +22,23 @@ REASONS = {
     12: "expired data",
     13: "denied by the configuration",
 }
-MOST_SHOWN, MOST_CLIENTS = 10, 20  # of queries that are not the step's, and of the clients that asked most
+MOST_SHOWN, MOST_CLIENTS = 10, 20  # of queries that no question wants, and of the clients that asked most
 MOST_COUNTED = 10_000  # clients with counts of their own, and ways in which queries to one server failed
 MOST_SLOW = 5
-FORGOTTEN = "open at a restart"  # a query that the service forgot as it ended
 OTHERS = "others"
 
 
 class Times:
-    """Times in milliseconds, those together that are shown alike."""
+    """Times in microseconds, those together that are shown alike."""
 
     def __init__(self):
         self.counts, self.number = {}, 0
 
-    def add(self, milliseconds):
-        shown = duration(milliseconds)
-        least, count = self.counts.get(shown, (milliseconds, 0))
-        self.counts[shown] = min(least, milliseconds), count + 1
+    def add(self, micros, shown=None):
+        """Takes a time, and how it is shown, if that is known."""
+        shown = shown or duration(micros)
+        least, count = self.counts.get(shown, (micros, 0))
+        self.counts[shown] = min(least, micros), count + 1
         self.number += 1
 
     def spread(self):
@@ -73,61 +72,57 @@ class Group:
 
 
 class Tally:
-    """What a summary says, without the questions themselves."""
+    """What a summary says, without the questions themselves. `kinds` counts answers by verdict, `all` all
+    questions, `open` the open ones by the reason."""
 
     def __init__(self):
-        self.questions = self.answers = self.late = self.paired = self.never_left = self.other_queries = 0
-        self.unshown = 0
-        self.same, self.others, self.slow = Counter(), [], []
+        self.questions = self.answers = self.refused = self.queries = self.other_queries = 0
+        self.kinds, self.all, self.open, self.unanswered = Counter(), Counter(), Counter(), Counter()
+        self.others, self.slow, self.lacked = [], [], Counter()
         self.reasons, self.servers, self.clients = (defaultdict(Group) for _ in range(3))
 
     def add(self, row):
         """Counts a question."""
-        result, took = row.result, row.took
-        reason = reason_of(result)
-        is_cached = reason == (0, False)
+        verdict, took = row.verdict, row.took
+        reason = reason_of(row)
         self.questions += 1
-        self.answers += row.answer is not None
-        self.late += result.late >= story.STILL
-        self.same[result.same] += 1
+        self.all[verdict.kind] += 1
+        if row.answer is None:
+            self.unanswered[row.outcome()] += 1
+            self.refused += row.is_refused()
+        else:
+            self.answers += 1
+            self.kinds[verdict.kind] += 1
+            if verdict.kind == judge.OPEN:
+                self.open[verdict.why if len(self.open) < MOST_SHOWN else OTHERS] += 1
         client = address_text(row.question.peer[0])
         client = client if client in self.clients or len(self.clients) < MOST_COUNTED else OTHERS
+        has_failed, shown = row.failed(), duration(took) if took is not None else None
         for group in (self.reasons[reason], self.clients[client]):
             group.number += 1
-            group.cached += is_cached
-            group.failed += row.failed()
+            group.cached += reason == (0, False)
+            group.failed += has_failed
             if took is not None:
-                group.times.add(took)
+                group.times.add(took, shown)
         if took is not None and (len(self.slow) < MOST_SLOW or took > self.slow[-1][0]):
             self.slow = sorted([*self.slow, (took, row.line())], key=lambda each: -each[0])[:MOST_SLOW]
 
-    def add_query(self, query, history):
-        """Counts a query that the capture has."""
-        if query.is_lost or query in history.foreign:
+    def add_query(self, query):
+        """Counts a query whose time is over."""
+        if query.is_lacked:
+            self.lacked[server_text(query), query.how] += 1
             return
-        group = self.servers[story.server_text(query)]
+        self.queries += 1
+        if not query.is_wanted and query.asked:
+            self.other_queries += 1
+            if len(self.others) < MOST_SHOWN:
+                self.others.append(query)
+        group = self.servers[server_text(query)]
         group.number += 1
-        verdict = history.closed.get(query, (None, "silent"))[1]
-        reply = next(
-            (reply for reply in query.replies if history.verdicts.get(reply) not in ("stranger", None)),
-            None,
-        )
-        if reply:
-            group.times.add((reply.moment - query.moment) / 1000)
-        if verdict != "answered":
-            group.fail(silence(query) if verdict == "silent" else FORGOTTEN if verdict == "ended" else verdict)
-
-    def add_unshown(self, server, how):
-        """Counts a query of the step that the service must have sent, and that has no packet in the capture."""
-        self.unshown += 1
-        self.servers[server].number += 1
-        self.servers[server].fail(how)
-
-    def add_other(self, other):
-        """Counts a captured query that is not the step's."""
-        self.other_queries += 1
-        if len(self.others) < MOST_SHOWN:
-            self.others.append(other)
+        if query.how in REPLIED:
+            group.times.add((query.reply.moment if query.reply else query.ended) - query.moment)
+        if query.how != ANSWERED:
+            group.fail(query.how or (f"replied {query.unfit[0][1]}" if query.unfit else "silent"))
 
     def by_reason(self):
         for reason, group in sorted(self.reasons.items()):
@@ -154,25 +149,17 @@ class Tally:
             )
 
     def differs(self):
-        return self.same[comparing.DIFFERENT] > 0
+        return self.all[judge.DIFFERENT] > 0
 
 
-def reason_of(result):
-    """The reason of a result, -1 if it has none; and whether a server was asked for an answer."""
-    reason = result.reason if result.reason is not None else -1
-    return reason, reason == 0 and bool(result.attempts)
+def reason_of(row):
+    """The reason of a row, -1 if it has none; and whether a server was asked for an answer."""
+    reason = row.verdict.reason if row.verdict.reason is not None else -1
+    return reason, reason == 0 and row.is_asked()
 
 
 def reason_text(reason, is_asked):
     """The row of a reason in a table."""
     if reason == 0:
         return f"0 {REASONS[0]} {'by a server' if is_asked else 'from the cache'}"
-    return f"{reason} {REASONS[reason]}" if reason > 0 else "- not judged"
-
-
-def silence(query):
-    """How a query ended to which no reply was used."""
-    reply = next(iter(query.replies), None)
-    if reply is None:
-        return "silent"
-    return f"replied {strangeness(reply) or ('and not taken' if reply.untaken else 'late')}"
+    return f"{reason} {REASONS[reason]}" if reason > 0 else "- no reason is shown"

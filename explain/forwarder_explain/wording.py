@@ -1,5 +1,8 @@
-"""Numbers and moments in words."""
+"""Numbers, moments, peers and records in words."""
 import time
+
+from . import messages
+from .times import MILLISECOND, SECOND
 
 
 def counted(number, noun):
@@ -8,12 +11,70 @@ def counted(number, noun):
     return f"{number:,} {noun if number == 1 else plural}"
 
 
-def duration(milliseconds):
+def duration(micros):
     """Milliseconds: below ten with one decimal."""
-    return f"{milliseconds:.1f}" if 0 < milliseconds < 10 else f"{milliseconds:,.0f}"
+    milliseconds = micros / MILLISECOND
+    return f"{milliseconds:.1f}" if 0 < milliseconds < 9.95 else f"{milliseconds:,.0f}"
+
+
+def seconds_text(micros):
+    return f"{micros / SECOND:,.1f} s"
+
+
+CLOCKS = {}  # seconds since 1970 as the clock shows them: many packets come in one second
+
+
+def clock(micros):
+    """A moment as the clock of this machine shows it."""
+    whole, rest = divmod(micros, SECOND)
+    shown = CLOCKS.get(whole)
+    if shown is None:
+        if len(CLOCKS) > 1000:
+            CLOCKS.clear()
+        shown = CLOCKS[whole] = time.strftime("%H:%M:%S", time.localtime(whole))
+    return f"{shown}.{rest // MILLISECOND:03}"
 
 
 def moment_text(micros):
     """A moment with its date, as an option has it."""
-    seconds, rest = divmod(micros, 1_000_000)
-    return time.strftime("%Y-%m-%dT%H:%M:%S", time.localtime(seconds)) + f".{rest // 1000:03}"
+    return time.strftime("%Y-%m-%dT", time.localtime(micros // SECOND)) + clock(micros)
+
+
+def shown(peer):
+    """A peer as the configuration writes it."""
+    return f"{address_text(peer[0])}:{peer[1]}"
+
+
+def address_text(octets):
+    return "%d.%d.%d.%d" % tuple(octets)
+
+
+def server_text(query):
+    return shown(query.server) + (" over TCP" if query.transport == "tcp" else "")
+
+
+def code_text(octets):
+    """The result code of a message; one that is too short has none."""
+    return messages.CODES[messages.code(octets)] if len(octets) >= messages.HEADER else f"{len(octets)} octets"
+
+
+def message_text(octets):
+    """A message in short: code, flags, and the records of its first two sections."""
+    if len(octets) < messages.HEADER:
+        return f"{len(octets)} octets"
+    parts = [code_text(octets), *(["cut"] if messages.is_cut(octets) else [])]
+    try:
+        for record in messages.records(octets):
+            kind = messages.kind_text(record.kind, record.klass)
+            parts.append(f"{messages.text(record.owner)} {record.seconds} {kind} {data_text(record.kind, record.data)}")
+    except messages.Malformed:
+        parts.append("records that can't be read")
+    return "; ".join(parts)
+
+
+def data_text(kind, data):
+    if kind == 1 and len(data) == 4:
+        return address_text(data)
+    if kind in (2, 5, 12):
+        return messages.text(data)
+    return data.hex() if len(data) <= 24 else f"{data[:24].hex()}.. ({len(data)} octets)"

@@ -17,9 +17,8 @@ import unittest.mock
 from types import SimpleNamespace
 
 import many
-from forwarder_explain import command, comparing, configuration, following, growing
+from forwarder_explain import command, configuration, following, growing, times
 from forwarder_explain.capture import Capture
-from forwarder_explain.traffic import Question
 from making import START, asked
 from office import FIRST, ONE, OTHER, SECOND, Scene
 from repository.packing import address
@@ -28,7 +27,7 @@ HERE = pathlib.Path(__file__).resolve().parent
 CAPTURES = HERE / "captures"
 TOOL = HERE.parent / "forwarder-explain"
 LONGEST = 30  # seconds that a line may take; it takes one, and on a machine that is short of time ten
-PIECED = "answers", "connections", "dropped", "failures", "forgotten_alias", "gaps", "kept_before", "lost", "restarted"
+PIECED = "answers", "connections", "dropped", "failures", "forgotten_alias", "gaps", "kept_before", "lost", "refused"
 
 
 class Followed:
@@ -168,7 +167,7 @@ def files_that_get_other_names(program):
         run = Followed(program, folder, "--from", "2026-11-28T14:03")
         yield "before", run.lines(2), wanted[:2]
         first.rename(kept)
-        time.sleep(3 * growing.LOOK)
+        time.sleep(3 * times.LOOK / times.SECOND)
         first.write_bytes(head + b"".join(packets[6:]))
         yield "after", run.lines(7), wanted[2:9]
         left, said, status = run.end(signal.SIGTERM)
@@ -217,7 +216,7 @@ def ended_by_a_signal(program):
     printed, said, status = run.end(signal.SIGINT)
     yield "open", (first, printed[0].partition(": ")[2], status), (
         stored("answers", "expected").splitlines(keepends=True)[:1],
-        "no answer: the capture ended, or the question was not taken\n",
+        "no answer was captured\n",
         0,
     )
 
@@ -227,15 +226,15 @@ class Ended(following.Follower):
     `more` for each packet that is taken."""
 
     def __init__(self, program, octets, more):
-        options = command.arguments(["--program", program, "--follow", "office.toml", "-"])
+        options = command.arguments(["--program", program, "--follow", "--summary", "office.toml", "-"])
         settings = configuration.read(CAPTURES / "office.toml", program)
-        super().__init__(options, settings, lambda _: None, lambda *_: None, lambda _: None)
-        (self.came, self.sent), self.more, self.taken = os.pipe(), more, 0
+        super().__init__(options, settings, lambda _: None)
+        (self.came_from, self.sent), self.more, self.taken = os.pipe(), more, 0
         os.write(self.sent, octets)
 
     def reading(self):
         super().reading()
-        self.stop()
+        self.stops = max(1, self.stops)
 
     def take(self, packet):
         super().take(packet)
@@ -244,10 +243,12 @@ class Ended(following.Follower):
 
     def counted(self):
         """How many packets were taken, and how many questions explained."""
-        with open(self.came, "rb", 0) as file, open(self.sent, "wb", 0):
+        with open(self.came_from, "rb", 0) as file, open(self.sent, "wb", 0):
             with unittest.mock.patch.object(following, "opened", lambda _: file):
-                summary = following.follow(self.options, self.settings, self)
-        return self.taken, summary.tally.questions
+                with unittest.mock.patch.object(following, "Follower", lambda *_: self):
+                    with contextlib.redirect_stdout(io.StringIO()):
+                        following.follow(self.options, self.settings, self.note)
+        return self.taken, self.run.tally.questions
 
 
 def ended_before_the_first_packet(program):
@@ -270,8 +271,10 @@ def without_an_answer(program):
     scene.fetched(8000, OTHER, 3, asked("more.example.com"), 60, (192, 0, 2, 82))
     run = Followed(program, "-")
     run.write(scene.pcap())
-    unanswered = "14:03:00.000 10.0.0.7:40000 udp www.example.com A - -: asked 192.0.2.1:53 (answered in 10 ms)"
-    yield "lines", [line for line in run.lines(3) if " www." in line], [f"{unanswered}; no answer was captured\n"]
+    unanswered = "14:03:00.000 10.0.0.7:40000 udp www.example.com A - -: no answer was captured"
+    yield "lines", [line for line in run.lines(3) if " www." in line], [
+        f"{unanswered}; asked 192.0.2.1:53 (answered in 10 ms)\n"
+    ]
     yield "status", run.end()[2], 0
 
 
@@ -288,76 +291,57 @@ def reason_among_many(program):
     scene.question(1000, ONE, 1, lost)
     scene.query(1000.2, FIRST, lost)
     scene.query(2001.2, SECOND, lost)
-    settings, printed = configuration.read(CAPTURES / "office.toml", program), []
-    with unittest.mock.patch.multiple(following, PAUSE=1e9):
-        followed(program, settings, scene.pcap(), printed.append)
-    silent = ", ".join(f"{server} (silent for 1,000 ms)" for server in (FIRST, SECOND))
-    wanted = f"14:03:01.000 {ONE} udp lost.example.com A - -: all 2 tries failed: {silent}; no answer was captured"
-    yield "line", [line for line in printed if " lost." in line], [wanted]
+    settings = configuration.read(CAPTURES / "office.toml", program)
+    printed, _ = followed(program, settings, scene.pcap())
+    asked_both = f"asked {FIRST} (silent for 1,001 ms), {SECOND} (no reply)"
+    wanted = [f"14:03:01.000 {ONE} udp lost.example.com A - -: no answer was captured; {asked_both}"]
+    yield "line", [line for line in printed if " lost." in line], wanted
 
 
 def how_far_behind(program):
     """Each second of the capture takes two from 14:03:01 on, and half a one from 14:03:11 on."""
-    scene, said, clock = Scene(), [], [0.0]
+    scene, said, clock = Scene(), [], [0]
     for second in range(40):
         scene.fetched(1000 * second, ONE, second, asked(f"n{second}.example.com"), 300, (192, 0, 2, second))
     settings = configuration.read(CAPTURES / "office.toml", program)
-    options = command.arguments(["--program", program, "--follow", "office.toml", "-"])
-    with unittest.mock.patch.object(following.time, "monotonic", lambda: clock[0]):
-        follower = following.Follower(options, settings, lambda _: None, lambda *_: None, said.append)
+    options = command.arguments(["--program", program, "--follow", "--summary", "office.toml", "-"])
+    with unittest.mock.patch.object(following, "now", lambda: clock[0]), contextlib.redirect_stdout(io.StringIO()):
+        follower = following.Follower(options, settings, said.append)
         for packet in Capture(io.BytesIO(scene.pcap())).packets():
-            second = packet.moment / 1_000_000 - START / 1_000_000
-            clock[0] = min(second, 1) + 2 * max(0, min(second, 11) - 1) + max(0, second - 11) / 2
+            second = (packet[0] - START) / 1_000_000
+            passed = min(second, 1) + 2 * max(0, min(second, 11) - 1) + max(0, second - 11) / 2
+            clock[0] = round(1_000_000 * passed)
             follower.take(packet)
         follower.end()
     # At 14:03:06 and at 14:03:11 as many seconds more than at the beginning have passed; at 14:03:29 one.
     yield said, [*said], ["5 s behind what comes", "10 s behind what comes", "no longer behind what comes"]
 
 
-def how_far_behind_in_a_round(program):
-    """The second round takes 12 s, and the run looks at its clock each second."""
-    scene, said, clock, lasts = Scene(), [], [0.0], [0, 12]
-    for second in range(4):
-        scene.fetched(1000 * second, ONE, second, asked(f"n{second}.example.com"), 300, (192, 0, 2, second))
-    settings = configuration.read(CAPTURES / "office.toml", program)
-    options = command.arguments(["--program", program, "--follow", "office.toml", "-"])
-
-    class Slow(following.Round):
-        """A round that first takes as many seconds as it is given."""
-
-        def __init__(self, *words):
-            for _ in range(lasts.pop(0) if lasts else 0):
-                clock[0] += 1
-                follower.meanwhile()
-            said.append("a round")
-            super().__init__(*words)
-
-    with unittest.mock.patch.object(following.time, "monotonic", lambda: clock[0]):
-        with unittest.mock.patch.object(following, "Round", Slow):
-            follower = following.Follower(options, settings, lambda _: None, lambda *_: None, said.append)
-            for packet in Capture(io.BytesIO(scene.pcap())).packets():
-                clock[0] = max(clock[0], (packet.moment - START) / 1_000_000)
-                follower.take(packet)
-    yield "said", said[:4], ["a round", "5 s behind what comes", "10 s behind what comes", "a round"]
-
-
 def ended_by_a_second_signal(program):
-    """The first replay takes a minute. After one signal the run waits for that, and after a second one no more."""
-    with tempfile.TemporaryDirectory() as folder:
-        slow = pathlib.Path(folder) / "slow"
-        slow.write_text(f'#!/bin/sh\n[ "$1" = check ] || exec sleep 60\nexec {shlex.quote(str(program))} "$@"\n')
-        slow.chmod(0o755)
-        run, began = Followed(slow, "-"), time.monotonic()
-        run.write(capture_of("answers"))
-        run.wait()
-        for number in (signal.SIGINT, signal.SIGTERM):
-            time.sleep(1)
-            run.run.send_signal(number)
-        printed, said, status = run.end()
-    wanted = "forwarder-explain: -: a second signal ended the run: left out the last 9 questions, or about so many\n"
-    none = "0 questions, 0 answers: 0 are the step's own octets, 0 but for a second, 0 different\n"
-    yield "the end", ("".join(printed[:1]), said, status), (none, wanted, 0)
-    yield "soon", time.monotonic() - began < 2 * LONGEST, True
+    """A capture comes faster than it is explained. After one signal what was there is still explained, and after a
+    second one no more."""
+    settings = configuration.read(CAPTURES / "office.toml", program)
+    options = command.arguments(["--program", program, "--follow", "--summary", "office.toml", "-"])
+    said, octets = [], capture_of("failures")
+    came, sent = os.pipe()
+    with open(sent, "wb", 0) as file:
+        file.write(octets)
+    taken = []
+
+    def take(follower, packet):
+        taken.append(packet)
+        if len(taken) in (15, 20):
+            os.kill(os.getpid(), signal.SIGINT if len(taken) == 15 else signal.SIGTERM)
+        put(follower, packet)
+
+    put = following.Follower.take
+    with open(came, "rb", 0) as file, unittest.mock.patch.object(following, "opened", lambda _: file):
+        with unittest.mock.patch.object(following.Follower, "take", take):
+            with contextlib.redirect_stdout(io.StringIO()) as printed:
+                status = following.follow(options, settings, said.append)
+    yield "taken", (len(taken), status), (20, False)
+    yield "said", [each.rpartition(" ")[0][:-2] for each in said[-1:]], ["a second signal ended the run: left out"]
+    yield "printed", "0 different" in printed.getvalue(), True
 
 
 def wrong_words(program):
@@ -370,69 +354,44 @@ def wrong_words(program):
     yield "/nowhere", Followed(program, "/nowhere").end(), wanted
 
 
-@contextlib.contextmanager
-def at_once():
-    """A round after each packet, with no more than a few events before it."""
-    rounds = unittest.mock.patch.multiple(following, PAUSE=0, SETTLED=0)
-    with rounds, unittest.mock.patch.object(following.Follower, "context", 4):
-        yield
-
-
 def packet_by_packet(program):
-    """A round after each packet, with no more than a few events before it: what is carried on is
-    what the questions after it need."""
+    """Each stored capture as it comes: what is said is what a whole run says, in another order."""
     settings = configuration.read(CAPTURES / "office.toml", program)
-    with at_once():
-        for path in sorted(CAPTURES.glob("*.pcap*")):
-            printed = []
-            words = stored(path.stem, "options").split()
-            summary = followed(program, settings, path.read_bytes(), printed.append, words=words)
-            wanted = (stored(path.stem, "followed") or stored(path.stem, "expected")).splitlines()
-            yield path.stem, sorted(printed + list(summary.verdict())), sorted(wanted)
+    for path in sorted(CAPTURES.glob("*.pcap*")):
+        wanted = stored(path.stem, "expected").splitlines()
+        if wanted[0].startswith("0 questions") or path.stem in AFTERWARDS:
+            continue
+        words = stored(path.stem, "options").split()
+        printed, _ = followed(program, settings, path.read_bytes(), words)
+        wanted += [line for line in wanted if line.startswith("the service has begun") and "told" not in line]
+        yield path.stem, sorted(printed), sorted(wanted)
 
 
-def ends_of_lifetimes(program):
-    """A reply that was read 200 ms late is kept as much longer, also when it is long past. And what
-    ends by the capture's clock may be answered half a millisecond later, but not 50 ms later."""
-    scene, www, new = Scene(), asked("www.example.com"), asked("new.example.com")
-    scene.question(0, ONE, 1, www)
-    port = scene.query(0.2, FIRST, www)
-    scene.reply(10.2, FIRST, port, www, answers=[address(5, 192, 0, 2, 80)])
-    scene.answer(210, ONE, 1, www, answers=[address(5, 192, 0, 2, 80)])
-    scene.fetched(1000, ONE, 2, new, 5, (192, 0, 2, 81))
-    for number in range(3, 6):
-        scene.fetched(1000 * number - 500, OTHER, number, asked(f"n{number}.example.com"), 5, (192, 0, 2, number))
-    for at, question, last in ((5100, www, 80), (6010.5, new, 81), (6060, new, 81)):
-        scene.question(at, OTHER, 9, question)
-        scene.answer(at + 0.2, OTHER, 9, question, answers=[address(0, 192, 0, 2, last)])
-    settings, printed = configuration.read(CAPTURES / "office.toml", program), []
-    with at_once():
-        followed(program, settings, scene.pcap(), printed.append)
-    asked_at = "from the cache (asked of 192.0.2.1:53 at 14:03:0"
-    wanted = [
-        f"14:03:05.100 10.0.0.8:40001 udp www.example.com A NOERROR 0.2 ms: {asked_at}0.000, 0 s left)",
-        f"14:03:06.010 10.0.0.8:40001 udp new.example.com A NOERROR 0.2 ms: {asked_at}1.000, 0 s left)",
-    ]
-    yield "lines", printed[5:7], wanted
-    yield "too late", [line.strip()[:10] for line in printed[7:9]], ["14:03:06.0", "DIFFERENT:"]
+def known_later(program):
+    """Captures of which a later packet says more: as they come, some answers are open or have another time."""
+    settings = configuration.read(CAPTURES / "office.toml", program)
+    for name, count in AFTERWARDS.items():
+        path = next(CAPTURES.glob(f"{name}.pcap*"))
+        printed, _ = followed(program, settings, path.read_bytes())
+        yield name, sum("DIFFERENT" in line for line in printed), count
 
 
-def followed(program, settings, octets, show, after=lambda follower: None, words=()):
-    """The summary of a capture that comes packet by packet; `show` is called with each line."""
+# Captures that say more to a whole run, and how many answers are different as they come.
+AFTERWARDS = {"counted_loss_of_a_reply": 2}
+
+
+def followed(program, settings, octets, words=()):
+    """The lines of a capture that comes packet by packet, and what is said."""
     os.environ["TZ"] = "UTC"
     time.tzset()
     options = command.arguments(["--program", program, "--follow", *words, "office.toml", "-"])
-
-    def show_row(row):
-        show(row.line())
-        for line in row.differs() if row.result.same == comparing.DIFFERENT else ():
-            show(line)
-
-    follower = following.Follower(options, settings, show_row, lambda *_: None, lambda _: None)
-    for packet in Capture(io.BytesIO(octets)).packets():
-        follower.take(packet)
-        after(follower)
-    return follower.end()
+    said = []
+    with contextlib.redirect_stdout(io.StringIO()) as printed:
+        follower = following.Follower(options, settings, said.append)
+        for packet in Capture(io.BytesIO(octets)).packets():
+            follower.take(packet)
+        follower.end()
+    return printed.getvalue().splitlines(), said
 
 
 def nothing_grows(program):
@@ -442,12 +401,17 @@ def nothing_grows(program):
         largest = [0]
 
         def look(follower):
-            notes = [each for said in follower.base.notes.values() for each in said] if follower.base else []
-            kept = {each for each in [*follower.events, *notes] if isinstance(each, Question)}
-            largest[0] = max(largest[0], len(kept) + len(follower.live.questions) + len(follower.queries.is_step))
+            explaining = follower.run and follower.run.explaining
+            if explaining:
+                kept = explaining.traffic.clients.count + len(explaining.due) + len(explaining.sent)
+                largest[0] = max(largest[0], kept + len(explaining.held) + len(follower.waiting))
 
+        put = following.Follower.take
         calls = iter(range(10**9))
-        followed(program, settings, many.many(count, 4.0), lambda _: None, lambda f: next(calls) % 1000 or look(f))
+        with unittest.mock.patch.object(
+            following.Follower, "take", lambda own, packet: (put(own, packet), next(calls) % 500 or look(own))
+        ):
+            followed(program, settings, many.many(count, 4.0))
         most.append(largest[0])
     yield most, most[1] < 1.2 * most[0], True
 
@@ -462,10 +426,9 @@ ALL = [
     without_an_answer,
     reason_among_many,
     how_far_behind,
-    how_far_behind_in_a_round,
     ended_by_a_second_signal,
     wrong_words,
     packet_by_packet,
-    ends_of_lifetimes,
+    known_later,
     nothing_grows,
 ]

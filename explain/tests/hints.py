@@ -1,14 +1,11 @@
 """Tests of what a run says of its configuration and of its options, in a folder of their own."""
-import os
 import pathlib
-import subprocess
 import tempfile
 
+import jobs
 from making import asked
-from office import FORWARDER, OFFICE, ONE, OTHER, Scene
-from repository.packing import address
-
-TOOL = pathlib.Path(__file__).resolve().parent.parent / "forwarder-explain"
+from office import FORWARDER, OFFICE, ONE, OTHER, QUERY, REPLY, Scene
+from repository.packing import address, message
 
 
 def explained(program, settings, capture, *options):
@@ -16,14 +13,12 @@ def explained(program, settings, capture, *options):
     with tempfile.TemporaryDirectory() as folder:
         (pathlib.Path(folder) / "office.toml").write_text(settings)
         (pathlib.Path(folder) / "seen.pcap").write_bytes(capture)
-        words = [TOOL, "--program", program, *options, "office.toml", "seen.pcap"]
-        ran = subprocess.run(words, cwd=folder, env={**os.environ, "TZ": "UTC"}, capture_output=True, text=True)
-    return ran.stdout, ran.stderr, ran.returncode
+        return jobs.ran(folder, program, *options, "office.toml", "seen.pcap")
 
 
 def a_port_that_the_filter_lacks(program):
-    """The filter has port 53 alone. What a server at port 5353 replies is kept, ends, and is asked for again. A forged
-    answer of the other route stays one."""
+    """The filter has port 53 alone. What a server at port 5353 replies is kept, ends, and is asked for again: that is
+    open. A forged answer of the other route stays different."""
     scene, name, www = Scene(), asked("db.corp.example"), asked("www.example.com")
     scene.fetched(0, OTHER, 1, www, 300, (192, 0, 2, 80))
     for at, number, left in ((1000, 2, 60), (2000, 3, 59), (90000, 4, 60)):
@@ -31,16 +26,38 @@ def a_port_that_the_filter_lacks(program):
         scene.answer(at + 10, ONE, number, name, answers=[address(left, 10, 0, 0, 71)])
     settings = OFFICE.replace("10.0.0.10:53", "10.0.0.10:5353")
     printed, said, status = explained(program, settings, scene.pcap())
-    cached = "from the cache, or of a server at port 5353, of which the capture has no packet"
-    yield "lines", [line.partition(" ms: ")[2] for line in printed.splitlines()[1:4]], [cached] * 3
+    yield "open", (printed.splitlines()[-2], status), ("3 open: no packet of its servers' port is in the capture", 0)
     yield "hint", said, "forwarder-explain: seen.pcap: no packet of port 5353, which the configuration names\n"
-    yield "status", status, 0
-    printed, _, status = explained(program, settings, scene.pcap(), "--restarted", "14:04")
-    lost = "the capture seems to have lost all packets of port 5353"
-    yield "after a restart", (lost in printed.splitlines()[3], status), (True, 0)
     scene.question(91000, ONE, 5, www)
     scene.answer(91000.2, ONE, 5, www, answers=[address(209, 192, 0, 2, 66)])
     yield "forged", explained(program, settings, scene.pcap())[2], 1
+
+
+def any_address(program):
+    """The service listens at all addresses of its machine: each address that clients ask is one. An answer that comes
+    from another one than was asked is different, and no client takes it."""
+    scene, www = Scene(), asked("www.example.com")
+    scene.fetched(0, ONE, 1, www, 300, (192, 0, 2, 80))
+    query, found = message(2, QUERY, www), [address(295, 192, 0, 2, 80)]
+    for at, sender in ((5000, "172.16.0.1:53"), (5500, "10.0.0.53:53")):
+        scene.udp(at, OTHER, "172.16.0.1:53", query)
+        scene.udp(at + 0.2, sender, OTHER, message(2, REPLY, www, found))
+    settings = OFFICE.replace("10.0.0.53:53", "0.0.0.0:53")
+    printed, said, status = explained(program, settings, scene.pcap())
+    lines = printed.splitlines()
+    yield "lines", (len([line for line in lines if " udp www." in line]), said, status), (3, "", 1)
+    wanted = "    DIFFERENT: it came from 10.0.0.53, which was not asked"
+    yield "different", [line for line in lines if "DIFFERENT" in line], [wanted]
+
+
+def configurations_that_fit_nothing(program):
+    """No packet is of a port or of an address of the configuration: that is said."""
+    scene = Scene()
+    scene.fetched(0, OTHER, 1, asked("www.example.com"), 300, (192, 0, 2, 80))
+    settings = OFFICE.replace("10.0.0.53:53", "10.9.9.9:53").replace("192.0.2.", "198.51.100.")
+    printed, said, status = explained(program, settings, scene.pcap())
+    wanted = "forwarder-explain: seen.pcap: has no question to 10.9.9.9:53, where the configuration listens\n"
+    yield "status", (printed, said, status), ("", wanted, 2)
 
 
 def no_port_is_missing(program):
@@ -50,8 +67,8 @@ def no_port_is_missing(program):
     yield "53", explained(program, OFFICE, scene.pcap())[1], ""
     settings = OFFICE.replace(FORWARDER, "10.0.0.53:5300")
     missing = "forwarder-explain: seen.pcap: no packet of port 5300, which the configuration names"
-    none = "forwarder-explain: seen.pcap: has no question to 10.0.0.53:5300, where the configuration listens"
-    yield "5300", explained(program, settings, scene.pcap())[1].splitlines(), [missing, none]
+    side = "forwarder-explain: seen.pcap: captured on the servers' side alone"
+    yield "5300", explained(program, settings, scene.pcap())[1].splitlines(), [missing, side]
 
 
 def wrong_clients(program):
@@ -66,4 +83,10 @@ def wrong_clients(program):
         yield client, explained(program, OFFICE, scene.pcap(), "--client", client)[1:], ("", 0)
 
 
-ALL = [a_port_that_the_filter_lacks, no_port_is_missing, wrong_clients]
+ALL = [
+    a_port_that_the_filter_lacks,
+    any_address,
+    configurations_that_fit_nothing,
+    no_port_is_missing,
+    wrong_clients,
+]

@@ -71,8 +71,13 @@ class Capturing:
 
     def pcap(self):
         """The capture as classic pcap."""
+        self.packets.sort(key=lambda each: each[0])
+        return self.pcap_in_order()
+
+    def pcap_in_order(self):
+        """The same, with the packets in the order in which they were put."""
         parts = [struct.pack("<I2H4I", 0xA1B2C3D4, 2, 4, 0, 0, 262144, self.link)]
-        for moment, packet in sorted(self.packets, key=lambda each: each[0]):
+        for moment, packet in self.packets:
             parts.append(struct.pack("<4I", moment // 1_000_000, moment % 1_000_000, len(packet), len(packet)) + packet)
         return b"".join(parts)
 

@@ -1,11 +1,10 @@
 """Tests of --html: what leads where in the page, and that nothing in it is a stranger's."""
-import os
 import pathlib
 import re
-import subprocess
 import tempfile
 from html.parser import HTMLParser
 
+import jobs
 from making import asked
 from office import FIRST, ONE, Scene
 from repository.packing import ANY, CNAME, address, record
@@ -69,14 +68,8 @@ def paged(program, capture, *options):
     """The page of a capture, what was printed, and the status."""
     with tempfile.TemporaryDirectory() as folder:
         path = pathlib.Path(folder) / "page.html"
-        ran = subprocess.run(
-            [HERE.parent / "forwarder-explain", "--program", program, "--html", path, *options, "office.toml", capture],
-            cwd=CAPTURES,
-            env={**os.environ, "TZ": "UTC"},
-            capture_output=True,
-            text=True,
-        )
-        return Read(path.read_text()), ran.stdout, ran.returncode, oct(path.stat().st_mode & 0o777)
+        printed, _, status = jobs.ran(CAPTURES, program, "--html", path, *options, "office.toml", capture)
+        return Read(path.read_text()), printed, status, oct(path.stat().st_mode & 0o777)
 
 
 def numbers_lead_to_lines(program):
@@ -111,8 +104,7 @@ def a_file_that_was_there(program):
         path = pathlib.Path(folder) / "page.html"
         path.write_text(100_000 * "old")
         path.chmod(0o644)
-        words = ["--program", program, "--html", path, "office.toml", "answers.pcap"]
-        subprocess.run([HERE.parent / "forwarder-explain", *words], cwd=CAPTURES, capture_output=True, check=True)
+        jobs.ran(CAPTURES, program, "--html", path, "office.toml", "answers.pcap")
         yield "mode", (oct(path.stat().st_mode & 0o777), "old" in path.read_text()), ("0o600", False)
 
 
@@ -138,12 +130,12 @@ def names_of_strangers(program):
         scene.question(at, ONE, number, name)
         port = scene.query(at + 0.2, FIRST, name)
         scene.reply(at + 10.2, FIRST, port, name, answers=[alias, target])
-        scene.answer(at + 11, ONE, number, name, 0x8182)
+        scene.answer(at + 11, ONE, number, name, answers=[alias, target])
     with tempfile.TemporaryDirectory() as folder:
         capture = pathlib.Path(folder) / "<b>seen.pcap"
         capture.write_bytes(scene.pcap())
         page, _, status, _ = paged(program, capture)
-    yield "faults", (page.faults, status), ([], 1)
+    yield "faults", (page.faults, status), ([], 0)
     yield "lines", len(page.items), len(names)
     for label, (_, line) in zip(names, page.items):
         shown = re.sub(r"([^A-Za-z0-9_-])", r"\\\1", label)  # as RFC 1035 5.1 has it

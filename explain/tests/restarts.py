@@ -89,10 +89,11 @@ def refused_in_a_long_capture():
 
 
 def rejected():
-    """A packet filter of the service's machine rejects a question, and what was cached before is
-    answered after it."""
-    scene = Scene()
+    """A packet filter of the service's machine rejects a question, and what was cached before is answered after
+    it. The service went on: it answers what it was asked before."""
+    scene, mail = Scene(), asked("mail.example.com")
     scene.fetched(0, ONE, 1, WWW, 300, (192, 0, 2, 80))
+    scene.fetched(4995, OTHER, 4, mail, 60, (192, 0, 2, 25))
     scene.question(5000, ONE, 2, WWW)
     scene.unreachable(5000.1, "10.0.0.53", ONE, FORWARDER)
     scene.question(8000, OTHER, 3, WWW)

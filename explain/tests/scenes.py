@@ -8,6 +8,7 @@ import off
 import orders
 import outages
 import restarts
+import shown
 import stops
 from making import COOKED_2, DENIAL, asked, octets
 from office import ACK, CORPORATE, FIN, FIRST, FORWARDER, ONE, OTHER, PLAIN, QUERY, REPLY, RST, SECOND, SYN, Scene
@@ -339,4 +340,5 @@ ALL = [
     *orders.ALL,
     *off.ALL,
     *filtered.ALL,
+    *shown.ALL,
 ]

@@ -1,0 +1,90 @@
+"""A run over packets: explains them, counts and shows the questions that the options choose."""
+from . import page
+from .explaining import Explaining
+from .groups import Groups
+from .options import chooser, span_of_text
+from .report import Row, Summary, restart_text, written
+from .scripts import Scripts
+from .story import Teller
+from .tally import Tally
+
+
+class Run:
+    """What is printed and written of a run. `note` says what could not be read, `progress` is over before
+    anything is printed."""
+
+    def __init__(self, options, settings, begins, is_lossy, note, is_live=False):
+        self.options, self.settings, self.note, self.tally = options, settings, note, Tally()
+        self.explaining = Explaining(settings, begins, is_lossy, self.settled, is_live)
+        self.explaining.count_query = self.tally.add_query
+        for text in options.restarted:
+            self.explaining.history.tell(*span_of_text(text, begins))
+        self.teller = Teller(settings, self.explaining.history)
+        self.is_chosen = chooser(options, begins)
+        self.groups = Groups() if options.html else None
+        self.scripts = Scripts(options.script, settings) if options.script else None
+        self.explaining.upstream.record = self.scripts
+        self.span, self.has_chosen, self.said = None, False, 0
+
+    def settled(self, question):
+        """Takes a question whose fate is known."""
+        first, last = self.span or (question.moment, question.moment)
+        self.span = min(first, question.moment), max(last, question.moment)
+        if not self.is_chosen(question):
+            return
+        self.has_chosen = True
+        row = Row(question, self.teller)
+        if self.scripts:
+            self.scripts.choose(row)
+        if self.options.failures and not row.failed():
+            return
+        self.tally.add(row)
+        self.show(row)
+        if self.groups:
+            self.groups.add(row)
+
+    def show(self, row):
+        """Prints what was asked for of a question."""
+        options = self.options
+        is_listed = not options.summary and not options.html
+        if options.json:
+            if is_listed:
+                print(written(row.object()))
+            return
+        is_different = row.is_different()
+        if is_listed or is_different:
+            print(row.line())
+        if is_different:
+            print("\n".join(row.differs()))
+
+    def show_restarts(self):
+        """Prints that the service began anew, once each time."""
+        begun = [each for each in self.explaining.history.restarts if each.begun is not None]
+        for each in begun[self.said :]:
+            print(written({"begun_anew_by": each.begun / 1_000_000}) if self.options.json else restart_text(each))
+        self.said = len(begun)
+
+    def notes(self):
+        """What is to be said of the traffic, a line each."""
+        yield from self.explaining.clock.notes
+        yield from self.explaining.traffic.notes(self.settings)
+
+    def end(self):
+        """Explains what is left, and prints what is said at the end; gives whether an answer is different."""
+        self.explaining.end()
+        return self.finish()
+
+    def finish(self):
+        """Prints the counts."""
+        summary = Summary(self.tally, self.explaining)
+        if self.scripts:
+            self.scripts.write()
+        if self.groups:
+            page.write(self.options, self.settings, self.groups, summary)
+        if self.options.json:
+            print(written(summary.object()))
+            return self.tally.differs()
+        if self.options.summary:
+            print("\n".join(summary.tables()))
+        print("\n".join(summary.verdict()))
+        return self.tally.differs()
