@@ -1,0 +1,256 @@
+"""Reads resolved.conf, with drop-ins: see resolved.conf(5)."""
+import glob
+import os
+import re
+
+from .files import Line, Refused
+from .names import ENCRYPTED, cut, ipv4_of, keep, peer_of, port_of
+from .rows import Row
+
+FOLDERS = (
+    "/usr/lib/systemd",
+    "/usr/local/lib/systemd",
+    "/run/systemd",
+    "/etc/systemd",
+)  # the last decides
+TRUE, FALSE = ("1", "yes", "y", "true", "t", "on"), ("0", "no", "n", "false", "f", "off")
+OF_CLIENTS = {"LLMNR", "MulticastDNS", "ResolveUnicastSingleLabel"}
+LISTS = {"DNS", "FallbackDNS", "Domains", "DNSStubListenerExtra"}
+SAME = {  # a setting, whether on, whether off
+    ("Cache", True, False),
+    ("CacheFromLocalhost", True, False),
+    ("DNSSEC", False, True),
+    ("DNSOverTLS", False, True),
+    ("ReadEtcHosts", False, True),
+    ("DNSStubListener", False, True),
+}
+LEFT_OUT = {
+    "Cache": ("denials are cached like record sets, and 1 is the least", Row.CACHE),
+    "CacheFromLocalhost": ("what comes from this machine is cached, too", Row.CACHE),
+    "DNSSEC": ("ask servers that validate", Row.DNSSEC),
+    "DNSOverTLS": ("queries are never encrypted: see the lines of the servers", None),
+    "ReadEtcHosts": ("write a route to a name server that has these names", Row.RECORDS),
+}
+UNITS = {  # seconds, by the words of a unit
+    **dict.fromkeys(("", "s", "sec", "second", "seconds"), 1),
+    **dict.fromkeys(("m", "min", "minute", "minutes"), 60),
+    **dict.fromkeys(("h", "hr", "hour", "hours"), 3600),
+    **dict.fromkeys(("d", "day", "days"), 86400),
+    **dict.fromkeys(("w", "week", "weeks"), 604800),
+}
+
+
+class Resolved:
+    """Gathers the settings of all files; `end` carries them."""
+
+    def __init__(self, files, found):
+        self.files, self.found = files, found
+        self.lists = {key: [] for key in LISTS}  # words with their lines
+        self.first, self.single = None, {}  # of each further setting the last value and line
+
+    def read(self, path):
+        """Takes a file, and the drop-ins in order of their names."""
+        self.first = self.first or Line(path, 0)
+        self.one(path)
+        if os.path.basename(path) == "resolved.conf":
+            for drop_in in self.drop_ins(path):
+                self.one(drop_in)
+
+    def drop_ins(self, path):
+        """The drop-ins of a file: in the folder next to the file, or the system's folders."""
+        beside = os.path.abspath(path)[len(self.files.root) :]
+        folders = FOLDERS if os.path.dirname(beside) in FOLDERS else (os.path.dirname(path),)
+        root = self.files.root if folders is FOLDERS else ""
+        found = {}
+        for folder in folders:
+            for each in glob.glob(
+                os.path.join(glob.escape(root + folder), "resolved.conf.d/*.conf")
+            ):
+                found[os.path.basename(each)] = each
+        return [found[name] for name in sorted(found)]
+
+    def one(self, path):
+        """Takes the lines of a file."""
+        section = None
+        with self.files.lines(path) as lines:
+            for line in joined(lines):
+                text = line.text.strip()
+                if not text or text[0] in "#;":
+                    continue
+                if text[0] == "[":
+                    section = text
+                    continue
+                try:
+                    self.take(section, text, line)
+                except Refused as refused:
+                    self.found.refuse(line, refused)
+
+    def take(self, section, text, line):
+        """Takes a setting."""
+        key, equals, value = (part.strip() for part in text.partition("="))
+        if section != "[Resolve]" or not equals:
+            raise Refused("it is no setting of the section [Resolve]")
+        if key in LISTS:
+            self.add(key, value, line)
+        else:
+            before = self.single.get(key)
+            if before:
+                self.found.pass_over(before[1], "a later line decides")
+            self.single[key] = value, line
+
+    def add(self, key, value, line):
+        """Adds words to a list; a line without words clears the list."""
+        if not value:
+            for before in dict.fromkeys(before for _, before in self.lists[key]):
+                self.found.pass_over(before, "a later line clears it")
+            self.found.pass_over(line, "it clears the list")
+            self.lists[key] = []
+        self.lists[key] += [(word, line) for word in value.split()]
+
+    def end(self, _):
+        """Carries the settings of all files together."""
+        servers = self.lists["DNS"] or self.lists["FallbackDNS"]
+        if self.lists["DNS"]:
+            for line in dict.fromkeys(line for _, line in self.lists["FallbackDNS"]):
+                self.found.pass_over(line, "with `DNS=` it has no effect")
+        is_encrypted = self.single.get("DNSOverTLS", ("no",))[0].lower() in TRUE
+        if not servers:
+            what = (
+                "without `DNS=` the servers are those of /etc/resolv.conf and of each link: write"
+                " them into a route"
+            )
+            self.found.leave(self.first, what, Row.PROVIDED)
+        if "ReadEtcHosts" not in self.single:
+            what = (
+                "systemd-resolved answers from /etc/hosts, too: write a route to a name server that"
+                " has its names"
+            )
+            self.found.leave(self.first, what, Row.RECORDS)
+        suffixes = self.suffixes()
+        for word, line in servers:
+            self.server(word, line, suffixes, is_encrypted)
+            if not suffixes:
+                self.found.leave(line, f"{word} has no suffix for which it can be asked")
+        self.listen()
+        for key, (value, line) in self.single.items():
+            try:
+                self.setting(key, value.lower(), line)
+            except Refused as refused:
+                self.found.refuse(line, refused)
+
+    def server(self, word, line, suffixes, is_encrypted):
+        """A server for each suffix."""
+        address, port, link, name = parts_of(word)
+        if link:
+            self.found.leave(
+                line, f"queries do not leave by the link {link}: let the routing table decide"
+            )
+
+        def peer():
+            if is_encrypted:
+                raise Refused(f"{word}: {ENCRYPTED}")
+            met = peer_of(address, port)
+            if name:
+                self.found.pass_over(
+                    line, f"{name} is a name for TLS, and queries are sent in plain"
+                )
+            return met
+
+        for suffix in suffixes:
+            self.found.serve(suffix, peer, line)
+
+    def suffixes(self):
+        """The suffixes of the servers: the routing domains, or else all names."""
+        suffixes = []
+        for word, line in self.lists["Domains"]:
+            if not word.startswith("~"):
+                self.found.pass_over(line, f"{word} is a search domain, which clients have")
+                continue
+            try:
+                self.found.route(word[1:]).named.append(line)
+                suffixes.append(word[1:])
+            except Refused as refused:
+                self.found.leave(line, f"{word[1:]}: {refused.what}")
+        routed = [(word, line) for word, line in self.lists["Domains"] if word.startswith("~")]
+        if routed and "." not in suffixes:
+            what = (
+                "all other names are asked of the servers of each link: write these into a"
+                " route `.`"
+            )
+            self.found.leave(routed[0][1], what, Row.PROVIDED)
+        return suffixes if routed else ["."]
+
+    def listen(self):
+        """The addresses besides the stub's."""
+        for word, line in self.lists["DNSStubListenerExtra"]:
+            transport, rest = word[:3], word[4:]
+            if word[3:4] != ":" or transport not in ("udp", "tcp"):
+                transport, rest = "", word
+            address, port, _, _ = parts_of(rest)
+            try:
+                remark = "here by UDP and TCP" if transport else ""
+                self.found.listen(ipv4_of(address), port_of(port), line, remark)
+            except Refused as refused:
+                self.found.refuse(line, refused)
+
+    def setting(self, key, value, line):
+        """A setting with a single value."""
+        if key == "StaleRetentionSec":
+            self.found.limit("stale_s", str(seconds_of(value)), line, "once all tries failed")
+        elif key in OF_CLIENTS:
+            self.found.pass_over(line, "it is of this machine as a client: it stays there")
+        elif (key, value in TRUE, value in FALSE) in SAME:
+            self.found.pass_over(line, "so it is here")
+        elif key == "DNSStubListener" and value not in FALSE:
+            self.found.pass_over(
+                line, "its stub has 127.0.0.53, so `listen` may have another address"
+            )
+        elif (key, value) == ("DNSOverTLS", "opportunistic"):
+            raise Refused("queries are sent in plain, also to servers that take encrypted ones")
+        elif key in LEFT_OUT:
+            raise Refused(*LEFT_OUT[key])
+        else:
+            raise Refused(
+                f"it is no setting of resolved.conf that is known here: {keep('systemd-resolved')}"
+            )
+
+
+def joined(lines):
+    """The lines, each joined with the next after a backslash; the number is the first's."""
+    held = None
+    for line in lines:
+        if held and line.text.strip()[:1] in ("#", ";"):
+            continue
+        text = held.text + line.text if held else line.text
+        held = Line(line.path, held.number if held else line.number, text.removesuffix("\\"))
+        if not text.endswith("\\"):
+            yield held
+            held = None
+    if held:
+        yield held
+
+
+def parts_of(word):
+    """Address, port (53 if none is given), link and name of `ADDRESS:PORT%LINK#NAME`."""
+    rest, _, name = word.partition("#")
+    rest, _, link = rest.partition("%")
+    if rest.startswith("["):
+        address, _, port = rest[1:].partition("]")
+        port = port.removeprefix(":") or "53"
+    elif rest.count(":") > 1:
+        address, port = rest, "53"
+    else:
+        address, port = cut(rest, ":")
+    return address, port, link, name
+
+
+def seconds_of(text):
+    """A time span, as 600, 10min or 1d 6h."""
+    pieces = re.findall(r"([0-9]+)\s*([a-z]*)\s*", text)
+    if not pieces or "".join(f"{number}{unit}" for number, unit in pieces) != re.sub(
+        r"\s", "", text
+    ):
+        raise Refused(f"{text or 'nothing'} is no time")
+    if any(unit not in UNITS for _, unit in pieces):
+        raise Refused(f"{text} has a unit that is not known here: write it in seconds")
+    return sum(int(number[:9]) * UNITS[unit] for number, unit in pieces)

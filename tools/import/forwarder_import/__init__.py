@@ -1,1 +1,0 @@
-"""Configurations of other forwarders, turned into one of forwarder.toml(5)."""
