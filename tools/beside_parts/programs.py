@@ -1,30 +1,20 @@
-"""The programs that are measured, and how each is started."""
+"""The measured programs, and the start of each."""
 import contextlib
 import os
 import pathlib
 import shutil
-import signal
-import socket
 import subprocess
-import time
+
+from repository.packing import query
+from running import programs
+from running.forwarder import configuration
+from running.programs import WHOLE_LIFE, on, output
 
 SERVED, SERVER = 5300, 5301
 NAMES = 10_000
-PATH = os.environ.get("PATH", "") + os.pathsep + "/usr/sbin"
-# The processors of the server that all ask, of the measured program, and of what asks it.
+# The processors of the server that all ask, of the measured program, and of the asking programs.
 ASKED_ON, MEASURED_ON, ASKS_ON = "1", "2", "0,3"
-QUESTION = b"\x12\x34\x01\0\0\x01\0\0\0\0\0\0\x05ready\x07example\0\0\x01\0\x01"
-
-FORWARDER = f"""version = 1
-listen = "127.0.0.1:{SERVED}"
-[limits]
-cache = {NAMES}
-questions = 4096
-inquiries = 1024
-[[route]]
-suffix = "."
-servers = ["127.0.0.1:{SERVER}"]
-"""
+QUESTION = query("ready.example")
 
 UNBOUND = f"""server:
   num-threads: 1
@@ -50,7 +40,8 @@ forward-zone:
 """
 
 KRESD = f"""net.listen('127.0.0.1', {SERVED}, {{{{ kind = 'dns' }}}})
-for _, each in ipairs({{{{'ta_update', 'ta_signal_query', 'priming', 'detect_time_skew', 'detect_time_jump'}}}}) do
+for _, each in ipairs({{{{'ta_update', 'ta_signal_query', 'priming', 'detect_time_skew',
+    'detect_time_jump'}}}}) do
   modules.unload(each)
 end
 trust_anchors.remove('.')
@@ -67,165 +58,113 @@ getPool(""):setCache(newPacketCache({2 * NAMES}))
 """
 
 
-def output(*words):
-    return subprocess.run(words, capture_output=True, text=True, check=True).stdout
+class Peer:
+    """A program to be measured, at the port SERVED: a package's `command`, the words after the
+    command, and the text of a configuration, both with the folder to be filled in."""
 
+    def __init__(self, command, options, config="", key="", title="", package=""):
+        self.command, self.options, self.config = command, options, config
+        self.key, self.title, self.package = key or command, title or command, package or command
 
-class Program:
-    """A program to be measured. `command` is that of its package; it serves at the port SERVED."""
+    def is_installed(self):
+        return not programs.missing(self.command)
 
-    key = title = command = package = ""
-
-    @classmethod
-    def path(cls):
-        return shutil.which(cls.command, path=PATH)
-
-    @classmethod
-    def version(cls):
+    def version(self):
         """The version of the Debian package that has the program; empty if none has."""
-        path = cls.path()
+        path = os.path.realpath(programs.path(self.command))
         with contextlib.suppress(OSError, subprocess.CalledProcessError):
-            owner = output("dpkg-query", "-S", os.path.realpath(path)).partition(":")[0] if path else ""
+            owner = output("dpkg-query", "-S", path).partition(":")[0]
             return owner and output("dpkg-query", "-W", "-f", "${Version}", owner)
         return ""
 
     def words(self, folder):
-        """The command line, once what it reads is written into the folder."""
-        raise NotImplementedError
+        """The command line, once the configuration is written into the folder."""
+        (folder / "conf").write_text(self.config.format(folder=folder))
+        options = self.options.format(folder=folder).split()
+        return [programs.path(self.command), *options]
 
 
-def written(folder, name, text):
-    (folder / name).write_text(text)
-    return str(folder / name)
-
-
-class Unbound(Program):
-    key = title = command = package = "unbound"
-
-    def words(self, folder):
-        return [self.path(), "-d", "-c", written(folder, "unbound.conf", UNBOUND.format(folder=folder))]
-
-
-class Dnsmasq(Program):
-    key = title = command = package = "dnsmasq"
-
-    def words(self, folder):
-        return [self.path(), "-k", "--conf-file=/dev/null", "--no-resolv", "--no-hosts", "--pid-file=", "--user=root",
-                "--group=", "--bind-interfaces", "--listen-address=127.0.0.1", f"--port={SERVED}",
-                f"--server=127.0.0.1#{SERVER}", f"--cache-size={NAMES}", "--dns-forward-max=4096"]
-
-
-class Kresd(Program):
-    key, title, command, package = "kresd", "Knot Resolver", "kresd", "knot-resolver"
-
-    def words(self, folder):
-        return [self.path(), "-n", "-c", written(folder, "kresd.conf", KRESD.format(folder=folder)), str(folder)]
-
-
-class Dnsdist(Program):
-    key = title = command = package = "dnsdist"
-
-    def words(self, folder):
-        return [self.path(), "--supervised", "--disable-syslog",
-                "-C", written(folder, "dnsdist.conf", DNSDIST.format())]
-
-
-class Recursor(Program):
-    key, title, command, package = "recursor", "PowerDNS Recursor", "pdns_recursor", "pdns-recursor"
-
-    def words(self, folder):
-        return [self.path(), f"--config-dir={folder}", f"--socket-dir={folder}", "--setuid=", "--setgid=",
-                "--daemon=no", "--loglevel=3", "--disable-syslog=yes", "--security-poll-suffix=", "--dont-query=",
-                "--dnssec=off", "--local-address=127.0.0.1", f"--local-port={SERVED}",
-                f"--forward-zones-recurse=.=127.0.0.1:{SERVER}", "--threads=1", "--pdns-distributes-queries=no",
-                f"--max-cache-entries={2 * NAMES}", f"--max-packetcache-entries={2 * NAMES}"]
-
-
-class Forwarder(Program):
+class Forwarder:
     """The program of this repository, at the path that the user gave."""
 
     key, title = "forwarder", "this forwarder"
 
-    def __init__(self, path):
-        self.file = str(pathlib.Path(path).resolve())
+    def __init__(self, path, suffix=".", cache=NAMES):
+        self.file, self.suffix, self.cache = str(pathlib.Path(path).resolve()), suffix, cache
+
+    @staticmethod
+    def version():
+        return ""
 
     def words(self, folder):
-        return [self.file, "serve", written(folder, "forwarder.toml", FORWARDER), str(2**64 - 1)]
+        limits = {"cache": self.cache, "questions": 4096, "inquiries": 1024}
+        text = configuration(f"127.0.0.1:{SERVED}", {self.suffix: [SERVER]}, limits)
+        (folder / "forwarder.toml").write_text(text)
+        return [self.file, "serve", folder / "forwarder.toml", WHOLE_LIFE]
 
 
-class Bare(Program):
-    """One of the bare programs; `way` is its first word."""
+class Bare:
+    """A bare program; `way` is the first word."""
 
     key, title = "bare", "bare"
 
     def __init__(self, file, way):
         self.file, self.way = str(file), way
 
-    def words(self, folder):
-        return [self.file, self.way, str(SERVED), *([str(SERVER)] if self.way == "relay" else [])]
+    def words(self, _):
+        return [self.file, self.way, SERVED, *([SERVER] if self.way == "relay" else [])]
 
 
-PEERS = [Unbound, Dnsmasq, Kresd, Dnsdist, Recursor]
-
-
-def on(processors, words):
-    """The command, kept to these processors where there are enough of them."""
-    return ["taskset", "-c", processors, *words] if os.cpu_count() >= 4 else words
+PEERS = [
+    Peer("unbound", "-d -c {folder}/conf", UNBOUND),
+    Peer("dnsmasq", "-k --conf-file=/dev/null --no-resolv --no-hosts --pid-file= --user=root "
+         f"--group= --bind-interfaces --listen-address=127.0.0.1 --port={SERVED} "
+         f"--server=127.0.0.1#{SERVER} --cache-size={NAMES} --dns-forward-max=4096"),
+    Peer("kresd", "-n -c {folder}/conf {folder}", KRESD,
+         title="Knot Resolver", package="knot-resolver"),
+    Peer("dnsdist", "--supervised --disable-syslog -C {folder}/conf", DNSDIST),
+    Peer("pdns_recursor", "--config-dir={folder} --socket-dir={folder} --setuid= --setgid= "
+         "--daemon=no --loglevel=3 --disable-syslog=yes --security-poll-suffix= --dont-query= "
+         f"--dnssec=off --local-address=127.0.0.1 --local-port={SERVED} "
+         f"--forward-zones-recurse=.=127.0.0.1:{SERVER} --threads=1 --pdns-distributes-queries=no "
+         f"--max-cache-entries={2 * NAMES} --max-packetcache-entries={2 * NAMES}",
+         key="recursor", title="PowerDNS Recursor", package="pdns-recursor"),
+]
 
 
 class Failed(Exception):
-    """A program did not do what is measured."""
-
-
-def answers_over(kind):
-    with socket.socket(socket.AF_INET, kind) as client:
-        client.settimeout(0.2)
-        client.connect(("127.0.0.1", SERVED))
-        client.send(QUESTION if kind == socket.SOCK_DGRAM else len(QUESTION).to_bytes(2, "big") + QUESTION)
-        return len(client.recv(512)) > 2
-
-
-def wait_until_ready(process, kind):
-    """Waits until it answers a question over UDP, or for the bare stream over TCP."""
-    for _ in range(100):
-        if process.poll() is not None:
-            break
-        with contextlib.suppress(OSError):
-            if answers_over(kind):
-                return
-        time.sleep(0.05)
-    raise Failed("it did not start")
+    """A program without the measured answers."""
 
 
 @contextlib.contextmanager
 def running(program, folder):
-    """Runs the program with a folder of its own until the block ends; gives its process identifier."""
+    """Runs the program with a folder of its own until the block ends; gives its process
+    identifier."""
     own = folder / f"run-{program.key}"
     shutil.rmtree(own, ignore_errors=True)
     own.mkdir()
-    with open(folder / f"run-{program.key}.log", "wb") as log:
-        files = {"stdin": subprocess.DEVNULL, "stdout": log, "stderr": log, "cwd": own}
-        process = subprocess.Popen(on(MEASURED_ON, program.words(own)), start_new_session=True, **files)
-    try:
-        stream = isinstance(program, Bare) and program.way == "stream"
-        wait_until_ready(process, socket.SOCK_STREAM if stream else socket.SOCK_DGRAM)
+    words = on(MEASURED_ON, list(map(str, program.words(own))))
+    log = folder / f"run-{program.key}.log"
+    with programs.Program(words, log=log, patience=0, cwd=own, stdin=subprocess.DEVNULL) as process:
+        over_tcp = isinstance(program, Bare) and program.way == "stream"
+        try:
+            process.wait_until(
+                lambda: programs.answers("127.0.0.1", SERVED, QUESTION, over_tcp))
+        except AssertionError as fault:
+            raise Failed(f"it did not start: {fault}")
         yield process.pid
-    finally:
-        with contextlib.suppress(ProcessLookupError):
-            os.killpg(process.pid, signal.SIGKILL)
-        process.wait()
 
 
 class Asked:
-    """The server that all ask, until the block ends; `questions` says how many it got."""
+    """The server that all ask, until the block ends; `questions` says how many came."""
 
     def __init__(self, bare, folder):
         self.counted = folder / "counted"
         self.counted.write_bytes(bytes(8))
-        self.words = on(ASKED_ON, [str(bare), "answer", str(SERVER), str(self.counted)])
+        self.words = on(ASKED_ON, [bare, "answer", SERVER, self.counted])
 
     def __enter__(self):
-        self.process = subprocess.Popen(self.words)
+        self.process = programs.Program(self.words)
         return self
 
     def questions(self):
@@ -233,4 +172,3 @@ class Asked:
 
     def __exit__(self, *_):
         self.process.kill()
-        self.process.wait()

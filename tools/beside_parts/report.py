@@ -1,4 +1,4 @@
-"""The table of figures in Markdown, and the text round it, from what a run wrote as JSON."""
+"""The table of figures in Markdown, with the text around, from the JSON of a run."""
 import os
 import pathlib
 import platform
@@ -8,7 +8,7 @@ import time
 
 NONE = "–"
 BEGIN, END = "<!-- begin: tools/beside --costs -->", "<!-- end: tools/beside --costs -->"
-# A row: its title, the measurement, and what of it ("split" is user's and system's).
+# The rows: title, measurement, figure ("split": user's and system's).
 ROWS = [
     ("a cached answer, 10 names", "cached", "us"),
     ("– of it user, system", "cached", "split"),
@@ -16,7 +16,7 @@ ROWS = [
     ("– of it user, system", "awake", "split"),
     ("a cached answer, 10,000 names", "many", "us"),
     ("a cached answer over TCP", "stream", "us"),
-    ("a miss", "miss", "us"),
+    ("a new name", "miss", "us"),
     ("– of it user, system", "miss", "split"),
     ("a name below a denied one", "below", "us"),
     ("– asked of the server, of 100", "below", "asked"),
@@ -43,21 +43,21 @@ def cell(found, what):
 
 
 def table(run):
-    """The lines of the table. A row that an older run has no figure for is left out."""
+    """The lines of the table. A row without figure in an older run is left out."""
     keys = list(run["programs"])
-    lines = ["| µs of processor | " + " | ".join(run["programs"][key]["title"] for key in keys) + " |",
-             "|---|" + "--:|" * len(keys)]
+    titles = " | ".join(run["programs"][key]["title"] for key in keys)
+    lines = [f"| µs of processor | {titles} |", "|---|" + "--:|" * len(keys)]
     for title, name, what in (row for row in ROWS if row[1] in run["figures"]):
-        cells = [cell(run["figures"].get(name, {}).get(key), what) for key in keys]
+        cells = [cell(run["figures"][name].get(key), what) for key in keys]
         lines.append(f"| {title} | " + " | ".join(cells) + " |")
     return lines
 
 
 def processors_busy(seconds=3.0):
-    """Which share of the processors' time is used now."""
-
+    """The share of the processors' time that is used now."""
     def times():
-        words = [int(word) for word in pathlib.Path("/proc/stat").read_text().split("\n", 1)[0].split()[1:9]]
+        line = pathlib.Path("/proc/stat").read_text().partition("\n")[0]
+        words = [int(word) for word in line.split()[1:9]]
         return sum(words), words[3] + words[4]
 
     (before, idle), _ = times(), time.sleep(seconds)
@@ -66,7 +66,7 @@ def processors_busy(seconds=3.0):
 
 
 def machine():
-    """What the figures rest on, and how busy the machine is as it is now."""
+    """The machine of the figures, and how busy it is now."""
     model = re.search(r"model name\s*:\s*(.*)", pathlib.Path("/proc/cpuinfo").read_text())
     system = re.search(r'PRETTY_NAME="(.*)"', pathlib.Path("/etc/os-release").read_text())
     return {"processors": os.cpu_count(), "model": model[1] if model else platform.machine(),
@@ -75,43 +75,45 @@ def machine():
 
 
 def is_idle(found):
-    """Whether the processors had nothing to do. The load is that of the minute before, so it says
-    less."""
+    """Whether the processors had nothing to do. The load, of the minute before, says less."""
     return found["busy"] < 5
 
 
 def a_second(run, name):
-    """How many of these the forwarder answers in a second of a processor, in two digits."""
+    """The answers of the forwarder in a second of a processor, in two digits."""
     rate = 1e6 / run["figures"][name]["forwarder"]["us"]
     return f"{float(f'{rate:.2g}'):,.0f}"
 
 
 def serves(run):
-    """What one processor serves, where the forwarder was measured."""
+    """A sentence on what one processor serves, if the forwarder was measured."""
     if any("forwarder" not in run["figures"].get(name, {}) for name in ("cached", "miss")):
         return ""
     cached, new = a_second(run, "cached"), a_second(run, "miss")
-    return f"At these figures one processor serves {cached} cached answers or {new} new names in a second."
+    return (f"At these figures one processor serves {cached} cached answers or {new} new names in "
+            "a second.")
 
 
 def about(run):
     """Sentences on the machine, how busy it was, the versions and how often was measured."""
-    on = run["machine"]
-    idle = is_idle(on)
+    on, idle = run["machine"], is_idle(run["machine"])
     busy = "The machine was idle before" if idle else "The machine was NOT idle"
-    waited = max((each["waited"] for of_name in run["figures"].values() for each in of_name.values()), default=0)
-    versions = [f"{each['title']} {each['version']}" for each in run["programs"].values() if each["version"]]
-    lines = [f"{on['processors']} processors, {on['model']}; {on['system']}, Linux {on['kernel']}.",
-             f"{busy}: processors {on['busy']} % busy, a load of {on['load']} in the last minute.",
-             f"What was measured waited for its processor for up to {waited:.0f} % of the time in which it could run.",
-             "" if idle else "So how long a client waits says more of the machine than of a program.",
-             f"Rounds: {run['rounds']}, of {run['seconds']:g} s for each load.",
-             ", ".join([f"dnsperf {run['dnsperf']}", *versions]) + "."]
+    waits = [each["waited"] for figures in run["figures"].values() for each in figures.values()]
+    versions = [f"{each['title']} {each['version']}"
+                for each in run["programs"].values() if each["version"]]
+    lines = [
+        f"{on['processors']} processors, {on['model']}; {on['system']}, Linux {on['kernel']}.",
+        f"{busy}: processors {on['busy']} % busy, a load of {on['load']} in the last minute.",
+        f"What was measured waited for its processor for up to {max(waits, default=0):.0f} % of "
+        "the time in which it could run.",
+        "" if idle else "So how long a client waits says more of the machine than of a program.",
+        f"Rounds: {run['rounds']}, of {run['seconds']:g} s for each load.",
+        ", ".join([f"dnsperf {run['dnsperf']}", *versions]) + "."]
     return textwrap.wrap(" ".join(filter(None, lines)), 120, break_on_hyphens=False)
 
 
 def whole(run):
-    """The lines of the table, and of what it rests on."""
+    """The lines of the table, and of the text below."""
     return [*table(run), "", *([serves(run), ""] if serves(run) else []), *about(run)]
 
 

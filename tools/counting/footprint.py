@@ -1,34 +1,33 @@
-"""What an answer touches, from a trace of each instruction, load and store (`valgrind --tool=lackey`).
+"""What an answer touches, by a trace of instructions, loads and stores (`valgrind --tool=lackey`).
 
-The trace is cut at each `recvfrom`. A part that sends something is a part of an answer: for a
-cached answer there is one, for a miss there are two, the question and the reply.
+The trace is cut at each `recvfrom`. A part with a `sendto` belongs to an answer: a cached answer
+has a single part, a miss has two, the question and the reply.
 """
 import pathlib
 import re
 import statistics
-import subprocess
 import tempfile
 from dataclasses import dataclass, field
 
-from counting.served import ask_all
+from counting.served import Unexpected, ask_all
+from running.programs import output
 
 # Octets of a line of the processor's caches.
 LINE = 64
-# The instructions at a function's head among which its frame is made.
+# The instructions at a function's head that may make a frame.
 PROLOGUE = 40
 # Where valgrind puts the stack of the first thread, and a program that may lie anywhere.
 STACK, BASE = range(0x1FFE000000, 0x1FFF001000), 0x108000
 # Waiting for readiness is not part of an answer.
 WAITS = {"epoll_wait", "epoll_pwait", "poll"}
-# A round that looks for new clients, as it comes every few milliseconds, is in no usual answer.
+# A round with a look for new clients, every few milliseconds, is in no usual answer.
 ROUND = "accept4"
 
 
 @dataclass
 class Part:
-    """What is between one `recvfrom` and the next."""
+    """The trace from a `recvfrom` to the next."""
     calls: list = field(default_factory=list)
-    instructions: int = 0
     loads: int = 0
     stores: int = 0
     code: set = field(default_factory=set)
@@ -56,7 +55,6 @@ def parts_of(trace):
         elif part and line[:2] in ("I ", " L", " S", " M"):
             address = int(line[3:line.index(",")], 16)
             if line[0] == "I":
-                part.instructions += 1
                 part.code.add(address // LINE)
                 part.addresses.add(address)
                 continue
@@ -66,8 +64,8 @@ def parts_of(trace):
 
 
 def kinds_of(parts, count):
-    """The parts of an answer, by their calls, in the order in which they first come: those that
-    many questions have."""
+    """The parts of an answer, by their calls, in the order of their first coming: those of many
+    questions."""
     kinds = {}
     for part in parts:
         if "sendto" in part.calls and ROUND not in part.calls:
@@ -80,10 +78,10 @@ def middle(values):
 
 
 def counts_of(kinds):
-    """Instructions, loads, stores, and lines of code, stack and heap: the middle one of many answers."""
+    """Loads, stores, and lines of code, stack and heap: the middle one of many answers."""
     each = list(zip(*kinds))
     sums = [middle(sum(getattr(part, what) for part in answer) for answer in each)
-            for what in ("instructions", "loads", "stores")]
+            for what in ("loads", "stores")]
     lines = [middle(len(set().union(*(getattr(part, what) for part in answer))) for answer in each)
              for what in ("code", "stack", "heap")]
     return sums + lines
@@ -93,24 +91,25 @@ def footprint(program, case, count):
     """The counts of an answer of a case, and the addresses of its instructions."""
     with tempfile.TemporaryDirectory() as made:
         log = pathlib.Path(made) / "trace"
-        ask_all(program, case, count, ["--tool=lackey", "--trace-mem=yes", "--trace-syscalls=yes", f"--log-file={log}"])
+        tool = ["--tool=lackey", "--trace-mem=yes", "--trace-syscalls=yes", f"--log-file={log}"]
+        ask_all(program, case, count, tool)
         with open(log, errors="replace") as trace:
             parts = list(parts_of(trace))
-    # The last questions are those of the case; those that fill the cache came before.
+    # The case's questions are the last ones: first come questions that fill the cache.
     kinds = [found[-count:] for found in kinds_of(parts, count)]
     if not kinds:
-        raise SystemExit(f"instructions: no answer was found in the trace of: {case[0]}")
+        raise Unexpected(f"no answer was found in the trace of: {case.title}")
     touched = set().union(*(part.addresses for found in kinds for part in found))
     return counts_of(kinds), touched
 
 
 def frames(program, touched):
-    """The functions of the program that an answer passes, with the octets of each one's frame, the
+    """The functions of the program that an answer passes, with the octets of their frames, the
     largest first."""
-    listing = subprocess.run(["objdump", "-d", "-C", "--no-show-raw-insn", program], capture_output=True, text=True)
-    is_fixed = b"EXEC" in subprocess.run(["readelf", "-h", program], capture_output=True).stdout
+    listing = output("objdump", "-d", "-C", "--no-show-raw-insn", program)
+    is_fixed = "EXEC" in output("readelf", "-h", program)
     base, found, name, is_passed = 0 if is_fixed else BASE, {}, None, False
-    for line in [*listing.stdout.splitlines(), "0000000000000000 <>:"]:
+    for line in [*listing.splitlines(), "0000000000000000 <>:"]:
         head = re.match(r"[0-9a-f]{16} <(.*)>:$", line)
         if head:
             if name and is_passed:
@@ -126,7 +125,7 @@ def frames(program, touched):
 
 def frame_of(steps):
     """The octets that a function's first instructions take off the stack. A large frame is taken
-    page by page, in turn or in a loop up to an address that is computed before."""
+    page by page, in turn or in a loop up to a computed address."""
     frame, is_looped = 0, False
     for step in steps[:PROLOGUE]:
         end = re.match(r"(?:sub +\$0x([0-9a-f]+),|lea +-0x([0-9a-f]+)\(%rsp\),)%r11", step)

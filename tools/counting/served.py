@@ -1,70 +1,78 @@
-"""The program under a tool of valgrind, and a client of it."""
-import contextlib
+"""The program under a tool of valgrind, and a client that asks."""
+import functools
 import pathlib
-import signal
+import re
 import socket
 import subprocess
 import tempfile
-import time
 
-from counting.cases import NAME_ERROR, NO_ERROR, REFUSED, SERVED, Server, question
+from counting.cases import NAME_ERROR, NO_ERROR, REFUSED, SERVED, SERVER, reply
+from repository.packing import code, query
+from running.forwarder import Service
+from running.nameserver import NameServer
 
-WHOLE_LIFE = 2**64 - 1
-# Questions that are sent before their replies are read, so that the program seldom waits between them.
+# Questions sent at once, before the replies are read, so the program seldom waits.
 AT_ONCE = 20
+
+
+class Unexpected(Exception):
+    """An answer that is not a case's."""
 
 
 def accepts(program, config):
     """Whether the program accepts this configuration."""
-    with tempfile.TemporaryDirectory() as made:
-        file = pathlib.Path(made) / "config"
-        file.write_text(config)
-        return subprocess.run([program, "check", file], capture_output=True).returncode == 0
+    with tempfile.NamedTemporaryFile("w") as file:
+        file.write(config)
+        file.flush()
+        return subprocess.run([program, "check", file.name], capture_output=True).returncode == 0
 
 
-def ask(client, questions, code):
+def ask(client, questions, wanted):
     """Sends these questions at once, and reads a reply to each."""
     for asked in questions:
-        client.send(b"\x12\x34\x01\0\0\x01\0\0\0\0\0\0" + asked)
+        client.send(asked)
     for _ in questions:
-        reply = client.recv(512)
-        if reply[3] & 15 != code:
-            raise SystemExit(f"instructions: result code {reply[3] & 15} in place of {code}")
+        found = code(client.recv(512))
+        if found != wanted:
+            raise Unexpected(f"result code {found} in place of {wanted}")
 
 
-@contextlib.contextmanager
-def served(program, config, tool):
-    """The program under valgrind with these words, from its start to its end by SIGTERM, and a
-    client of it."""
-    with tempfile.TemporaryDirectory() as made:
-        file = pathlib.Path(made) / "config"
-        file.write_text(config)
-        command = ["valgrind", *tool, program, "serve", str(file), str(WHOLE_LIFE)]
-        process = subprocess.Popen(command, stdout=subprocess.DEVNULL, stderr=subprocess.DEVNULL)
-        client = socket.socket(socket.AF_INET, socket.SOCK_DGRAM)
-        client.connect(("127.0.0.1", SERVED))
-        client.settimeout(5)
-        try:
-            for _ in range(200):
-                time.sleep(0.1)
-                with contextlib.suppress(ConnectionRefusedError):
-                    ask(client, [question("a.elsewhere")], REFUSED)
-                    break
-            else:
-                raise SystemExit("instructions: the program doesn't serve")
-            yield client
-        finally:
-            client.close()
-            process.send_signal(signal.SIGTERM)
-            process.wait()
+def is_refused(client):
+    """Whether the program serves, by a question to be refused."""
+    try:
+        ask(client, [query("a.elsewhere")], REFUSED)
+    except ConnectionRefusedError:
+        return False
+    return True
+
+
+@functools.cache
+def name_server():
+    """The name server of all cases, from the first one on."""
+    return NameServer(reply, port=SERVER)
 
 
 def ask_all(program, case, count, tool):
-    """Asks the questions of a case, after those that fill the cache, of the program under this tool."""
-    _, config, before, names, code = case
-    with Server(), served(program, config, tool) as client:
-        for text in before:
-            ask(client, [question(text)], NAME_ERROR if "gone" in text else NO_ERROR)
-        asked = [question(text) for text in names(count)]
-        for first in range(0, count, AT_ONCE):
-            ask(client, asked[first:first + AT_ONCE], code)
+    """Asks the questions of a case, once the cache is filled, of the program under a tool."""
+    name_server()
+    more = {"stdout": subprocess.DEVNULL, "stderr": subprocess.DEVNULL, "patience": None}
+    with tempfile.TemporaryDirectory() as made, socket.socket(type=socket.SOCK_DGRAM) as client:
+        file = pathlib.Path(made) / "config"
+        file.write_text(case.config())
+        client.settimeout(5)
+        client.connect(("127.0.0.1", SERVED))
+        with Service(program, file, before=["valgrind", *tool], **more) as service:
+            service.wait_until(lambda: is_refused(client), pause=0.1)
+            for text in case.filling:
+                ask(client, [query(text)], NAME_ERROR if "gone" in text else NO_ERROR)
+            asked = case.asked(count)
+            for first in range(0, count, AT_ONCE):
+                ask(client, asked[first:first + AT_ONCE], case.code)
+
+
+def counted(run):
+    """The instructions of a run; `run` gets the words of valgrind's tool."""
+    with tempfile.TemporaryDirectory() as made:
+        file = pathlib.Path(made) / "counted"
+        run(["--tool=callgrind", f"--callgrind-out-file={file}"])
+        return int(re.search(r"^(?:summary|totals): (\d+)", file.read_text(), re.M)[1])

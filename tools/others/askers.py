@@ -1,16 +1,19 @@
-"""Programs that ask: how each is called, and the result code and records that it shows."""
-import os
-import pathlib
+"""Programs that ask: the call of each, and the result code and records in its output."""
 import shutil
 import subprocess
-import sys
 
-HERE = pathlib.Path(__file__).resolve().parent
+try:
+    import dns.message
+    import dns.query
+    import dns.rcode
+except ImportError:
+    dns = None
 
 
-def said(*words, **more):
+def said(*words):
+    """The output of a command."""
     words = [str(word) for word in words]
-    return subprocess.run(words, capture_output=True, text=True, timeout=30, check=False, **more).stdout
+    return subprocess.run(words, capture_output=True, text=True, timeout=30, check=False).stdout
 
 
 class Reply:
@@ -18,9 +21,8 @@ class Reply:
 
     def __init__(self, code, records):
         self.code = code
-        self.records = sorted(
-            (owner.lower(), int(seconds), kind, " ".join(data)) for owner, seconds, _, kind, *data in records
-        )
+        self.records = sorted((owner.lower(), int(seconds), kind, " ".join(data))
+                              for owner, seconds, _, kind, *data in records)
 
     def without_seconds(self):
         return [(owner, kind, data) for owner, _, kind, data in self.records]
@@ -43,8 +45,9 @@ def answer_section(lines):
 
 
 def code_after(mark, lines):
-    """What follows the mark, up to a comma or a semicolon."""
-    codes = [line.split(mark)[1].split(",")[0].split(";")[0].strip() for line in lines if mark in line]
+    """The word after the last mark, up to a comma or a semicolon."""
+    ends = [line.split(mark)[1] for line in lines if mark in line]
+    codes = [end.split(",")[0].split(";")[0].strip() for end in ends]
     return codes[-1] if codes else "no reply"
 
 
@@ -54,7 +57,8 @@ class Dig:
     options = ("+tries=1", "+time=8", "+noedns")
 
     def lines(self, port, name, kind, *options):
-        return said(self.command, "@127.0.0.1", "-p", port, *self.options, *options, name, kind).splitlines()
+        where = ["@127.0.0.1", "-p", port]
+        return said(self.command, *where, *self.options, *options, name, kind).splitlines()
 
     def ask(self, port, name, kind, tcp=False):
         lines = self.lines(port, name, kind, "+tcp" if tcp else "+notcp")
@@ -71,12 +75,13 @@ class Drill:
     shows_large = True
 
     def ask(self, port, name, kind, tcp=False):
-        lines = said("drill", *(["-t"] if tcp else ["-a"]), "-p", port, "@127.0.0.1", name, kind).splitlines()
+        words = ["-t" if tcp else "-a", "-p", port, "@127.0.0.1", name, kind]
+        lines = said("drill", *words).splitlines()
         return Reply(code_after("rcode: ", lines), answer_section(lines))
 
 
 class Host:
-    """It shows no record of 4 KiB, and a failure by its name alone."""
+    """host, which shows no record of 4 KiB, and of a failure the name alone."""
 
     command = "host"
     shows_large = False
@@ -85,34 +90,25 @@ class Host:
         options = ["-v", *(["-T"] if tcp else []), "-p", port, "-t", kind]
         lines = said("host", *options, name + ".", "127.0.0.1").splitlines()
         failures = [line.split("(")[1].rstrip(")") for line in lines if " not found: " in line]
-        return Reply(failures[0] if failures else code_after("status: ", lines), answer_section(lines))
-
-
-def has_dns(python):
-    return os.path.exists(python) and said(python, "-c", "import dns; print(dns)") != ""
-
-
-def python_with_dns():
-    """A Python that has dnspython: the one that runs this, or the system's."""
-    return next((python for python in (sys.executable, "/usr/bin/python3") if has_dns(python)), None)
+        code = failures[0] if failures else code_after("status: ", lines)
+        return Reply(code, answer_section(lines))
 
 
 class Dnspython:
     command = "python3-dnspython"
     shows_large = True
 
-    def __init__(self):
-        self.python = python_with_dns()
-
     def ask(self, port, name, kind, tcp=False):
-        lines = said(self.python, HERE / "ask_dnspython.py", port, name, kind, "tcp" if tcp else "udp").splitlines()
-        return Reply(code_after("status: ", lines), answer_section(lines))
+        asked, place = dns.message.make_query(name, kind), ("127.0.0.1", 8, port)
+        reply = dns.query.tcp(asked, *place) if tcp else (
+            dns.query.udp_with_fallback(asked, *place)[0])
+        lines = [line for rrset in reply.answer for line in rrset.to_text().splitlines()]
+        return Reply(dns.rcode.to_text(reply.rcode()), [line.split() for line in lines])
 
 
 def installed(least):
-    """Those that are installed, and the names of those that are not."""
+    """The installed programs, and the missing names of `least`."""
     there = [each() for each in (Dig, Kdig, Drill, Host) if shutil.which(each.command)]
-    if python_with_dns():
-        there.append(Dnspython())
+    there += [Dnspython()] if dns else []
     names = [each.command for each in there]
     return there, [name for name in least if name not in names]

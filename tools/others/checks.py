@@ -1,30 +1,29 @@
-"""What is checked of the forwarder between an asker and a name server. Each check gives None, or
-what is wrong."""
+"""What is checked of the forwarder between an asker and a name server. Each check returns None, or
+the fault."""
 import os
-import shutil
 import socket
 import struct
-import subprocess
 import time
 
 from others import askers, zone
-from repository import packing
+from repository.packing import framed, query, take_frame
+from running.programs import path
 
 
 class Place:
-    """A forwarder, by its port, which has just been started, and the name server that it asks."""
+    """A freshly started forwarder, by its port, and the name server to be asked."""
 
     def __init__(self, forwarder, server):
         self.forwarder, self.server = forwarder, server
         self.began = time.monotonic()
 
     def has_lifetime(self, seconds):
-        """No record is older than the forwarder, nor younger than it is now."""
+        """No record is older than the forwarder, or from the future."""
         return 0 <= zone.LIFETIME - seconds <= time.monotonic() - self.began + 1
 
 
 def followed(asker, port, name, kind, tcp):
-    """What a server says of a name and, where that ends with an alias, of what the alias leads to."""
+    """A server's reply for a name and, if that ends with an alias, for the target of the alias."""
     reply = asker.ask(port, name, kind, tcp)
     for _ in range(8):
         aliases = {owner: data for owner, _, of, data in reply.records if of == "CNAME"}
@@ -42,16 +41,16 @@ def followed(asker, port, name, kind, tcp):
 
 
 def compared(asker, place, name, kind, tcp=False, code=None):
-    """The forwarder's answer has the records that the server gives, and none is older than the
-    forwarder."""
+    """The forwarder's answer has the server's records, and none is older than the forwarder."""
     wanted = followed(asker, place.server.port, name, kind, tcp)
     met = asker.ask(place.forwarder, name, kind, tcp)
+    said = f"{name} {kind}: {met}"
     if code is not None and met.code != code:
-        return f"{name} {kind}: {met} in place of {code}"
+        return f"{said} in place of {code}"
     if met.code != wanted.code or met.without_seconds() != wanted.without_seconds():
-        return f"{name} {kind}: {met} in place of {wanted}"
+        return f"{said} in place of {wanted}"
     if not all(place.has_lifetime(seconds) for _, seconds, _, _ in met.records):
-        return f"{name} {kind}: {met} has other lifetimes than {zone.LIFETIME} s and what has passed of it"
+        return f"{said} has other lifetimes than {zone.LIFETIME} s and what has passed of it"
     return None
 
 
@@ -59,28 +58,27 @@ def first_fault(faults):
     return next((fault for fault in faults if fault is not None), None)
 
 
-def types_of(server):
-    return [kind for kind in zone.TYPES if kind not in server.without]
-
-
 def all_types(asker, place, tcp):
     """Each type that the server holds, asked of the server or from the cache."""
-    names = {kind: f"type-{kind.lower()}.example" for kind in types_of(place.server)}
-    return first_fault(compared(asker, place, names[kind], kind, tcp, "NOERROR") for kind in names)
+    kinds = [kind for kind in zone.TYPES if kind not in place.server.without]
+    return first_fault(
+        compared(asker, place, f"type-{kind.lower()}.example", kind, tcp, "NOERROR")
+        for kind in kinds)
 
 
 def denials(asker, place):
-    """A name that is not there, one below it, and a name without the type."""
-    return (compared(asker, place, "gone.example", "A", code="NXDOMAIN")
-            or compared(asker, place, "below.gone.example", "MX", code="NXDOMAIN")
-            or compared(asker, place, "gone.example", "A", tcp=True, code="NXDOMAIN")
-            or compared(asker, place, "www.example", "MX", code="NOERROR"))
+    """A missing name, a name below, and a name without the type."""
+    rows = [("gone.example", "A", False), ("below.gone.example", "MX", False),
+            ("gone.example", "A", True)]
+    faults = (compared(asker, place, *row, "NXDOMAIN") for row in rows)
+    return first_fault(faults) or compared(asker, place, "www.example", "MX", code="NOERROR")
 
 
 def aliases(asker, place):
     """Aliases of the route, across routes and back, and eight of them; nine fail."""
     names = ["one.example", "across.example", "there-and-back.example", "alias2.example"]
-    fault = first_fault(compared(asker, place, name, "A", tcp, "NOERROR") for name in names for tcp in (False, True))
+    fault = first_fault(compared(asker, place, name, "A", tcp, "NOERROR")
+                        for name in names for tcp in (False, True))
     met = asker.ask(place.forwarder, "alias1.example", "A")
     if not fault and (met.code, met.records) != ("SERVFAIL", []):
         fault = f"alias1.example A: {met} in place of SERVFAIL"
@@ -93,7 +91,7 @@ def large_text(asker, place):
 
 
 def cut_over_udp(place):
-    """dig that doesn't go on over TCP sees the question with TC."""
+    """dig without a further query over TCP sees the question with TC."""
     lines = askers.Dig().lines(place.forwarder, "big.example", "TXT", "+ignore", "+notcp")
     flags = [line for line in lines if line.startswith(";; flags:")]
     if not flags or " tc " not in flags[0].replace(";", " ;") or "ANSWER: 0" not in flags[0]:
@@ -120,37 +118,9 @@ def not_served(place):
     return None if "Transfer failed" in printed else f"a zone transfer: {printed}"
 
 
-def question(number):
-    return packing.message(number, 0x0100, packing.question(packing.name(f"n{number}.example")))
-
-
-def exactly(stream, count):
-    octets = b""
-    while len(octets) < count:
-        more = stream.recv(count - len(octets))
-        if not more:
-            raise EOFError("the connection was closed")
-        octets += more
-    return octets
-
-
-def pipelined(place):
-    """A hundred questions in one piece over one connection, whose answers come in any order."""
-    with socket.create_connection(("127.0.0.1", place.forwarder), 10) as stream:
-        stream.sendall(b"".join(packing.framed(question(n)) for n in range(100)))
-        left = set(range(100))
-        while left:
-            message = exactly(stream, struct.unpack(">H", exactly(stream, 2))[0])
-            number, flags = struct.unpack(">2H", message[:4])
-            if number not in left or flags & 0x800F != 0x8000 or message[-4:] != bytes([198, 51, 100, number]):
-                return f"{message!r} for {number}"
-            left.remove(number)
-    return None
-
-
 def stopped_and_started(place):
-    """Without its server what is cached is answered, and all else fails; with the server again all
-    is answered."""
+    """Without a server cached names are answered, and all else fails; with the server again all is
+    answered."""
     ask = askers.Dig().ask
     ask(place.forwarder, "n1.example", "A")
     place.server.stop()
@@ -160,51 +130,58 @@ def stopped_and_started(place):
     return None if codes == ["NOERROR", "SERVFAIL", "NOERROR", "NOERROR"] else f"{codes}"
 
 
+BY_DIG = (cut_over_udp, letter_case, not_served, stopped_and_started)
+
+
+def pipelined(place):
+    """A hundred questions in a piece, over a connection; the answers come in any order."""
+    asked = [query(f"n{n}.example", identifier=n) for n in range(100)]
+    with socket.create_connection(("127.0.0.1", place.forwarder), 10) as stream:
+        stream.sendall(b"".join(map(framed, asked)))
+        left = set(range(100))
+        while left:
+            message = take_frame(stream)
+            number, flags = struct.unpack(">2H", message[:4])
+            address = bytes([198, 51, 100, number & 255])
+            if number not in left or flags & 0x800F != 0x8000 or message[-4:] != address:
+                return f"{message!r} for {number}"
+            left.remove(number)
+    return None
+
+
 def all_answered(folder, place, mode):
     """dnsperf loses no question and gets no failure."""
     questions = folder / "questions"
-    questions.write_text("".join(f"n{n}.example A\n" for n in range(100)) + "type-mx.example MX\n")
+    names = "".join(f"n{n}.example A\n" for n in range(100))
+    questions.write_text(names + "type-mx.example MX\n")
     where = ["-s", "127.0.0.1", "-p", place.forwarder]
     printed = askers.said("dnsperf", "-m", mode, *where, "-d", questions, "-l", "2", "-c", "4")
     sums = dict(line.split(":") for line in printed.splitlines() if line.count(":") == 1)
     sums = {key.strip(): text.split() for key, text in sums.items()}
-    completed, lost, codes = (sums.get(key, ["?"]) for key in ("Queries completed", "Queries lost", "Response codes"))
-    if lost[0] != "0" or completed[0] in ("0", "?") or codes[:1] != ["NOERROR"] or len(codes) > 3:
-        return printed
-    return None
+    keys = "Queries completed", "Queries lost", "Response codes"
+    completed, lost, codes = (sums.get(key, ["?"]) for key in keys)
+    is_fine = lost[0] == "0" and completed[0] not in ("0", "?")
+    return None if is_fine and codes[0] == "NOERROR" and len(codes) <= 3 else printed
 
 
 def getent_can_ask():
-    """getent asks port 53 of what /etc/resolv.conf names: as root it has both in its own name space."""
-    return os.geteuid() == 0 and shutil.which("getent") and shutil.which("unshare")
+    """Whether getent can ask: at port 53 of a server in /etc/resolv.conf, for root in a name space
+    with a file of its own."""
+    return os.geteuid() == 0 and path("getent") and path("unshare")
 
 
 def getent(folder, serve):
-    """The C library's resolver finds both addresses of a name, an alias's target, and that a name
-    is not there."""
+    """The C library's resolver finds both addresses of a name, an alias's target, and no address of
+    a missing name."""
     (folder / "resolv.conf").write_text("nameserver 127.0.0.153\noptions timeout:8 attempts:1\n")
-    script = f'mount --bind {folder}/resolv.conf /etc/resolv.conf && exec getent ahostsv4 "$1"'
-    addresses = {
-        "type-a.example": {"198.51.100.5", "198.51.100.6"}, "across.example": {"203.0.113.9"}, "gone.example": set()
-    }
+    bound = f"mount --bind {folder}/resolv.conf /etc/resolv.conf"
+    asking = ["unshare", "--mount", "--propagation", "private", "sh", "-c",
+              f'{bound} && exec getent ahostsv4 "$1"', "sh"]
+    addresses = {"type-a.example": {"198.51.100.5", "198.51.100.6"},
+                 "across.example": {"203.0.113.9"}, "gone.example": set()}
     with serve("127.0.0.153:53"):
         for name, wanted in addresses.items():
-            printed = askers.said("unshare", "--mount", "--propagation", "private", "sh", "-c", script, "sh", name)
-            met = {line.split()[0] for line in printed.splitlines()}
+            met = {line.split()[0] for line in askers.said(*asking, name).splitlines()}
             if met != wanted:
                 return f"{name}: {met} in place of {wanted}"
     return None
-
-
-def wait_for(port, address="127.0.0.1"):
-    for _ in range(200):
-        try:
-            socket.create_connection((address, port), 1).close()
-            return
-        except OSError:
-            time.sleep(0.02)
-    raise AssertionError(f"nothing listens at {address}:{port}")
-
-
-def started(words):
-    return subprocess.Popen([str(word) for word in words], stdout=subprocess.DEVNULL)

@@ -1,24 +1,19 @@
-"""Name servers, on this machine alone: how each is started with the two zones."""
-import os
-import shutil
-import signal
-import subprocess
-import time
-
+"""Name servers, on this machine alone, each with its zones."""
 from others import zone
+from repository.packing import query
+from running import programs
+from running.programs import Program, answers
 
 NAMED = """options {{
   directory "{folder}"; pid-file none; session-keyfile none;
-  listen-on port {port} {{ 127.0.0.1; }}; listen-on-v6 {{ none; }};
-  recursion no; dnssec-validation no; minimal-responses no;
+  listen-on port {port} {{ {address}; }}; listen-on-v6 {{ none; }};
+  recursion no; dnssec-validation no; minimal-responses no; notify no;
 }};
 controls {{ }};
-zone "example" {{ type primary; file "example"; check-names ignore; }};
-zone "test" {{ type primary; file "test"; check-names ignore; }};
 """
 
 NSD = """server:
-  ip-address: 127.0.0.1@{port}
+  ip-address: {address}@{port}
   zonesdir: "{folder}"
   zonelistfile: "{folder}/zones"
   xfrdfile: "{folder}/xfrd"
@@ -30,16 +25,10 @@ NSD = """server:
   server-count: 1
 remote-control:
   control-enable: no
-zone:
-  name: "example"
-  zonefile: "example"
-zone:
-  name: "test"
-  zonefile: "test"
 """
 
 UNBOUND = """server:
-  interface: 127.0.0.1@{port}
+  interface: {address}@{port}
   do-daemonize: no
   use-syslog: no
   chroot: ""
@@ -52,88 +41,85 @@ UNBOUND = """server:
   local-zone: "test." static
 """
 
-PDNS_ZONES = """zone "example" {{ type master; file "{folder}/example"; }};
-zone "test" {{ type master; file "{folder}/test"; }};
-"""
-
 
 class Server:
-    """A name server that can be stopped and started again. `without` are the types that it can't
-    hold."""
+    """A name server, to be stopped and started again. `without`: types that the program can't hold;
+    `head`: the beginning of the configuration."""
 
-    command = ""
+    command = head = ""
     without = ()
 
-    def __init__(self, folder, port):
-        self.folder, self.port, self.process = folder, port, None
+    def __init__(self, folder, port, address="127.0.0.1", zones=None):
+        """`zones` has the text of each zone's master file, by default from zone.py."""
+        self.folder, self.port, self.address, self.process = folder, port, address, None
+        self.zones = zones or {each: zone.master_file(each, self.without) for each in zone.ZONES}
         self.write_zones()
 
     def write_zones(self):
-        for each in zone.ZONES:
-            (self.folder / each).write_text(zone.master_file(each, self.without))
+        for name, text in self.zones.items():
+            (self.folder / name).write_text(text)
 
     @classmethod
     def is_installed(cls):
-        return shutil.which(cls.command, path=os.environ["PATH"] + ":/usr/sbin") is not None
+        return not programs.missing(cls.command)
 
     def words(self):
         raise NotImplementedError
 
-    def written(self, name, text):
-        file = self.folder / name
-        file.write_text(text.format(folder=self.folder, port=self.port))
-        return str(file)
+    def zone(self, name):
+        """The lines of the configuration for a zone."""
+        return ""
+
+    def configured(self):
+        """Writes the configuration; returns the path."""
+        file = self.folder / "conf"
+        head = self.head.format(**vars(self))
+        file.write_text(head + "".join(map(self.zone, self.zones)))
+        return file
 
     def start(self):
+        """Starts the program, and waits for its first answer."""
         self.begin()
-        time.sleep(1)
-        self.expect_running()
+        self.process.wait_until(lambda: answers(self.address, self.port, query("www.example")))
 
     def begin(self):
-        """Starts the program, and doesn't wait until it serves."""
-        path = shutil.which(self.command, path=os.environ["PATH"] + ":/usr/sbin")
-        with open(self.folder / "log", "ab") as log:
-            self.process = subprocess.Popen(
-                [path, *self.words()], stdout=log, stderr=log, cwd=self.folder, start_new_session=True)
-
-    def expect_running(self):
-        if self.process.poll() is not None:
-            raise AssertionError(f"{self.command} ended: " + (self.folder / "log").read_text()[-500:])
+        """Starts the program without a wait."""
+        words = [programs.path(self.command), *self.words()]
+        self.process = Program(words, log=self.folder / "log", cwd=self.folder)
 
     def stop(self):
-        """Ends the server with the processes that it started."""
-        os.killpg(self.process.pid, signal.SIGTERM)
-        try:
-            self.process.wait(5)
-        except subprocess.TimeoutExpired:
-            os.killpg(self.process.pid, signal.SIGKILL)
-            self.process.wait()
+        self.process.stop()
 
 
 class Named(Server):
-    command = "named"
+    command, head = "named", NAMED
 
     def words(self):
-        return ["-g", "-n", "1", "-c", self.written("conf", NAMED)]
+        return ["-g", "-n", "1", "-c", self.configured()]
+
+    def zone(self, name):
+        return f'zone "{name}" {{ type primary; file "{name}"; check-names ignore; }};\n'
 
 
 class Nsd(Server):
-    command = "nsd"
+    command, head = "nsd", NSD
 
     def words(self):
-        return ["-d", "-c", self.written("conf", NSD)]
+        return ["-d", "-c", self.configured()]
+
+    def zone(self, name):
+        return f'zone:\n  name: "{name}"\n  zonefile: "{name}"\n'
 
 
 class Unbound(Server):
-    command = "unbound"
+    command, head = "unbound", UNBOUND
 
     def words(self):
-        lines = [f"  local-data: '{name} {zone.LIFETIME} IN {kind} {data}'\n"
-                 for each in zone.ZONES.values() for name, kind, data in each if kind not in self.without]
-        file = self.written("conf", UNBOUND)
-        with open(file, "a", encoding="ascii") as conf:
-            conf.writelines(lines)
-        return ["-d", "-c", file]
+        return ["-d", "-c", self.configured()]
+
+    def zone(self, name):
+        return "".join(f"  local-data: '{owner} {zone.LIFETIME} IN {kind} {data}'\n"
+                       for owner, kind, data in zone.ZONES[name] if kind not in self.without)
 
 
 class Pdns(Server):
@@ -141,46 +127,41 @@ class Pdns(Server):
     without = ("RT",)
 
     def words(self):
-        zones = self.written("zones", PDNS_ZONES)
-        return [f"--config-dir={self.folder}", f"--socket-dir={self.folder}", "--launch=bind", f"--bind-config={zones}",
-                "--local-address=127.0.0.1", f"--local-port={self.port}", "--daemon=no", "--guardian=no",
-                "--setuid=", "--setgid="]
+        return [f"--config-dir={self.folder}", f"--socket-dir={self.folder}", "--launch=bind",
+                f"--bind-config={self.configured()}", f"--local-address={self.address}",
+                f"--local-port={self.port}", "--daemon=no", "--guardian=no", "--setuid=",
+                "--setgid="]
+
+    def zone(self, name):
+        return f'zone "{name}" {{ type master; file "{self.folder}/{name}"; }};\n'
 
 
 class Dnsmasq(Server):
-    """It has no zones, but records of some types, and any type by its octets."""
+    """dnsmasq, without zones, but with records of some types, and any type by octets."""
 
     command = "dnsmasq"
     with_types = ("A", "AAAA", "TXT", "SRV", "MX", "CAA", "PTR", "TYPE65400")
     without = tuple(set(zone.TYPES).difference(with_types))
 
     def words(self):
-        common = ["-k", "--no-resolv", "--no-hosts", "--conf-file=/dev/null", "--user=root", "--cache-size=0",
-                  "--bind-interfaces", "--listen-address=127.0.0.1", f"--port={self.port}",
-                  "--local=/example/test/", f"--local-ttl={zone.LIFETIME}"]
-        return common + [word for each in zone.ZONES.values() for record in each for word in options_of(*record)]
+        records = [record for each in zone.ZONES.values() for record in each]
+        return ["-k", "--no-resolv", "--no-hosts", "--conf-file=/dev/null", "--user=root",
+                "--cache-size=0", "--bind-interfaces", f"--listen-address={self.address}",
+                f"--port={self.port}", "--local=/example/test/", f"--local-ttl={zone.LIFETIME}",
+                *(word for record in records for word in options_of(*record))]
 
 
 def options_of(name, kind, data):
     """The options by which dnsmasq holds a record."""
-    name, fields = name.rstrip("."), [field.strip('"').rstrip(".") for field in data.split()]
-    if kind in ("A", "AAAA"):
-        return [f"--host-record={name},{data}"]
-    if kind == "CNAME":
-        return [f"--cname={name},{fields[0]}"]
-    if kind == "MX":
-        return [f"--mx-host={name},{fields[1]},{fields[0]}"]
-    if kind == "SRV":
-        return [f"--srv-host={name},{fields[3]},{fields[2]},{fields[0]},{fields[1]}"]
-    if kind == "TXT":
-        return ["--txt-record=" + ",".join([name, *data.strip('"').split('" "')])]
-    if kind == "CAA":
-        return [f"--caa-record={name},{fields[0]},{fields[1]},{fields[2]}"]
-    if kind == "PTR":
-        return [f"--ptr-record={name},{fields[0]}"]
-    if kind.startswith("TYPE") and kind[4:].isdigit():
-        return [f"--dns-rr={name},{kind[4:]},{fields[2]}"]
-    return []
+    fields = [field.strip('"').rstrip(".") for field in data.split()]
+    texts = ",".join(data.strip('"').split('" "'))
+    forms = {"A": "host-record={name},{data}", "AAAA": "host-record={name},{data}",
+             "CNAME": "cname={name},{0}", "MX": "mx-host={name},{1},{0}",
+             "SRV": "srv-host={name},{3},{2},{0},{1}", "TXT": "txt-record={name},{texts}",
+             "CAA": "caa-record={name},{0},{1},{2}", "PTR": "ptr-record={name},{0}"}
+    form = "dns-rr={name},{number},{2}" if kind[4:].isdigit() else forms.get(kind)
+    named = {"name": name.rstrip("."), "data": data, "texts": texts, "number": kind[4:]}
+    return ["--" + form.format(*fields, **named)] if form else []
 
 
 ALL = [Unbound, Named, Nsd, Dnsmasq, Pdns]

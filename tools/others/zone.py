@@ -1,4 +1,4 @@
-"""What the name servers hold: two zones, `example` and `test`, with a record of each type that
+"""The content of the name servers: the zones `example` and `test`, with a record of each type that
 servers know."""
 
 LIFETIME = 300
@@ -46,8 +46,9 @@ EXAMPLE = [
     ("across.example.", "CNAME", "www.test."),
     ("there-and-back.example.", "CNAME", "back.test."),
     ("to-nothing.example.", "CNAME", "gone.test."),
-    *((f"type-{kind.lower()}.example.", kind, data) for kind, each in TYPES.items() for data in each),
-    # Nine aliases, one more than are followed, lead from the first.
+    *((f"type-{kind.lower()}.example.", kind, data)
+      for kind, each in TYPES.items() for data in each),
+    # Nine aliases lead from the first name; a forwarder follows eight.
     *((f"alias{n}.example.", "CNAME", f"alias{n + 1}.example.") for n in range(1, 9)),
     ("alias9.example.", "CNAME", "www.example."),
     *((f"n{n}.example.", "A", f"198.51.100.{n}") for n in range(100)),
@@ -66,4 +67,5 @@ ZONES = {"example": EXAMPLE, "test": TEST}
 
 def master_file(zone, without):
     """The zone's text, without these types."""
-    return "".join(f"{name} {LIFETIME} IN {kind} {data}\n" for name, kind, data in ZONES[zone] if kind not in without)
+    return "".join(f"{name} {LIFETIME} IN {kind} {data}\n"
+                   for name, kind, data in ZONES[zone] if kind not in without)

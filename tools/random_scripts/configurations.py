@@ -43,6 +43,8 @@ def limits(random, version, theme):
               if random.random() < (0.5 if name in ("tries", "stale_s") else 0.15)}
     if theme == "pressed":
         chosen = {"cache": random.choice((1, 2, 2, 3, 3, 4))}
+    if theme == "aged":
+        chosen = {"cache": random.choice((2, 3, 4)), "tries": 1, "stale_s": 86_400}
     if theme == "stale":
         chosen |= {"tries": random.choice((1, 1, 2)), "stale_s": random.choice((30, 600, 86_400)),
                    "cache": random.choice((2, 3, 4, 4096))}
@@ -55,11 +57,12 @@ def limits(random, version, theme):
 def configuration(random, theme):
     """The text of a configuration, and its suffixes.
 
-    The theme of the script is "pressed" for a small cache, "stale" for sets that are answered after
-    they ended, or "any".
+    The theme of the script is "pressed" for a small cache, "aged" for one in which entries end,
+    "stale" for sets that are answered after they ended, "large" or "any".
     """
-    version = 2 if theme == "stale" else random.choice((1, 2))
-    others = random.sample(SUFFIXES, random.choice((0, 0, 1, 2, 3, 5)))
+    version = 2 if theme in ("aged", "stale") else random.choice((1, 2))
+    counts = (0, 0, 1) if theme == "aged" else (0, 0, 1, 2, 3, 5, 10)
+    others = random.sample(SUFFIXES, random.choice(counts))
     others = [each for at, each in enumerate(others)
               if each.lower().strip(".") not in [one.lower().strip(".") for one in others[:at]]]
     suffixes = others if others and random.random() < 0.15 else [".", *others]

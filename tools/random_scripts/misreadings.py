@@ -132,13 +132,120 @@ def refuses_hyphens():
     return configuration, "LABEL", re.compile(r"[A-Za-z0-9_]{1,63}")
 
 
+def unpromoted(is_so):
+    """Questions promote nothing if this holds of their actions."""
+    right = Forwarder.on_question
+
+    def on_question(self, request):
+        before = list(self.cache.entries)
+        actions = right(self, request)
+        if is_so(actions):
+            self.cache.entries = before
+        return actions
+    return Forwarder, "on_question", on_question
+
+
+def promotes_nothing_for_who_joins():
+    """A question that joins an inquiry promotes nothing."""
+    return unpromoted(lambda actions: not actions)
+
+
+def promotes_nothing_for_cut_answers():
+    """An answer that is cut over UDP promotes nothing."""
+    return unpromoted(lambda actions: actions and actions[0][0] == "reply"
+                      and messages.read_header(actions[0][-1]).tc)
+
+
+def promotes_outranking():
+    """An entry that outranks a piece is promoted."""
+    right = cache.Cache.offer
+
+    def offer(self, piece, now):
+        old = self.at(piece.slot())
+        right(self, piece, now)
+        if old in self.entries:
+            self.promote(old)
+    return cache.Cache, "offer", offer
+
+
+def drops_expired_first():
+    """A full cache drops an entry that ended, if any."""
+    right = cache.Cache.offer
+
+    def offer(self, piece, now):
+        ended = [entry for entry in self.entries if not entry.is_alive(now)]
+        is_full = len(self.entries) == self.capacity and not self.at(piece.slot())
+        if ended and is_full and piece.lifetime:
+            self.entries.remove(ended[-1])
+        right(self, piece, now)
+    return cache.Cache, "offer", offer
+
+
+def prefers_living_aliases():
+    """After the last try a living alias comes before a set that ended."""
+    right = cache.Cache.find_stale
+
+    def find_stale(self, name, kind, class_, now, window):
+        own, alias = (self.at((messages.key(name), each, class_)) for each in (kind, 5))
+        is_led = alias and alias.piece.form == replies.SET and alias.is_alive(now)
+        if is_led and not (own and own.is_alive(now)):
+            return alias
+        return right(self, name, kind, class_, now, window)
+    return cache.Cache, "find_stale", find_stale
+
+
+def spells_as_the_oldest():
+    """A further query has the spelling of the question that waits longest."""
+    right = Forwarder.ask
+
+    def ask(self, question, route, server, tries, transport):
+        waiting = [each.wanted for each in self.waiting if each.wanted.same(question)]
+        return right(self, waiting[0] if tries > 1 else question, route, server, tries, transport)
+    return Forwarder, "ask", ask
+
+
+def lowers_past_ascii():
+    """The octets C0 to DE are letters."""
+    lower = bytes.maketrans(bytes((*range(65, 91), *range(0xC0, 0xDF))),
+                            bytes((*range(97, 123), *range(0xE0, 0xFF))))
+
+    def key(name):
+        return tuple(label.translate(lower) for label in name)
+    return [(each, "key", key) for each in (messages, configuration, replies, cache)]
+
+
+def knows_eight_routes():
+    """No route after the eighth is looked at."""
+    right = configuration.Configuration.route_of
+    return configuration.Configuration, "route_of", lambda self, name: (
+        right(replace(self, routes=self.routes[:8]), name))
+
+
+def compares_an_octet_of_classes():
+    """Of two classes the low octets alone are compared, where something is kept."""
+    right = replies.Piece.slot
+    return replies.Piece, "slot", lambda self: (*right(self)[:2], self.class_ & 255)
+
+
+def denies_all_that_end_in_255():
+    """A class whose low octet is 255 is not served."""
+    right = step.is_served
+    return step, "is_served", lambda question: right(question) and question.class_ & 255 != 255
+
+
 ALL = (drops_rcode, refuses_answers, fails_denials, prefers_first_again, prefers_no_denier,
        asks_at_two_aliases, promotes_no_name_errors, shapes_internet_alone, looks_up_with_rd,
-       denies_at_once_alone, takes_unknown_rcodes, refuses_hyphens)
+       denies_at_once_alone, takes_unknown_rcodes, refuses_hyphens, promotes_nothing_for_who_joins,
+       promotes_nothing_for_cut_answers, promotes_outranking, drops_expired_first,
+       prefers_living_aliases, spells_as_the_oldest, lowers_past_ascii, knows_eight_routes,
+       compares_an_octet_of_classes, denies_all_that_end_in_255)
 
 
 @contextlib.contextmanager
 def misread(misreading):
     """The reading with one rule misread, until the block ends."""
-    with mock.patch.object(*misreading()):
+    patches = misreading()
+    with contextlib.ExitStack() as until:
+        for patch in patches if isinstance(patches, list) else [patches]:
+            until.enter_context(mock.patch.object(*patch))
         yield

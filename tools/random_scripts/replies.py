@@ -2,7 +2,7 @@
 from .octets import DATA, NAME, STRING, Writer, broken, other_case
 
 TTLS = (0, 1, 30, 30, 300, 300, 300, 604_800, 604_801, 2**31 - 1, 2**31, 2**32 - 1)
-LASTING, SHORT = (300, 300, 600, 3600), (1, 1, 30, 300)
+LASTING, SHORT, MIXED = (300, 300, 600, 3600), (1, 1, 30, 300), (0, 1, 30, 30, 3600, 3600, 3600)
 CNAME, SOA, NS, MX, SRV, NXDOMAIN = 5, 6, 2, 15, 33, 3
 
 
@@ -11,8 +11,8 @@ class Replies:
 
     def __init__(self, random, pick, class_, calm, theme):
         self.random, self.pick, self.class_, self.calm = random, pick, class_, calm
-        self.ttls = {"pressed": LASTING, "stale": SHORT}.get(theme, TTLS)
-        self.large = theme == "large"
+        self.ttls = {"pressed": LASTING, "stale": SHORT, "aged": MIXED}.get(theme, TTLS)
+        self.large, self.aged = theme == "large", theme == "aged"
 
     def odd(self, chance):
         """Whether something odd is done."""
@@ -34,7 +34,8 @@ class Replies:
             return self.pick()
         count = part
         if part == STRING:
-            count = self.random.choice((0, 1, 1, 3, 255 if self.odd(0.3) else 2))
+            long = 255 if self.aged or self.odd(0.3) else 2
+            count = self.random.choice((0, 1, 1, 3, long))
         octets = bytes(count - 1) + bytes([self.random.randrange(6)]) if count else b""
         return bytes([count]) + octets if part == STRING else octets
 
@@ -91,11 +92,12 @@ class Replies:
 
     def sections(self, question):
         """The answer and authority sections, and the RCODE."""
-        count = self.random.choice((0,) * 10 + (1, 1, 1, 1, 2, 2, 3, 4, 7, 8, 9))
+        many = (0,) * 10 + (1, 1, 1, 1, 2, 2, 3, 4, 7, 8, 9)
+        count = self.random.choice((0, 0, 1, 1, 2) if self.aged else many)
         count = min(count, 1) if self.large else count
         answers, name = self.aliases(question.name, count)
-        ends = {"set": 16, "no data": 6, "name error": 6, "nothing": 4, "both": 2, "referral": 2,
-                "loop": 1}
+        ends = {"set": 16, "no data": 6, "name error": 10 if self.aged else 6, "nothing": 4,
+                "both": 2, "referral": 2, "loop": 1}
         end = self.random.choices(list(ends), list(ends.values()))[0]
         if end in ("set", "both"):
             answers += self.rows(name, question.kind)
@@ -113,7 +115,7 @@ class Replies:
             if self.odd(0.2):
                 self.random.shuffle(records)
             if records and self.odd(0.05):
-                self.random.choice(records)[2] = self.random.choice((1, 3, 255))
+                self.random.choice(records)[2] = self.random.choice((1, 3, 255, 257))
         return answers, authority, NXDOMAIN if end == "name error" or self.odd(0.05) else 0
 
     def flags(self, rcode):

@@ -1,18 +1,13 @@
-/* The bare programs of tools/beside, tools/echo_costs and tools/socket_costs, the server and the generator.
+/* The bare programs of tools/beside, the server and the generator.
 
      bare echo PORT             answers each datagram with one record: recvfrom, sendto
-     bare echo PORT CODE STACK STEPS
-                                does so after running through CODE lines of code of 64 octets, writing to STACK lines
-                                of its stack (512 of each at most), and STEPS turns of two instructions in one line;
-                                at SIGTERM it prints the answers, and the microseconds of user and system time
      bare stream PORT           answers over TCP, a send for each message
      bare relay PORT SERVER     hands each datagram to the server from a socket and a random port of its own
      bare answer PORT COUNTED   the server, over UDP and TCP: an address for each name, NXDOMAIN below gone.example
                                 (RFC 2308 2.1); the file COUNTED has eight octets, which count the questions
-     bare ask PORT NAMES WINDOW SECONDS [sleeps]
+     bare ask PORT NAMES WINDOW SECONDS
                                 asks for the addresses of n0.example and so on, NAMES in turn, WINDOW questions at a
-                                time, and never sleeps, or sleeps until an answer comes; prints the lines of dnsperf's
-                                report that are read
+                                time, and never sleeps; prints the lines of dnsperf's report that are read
 
    All are at 127.0.0.1. They trust what they read: nobody but these tools asks them. */
 #define _GNU_SOURCE
@@ -131,44 +126,6 @@ static void datagrams(int port, reply_to *reply)
         if (length >= HEADER)
             sendto(fd, message, reply(message, length), 0, (struct sockaddr *)&client, size);
     }
-}
-
-/* MOST lines, each of one jump to the next. */
-enum { MOST = 512 };
-extern const char lines[];
-__asm__(".text\n.balign 64\nlines:\n.rept 512\njmp 1f\n.balign 64\n1:\n.endr\nret\n");
-
-static int code_lines, stack_lines;
-static long steps;
-static volatile long answers;
-
-static __attribute__((noinline)) void touch_stack(int count)
-{
-    volatile char room[MOST * 64] __attribute__((unused));
-    for (int k = 0; k < count; k++)
-        room[k * 64] = (char)k;
-}
-
-/* An echo that does more before each reply. */
-static size_t worked(uint8_t *message, size_t length)
-{
-    ((void (*)(void))(lines + 64 * (MOST - code_lines)))();
-    touch_stack(stack_lines);
-    for (long k = steps; k > 0; k--)
-        __asm__ volatile("");
-    answers++;
-    return echoed(message, length);
-}
-
-static void finish(int signal)
-{
-    struct rusage used;
-    char text[96];
-    (void)signal;
-    getrusage(RUSAGE_SELF, &used);
-    int size = snprintf(text, sizeof text, "%ld %ld %ld\n", answers,
-        used.ru_utime.tv_sec * 1000000 + used.ru_utime.tv_usec, used.ru_stime.tv_sec * 1000000 + used.ru_stime.tv_usec);
-    _exit(write(1, text, size) != size);
 }
 
 /* Answers each whole message of a piece of a stream; how many octets are left, at its start. */
@@ -315,15 +272,13 @@ static size_t question(uint8_t *message, uint16_t number, int name)
 /* A question that has no answer after a while is counted as lost, with all that were asked with it. */
 static const double LOST_AFTER = 0.2;
 
-static void ask(int port, int names, int window, double seconds, int sleeps)
+static void ask(int port, int names, int window, double seconds)
 {
     static uint8_t message[ROOM];
-    int fd = socket(AF_INET, SOCK_DGRAM | (sleeps ? 0 : SOCK_NONBLOCK) | SOCK_CLOEXEC, 0), under_way = 0;
+    int fd = socket(AF_INET, SOCK_DGRAM | SOCK_NONBLOCK | SOCK_CLOEXEC, 0), under_way = 0;
     struct sockaddr_in place = here(port);
-    struct timeval patience = {.tv_usec = LOST_AFTER * 1e6};
     uint64_t sent = 0, found = 0;
     check(fd, "socket");
-    setsockopt(fd, SOL_SOCKET, SO_RCVTIMEO, &patience, sizeof patience);
     check(connect(fd, (struct sockaddr *)&place, sizeof place), "connect");
     double now = seconds_now(), end = now + seconds, last = now;
     for (; now < end || (under_way && now < last + LOST_AFTER); now = seconds_now()) {
@@ -339,8 +294,6 @@ static void ask(int port, int names, int window, double seconds, int sleeps)
             found += message[2] & 0x80 && !(message[3] & 15) && message[7];
             under_way -= under_way > 0;
             last = now;
-            if (sleeps)
-                break;
         }
     }
     printf("Queries sent: %lu\nResponse codes: NOERROR %lu\n", sent, found);
@@ -355,21 +308,17 @@ int main(int count, char **words)
     }
     if (count == 3 && !strcmp(words[1], "echo"))
         datagrams(atoi(words[2]), echoed);
-    else if (count == 6 && !strcmp(words[1], "echo") && atoi(words[3]) <= MOST && atoi(words[4]) <= MOST) {
-        code_lines = atoi(words[3]), stack_lines = atoi(words[4]), steps = atol(words[5]);
-        signal(SIGTERM, finish);
-        datagrams(atoi(words[2]), worked);
-    } else if (count == 3 && !strcmp(words[1], "stream"))
+    else if (count == 3 && !strcmp(words[1], "stream"))
         streams(atoi(words[2]), echoed);
     else if (count == 4 && !strcmp(words[1], "relay"))
         relay(atoi(words[2]), atoi(words[3]));
     else if (count == 4 && !strcmp(words[1], "answer"))
         answer(atoi(words[2]), words[3]);
-    else if ((count == 6 || (count == 7 && !strcmp(words[6], "sleeps"))) && !strcmp(words[1], "ask")) {
-        ask(atoi(words[2]), atoi(words[3]), atoi(words[4]), atof(words[5]), count == 7);
+    else if (count == 6 && !strcmp(words[1], "ask")) {
+        ask(atoi(words[2]), atoi(words[3]), atoi(words[4]), atof(words[5]));
         return 0;
     }
-    fprintf(stderr, "usage: bare echo PORT [CODE STACK STEPS] | stream PORT | relay PORT SERVER |"
-                    " answer PORT COUNTED | ask PORT NAMES WINDOW SECONDS [sleeps]\n");
+    fprintf(stderr, "usage: bare echo PORT | stream PORT | relay PORT SERVER | answer PORT COUNTED |"
+                    " ask PORT NAMES WINDOW SECONDS\n");
     return 2;
 }

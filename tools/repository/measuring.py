@@ -1,7 +1,8 @@
-"""The measuring programs of tools/measurements, proved and built as crates of a copy of the repository.
+"""The programs of tools/measurements, proved and built as crates of a copy of the repository.
 
-The gate proves each `.rt` and `.antt` file of the repository, and no user needs a proof of a program
-that only measures. So their files have the endings of ENDINGS, and get those of a crate in the copy.
+The gate proves each `.rt` and `.antt` file of the repository, and no user needs a proof of a
+program that only measures. So their files have the endings of ENDINGS, and in the copy those of a
+crate.
 """
 import pathlib
 import shutil
@@ -18,11 +19,11 @@ ENDINGS = {".rs": ".rt", ".proof": ".antt"}
 
 
 class Unbuilt(Exception):
-    """A program that was not built, with the end of what the toolchain printed."""
+    """A program that was not built, with the toolchain's last lines."""
 
 
 def uses():
-    """The crates that each measuring program uses."""
+    """The used crates of each measuring program."""
     lines = (FOLDER / "uses").read_text(encoding="utf-8").splitlines()
     parts = (line.partition(":") for line in lines if line and not line.startswith("#"))
     return {name: used.split() for name, _, used in parts}
@@ -41,7 +42,7 @@ def text(name):
 
 
 def below(names):
-    """Those crates of the repository that these are, and all that they use."""
+    """These crates, if the repository has them, and all crates below."""
     known = crates.uses()
     found, left = set(), [name for name in names if name in known]
     while left:
@@ -53,8 +54,8 @@ def below(names):
 
 
 def place(name, top):
-    """Leaves in the copy at `top` the crates that a program stands on, without their wrong bodies, and
-    puts the program next to them."""
+    """Leaves in the copy at `top` the crates below a program, without wrong bodies, and adds the
+    program."""
     kept = below(uses()[name])
     for folder in (top / "crates").iterdir():
         if folder.is_dir() and folder.name not in kept:
@@ -71,14 +72,14 @@ def place(name, top):
 
 
 def build(name):
-    """Proves and builds a program in a copy, and keeps it in OUT. What `rt ci` proved on this machine before is not
-    proved again."""
+    """Proves and builds a program in a copy, and keeps the program in OUT. `rt ci` proves nothing
+    twice on a machine."""
     with tempfile.TemporaryDirectory(prefix="measuring-") as folder:
         top = pathlib.Path(folder)
         copy_repository(top)
         place(name, top)
-        ran = subprocess.run(["rt", "ci"], cwd=top, stdin=subprocess.DEVNULL, stdout=subprocess.PIPE,
-                             stderr=subprocess.STDOUT, text=True, errors="replace", check=False)
+        ran = subprocess.run(["rt", "ci"], cwd=top, stdin=subprocess.DEVNULL, text=True,
+                             stdout=subprocess.PIPE, stderr=subprocess.STDOUT, errors="replace")
         made = top / "crates" / name / "out" / name
         if ran.returncode or not made.is_file():
             raise Unbuilt(f"{name} was not built:\n" + "\n".join(ran.stdout.splitlines()[-15:]))
@@ -88,7 +89,7 @@ def build(name):
 
 
 def built(name):
-    """The path of a measuring program, which is built unless it is there for these sources."""
+    """The path of a measuring program, built for these sources."""
     kept = OUT / f"{name}.text"
     if not (OUT / name).is_file() or not kept.is_file() or kept.read_text() != text(name):
         build(name)

@@ -1,4 +1,4 @@
-"""Messages of the DNS in octets, for all tools and tests that make some (RFC 1035 4.1)."""
+"""Messages of the DNS in octets, for all tools and tests (RFC 1035 4.1)."""
 import struct
 
 A, NS, CNAME, SOA, MX, TXT, ANY = 1, 2, 5, 6, 15, 16, 255
@@ -8,7 +8,15 @@ OF_QUESTION = b"\xc0\x0c"  # a pointer to the name of the question (RFC 1035 4.1
 
 def name(text):
     """The labels of a name, without pointers. A dot at its end makes no difference."""
-    return b"".join(bytes([len(label)]) + label.encode() for label in text.split(".") if label) + b"\0"
+    labels = [label.encode() for label in text.split(".") if label]
+    return b"".join(bytes([len(label)]) + label for label in labels) + b"\0"
+
+
+def name_end(octets, at):
+    """The offset after the name at `at`; the message's end if the name is cut off."""
+    while at < len(octets) and 0 < octets[at] < 0xC0:
+        at += 1 + octets[at]
+    return min(at + (1 if at < len(octets) and octets[at] == 0 else 2), len(octets))
 
 
 def question(owner, kind=A, class_=IN):
@@ -37,12 +45,38 @@ def message(identifier, flags, asked, answers=(), authority=()):
     return head + asked + b"".join(answers) + b"".join(authority)
 
 
+def query(text="a.example", kind=A, identifier=0x1234):
+    """A client's message with one question, recursion desired."""
+    return message(identifier, 0x0100, question(name(text), kind))
+
+
 def reply(query, flags, answers=(), authority=()):
     """A message with the identifier and the question of a query."""
     head = query[:2] + struct.pack(">H", flags) + counts(answers, authority)
     return head + query[12:] + b"".join(answers) + b"".join(authority)
 
 
+def code(octets):
+    """The result code of a message."""
+    return octets[3] & 15
+
+
 def framed(octets):
     """A message with its length before it (RFC 1035 4.2.2)."""
     return struct.pack(">H", len(octets)) + octets
+
+
+def exactly(stream, count):
+    """So many octets of a connection."""
+    octets = b""
+    while len(octets) < count:
+        more = stream.recv(count - len(octets))
+        if not more:
+            raise EOFError("the connection was closed")
+        octets += more
+    return octets
+
+
+def take_frame(stream):
+    """The next message of a connection, without its length."""
+    return exactly(stream, struct.unpack(">H", exactly(stream, 2))[0])

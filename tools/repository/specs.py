@@ -3,18 +3,23 @@ import functools
 import re
 
 from repository.crates import CRATES
+from repository.imports import USE, place
 
 DEFINITION = re.compile(r"(?:(?:abbrev|unfoldable) pub|pub (?:record|data)) (?!use )(\S+)")
-IMPORT = re.compile(
-    r"\buse Rattle\.(\w+)\.specs\.([\w.]+?)(?:\.\{([^}]*)\})?(?: as (\w+))?;?$", re.M)
+
+
+def beginning(lines, end):
+    """The first line of the comment whose last line is above the line `end`."""
+    start = end
+    while start and re.match(r"--(?! ----)", lines[start - 1]):
+        start -= 1
+    return start
 
 
 def comment_at(lines, end):
     """The comment whose last line is above the line `end`, in one line."""
-    start = end
-    while start and re.match(r"--(?! ----)", lines[start - 1]):
-        start -= 1
-    return " ".join(" ".join(line[2:].strip() for line in lines[start:end]).split())
+    comment = lines[beginning(lines, end):end]
+    return " ".join(" ".join(line[2:].strip() for line in comment).split())
 
 
 def sentence(text):
@@ -27,15 +32,26 @@ def leading(lines):
     return next((at for at, line in enumerate(lines) if not line.startswith("--")), len(lines))
 
 
+def imports(text):
+    """The imports of definitions: a crate, a path there, names, and a short name for the path."""
+    return [(crate, path[1:], names, short)
+            for crate, side, path, names, short in USE.findall(text) if side == "specs"]
+
+
 def passing(lines):
     """The lines of a spec file that pass definitions of other files on."""
     return [line for line in lines if re.match(r"(unfoldable )?pub use ", line)]
 
 
+def ending(lines, start):
+    """The next empty line, or the end."""
+    return next((at for at in range(start, len(lines)) if not lines[at].strip()), len(lines))
+
+
 def block_at(lines, start):
-    """The definition that begins at this line, up to the next empty line."""
-    end = next((at for at in range(start, len(lines)) if not lines[at].strip()), len(lines))
-    return "\n".join(line for line in lines[start:end] if not line.lstrip().startswith("--"))
+    """The definition that begins at this line, without comments."""
+    block = lines[start:ending(lines, start)]
+    return "\n".join(line for line in block if not line.lstrip().startswith("--"))
 
 
 def words_of(text):
@@ -45,17 +61,28 @@ def words_of(text):
     return qualified | set(re.findall(r"[^\s(){}\[\],;.◌]+", plain))
 
 
+def own_names(body, name):
+    """The variables of a definition: arguments of its equations, and what binders name."""
+    lines = re.findall(rf"^{re.escape(name)} (?!:).*", body, re.M)
+    equations = " ".join(line.partition(" = ")[0] for line in lines)
+    binders = re.findall(r"[({]([\w' ]+) :|λ ([\w' ]+)\.", body)
+    return words_of(" ".join([equations, *(" ".join(each) for each in binders)]))
+
+
 class Specs:
-    """The spec files of all crates: definitions, first sentences, and what is passed on."""
+    """The spec files of all crates: definitions with their comments, their texts with and without
+    these, first sentences of files, and what is passed on."""
 
     def __init__(self):
         self.comments = {}
         self.bodies = {}
+        self.written = {}
         self.heads = {}
         self.texts = {}
         self.passed_on = {}
         for file in sorted(CRATES.glob("*/specs/*.antt")):
             self.read(file, file.parent.parent.name, file.stem)
+        self.order = {key: at for at, key in enumerate(self.bodies)}
 
     def read(self, file, crate, module):
         text = file.read_text(encoding="utf-8")
@@ -65,26 +92,44 @@ class Specs:
         for at, line in enumerate(lines):
             found = DEFINITION.match(line)
             if found:
-                self.comments[crate, module, found[1]] = comment_at(lines, at)
-                self.bodies[crate, module, found[1]] = block_at(lines, at)
-        for of, path, names, _ in IMPORT.findall("\n".join(passing(lines))):
-            for name in names.split(",") if names else [""]:
-                key = (crate, module, name.strip()) if name else (crate, path.rpartition(".")[2])
-                self.passed_on[key] = (of, path)
+                key = crate, module, found[1]
+                self.comments[key] = comment_at(lines, at)
+                self.bodies[key] = block_at(lines, at)
+                self.written[key] = lines[beginning(lines, at):ending(lines, at)]
+        for of, path, names, _ in imports("\n".join(passing(lines))):
+            for name in filter(None, map(str.strip, names.split(","))):
+                self.passed_on[crate, module, name] = (of, path)
 
-    def resolve(self, crate, module, name):
+    def resolve(self, crate, path, name):
         """The definition of this name that the file has or passes on, if any."""
-        while (crate, module, name) not in self.comments:
-            to = self.passed_on.get((crate, module, name)) or self.passed_on.get((crate, module))
-            if to is None or to == (crate, module):
+        key = (*place(crate, "specs", path), name)
+        while key not in self.comments:
+            to = self.passed_on.get(key)
+            if to is None:
                 return None
-            crate, module = to
-        return crate, module, name
+            key = (*place(to[0], "specs", to[1]), name)
+        return key
+
+    def has(self, crate, path, name):
+        """Whether the file has or passes on this name, which may be a case of data."""
+        key = (*place(crate, "specs", path), name)
+        marks = r"(?:(?:abbrev|unfoldable|pub|record|data|pattern) )*"
+        text = self.texts.get(key[:2])
+        return text is None or key in self.passed_on or bool(
+            re.search(rf"^ *{marks}{re.escape(name)}(?= )", text, re.M))
+
+    def unknown(self):
+        """The imported names that the named file of the repository does not have."""
+        for (crate, module), text in self.texts.items():
+            for of, path, names, _ in imports(text):
+                for name in filter(None, map(str.strip, names.split(","))):
+                    if not self.has(of, path, name.partition(" as ")[0]):
+                        yield f"{crate}/specs/{module}.antt: Rattle.{of}.specs.{path}.{name}"
 
     def imported(self, text):
         """The definitions that a file imports, by the words that name them there."""
         found = {}
-        for crate, path, names, short in IMPORT.findall(text):
+        for crate, path, names, short in imports(text):
             for word in filter(None, map(str.strip, names.split(","))):
                 name, _, other = word.partition(" as ")
                 found[(other or name).replace("◌", "")] = self.resolve(crate, path, name)
@@ -99,25 +144,36 @@ class Specs:
         own = {key[2].replace("◌", ""): key for key in self.bodies if key[:2] == (crate, module)}
         return {**self.imported(self.texts[crate, module]), **own}
 
+    @functools.cache
     def cited_by(self, key):
-        """The definitions that the text of this one names."""
-        named = self.named_in(*key[:2])
-        words = words_of(self.bodies[key])
-        return {named[word] for word in words if word in named} - {key}
+        """The definitions that the text of this one names. A file's own stand above."""
+        named, body = self.named_in(*key[:2]), self.bodies[key]
+        without_labels = re.sub(r"^  pub \w+ :|\b\w+ =(?= |$)", "", body, flags=re.M)
+        words = words_of(without_labels) - own_names(body, key[2])
+        cited = {named[word] for word in words if word in named} - {key}
+        at = self.order[key]
+        return {other for other in cited if other[:2] != key[:2] or self.order[other] < at}
 
-    def reached_by(self, keys):
-        """These definitions and all that they cite, directly or not."""
-        found, left = set(keys), list(keys)
+    def reached_by(self, keys, without=()):
+        """These definitions and all that they cite, directly or not; none of these crates, nor what
+        only they cite."""
+        found, left = set(), list(keys)
         while left:
-            more = self.cited_by(left.pop()) - found
-            found |= more
-            left += more
+            key = left.pop()
+            if key not in found and key[0] not in without:
+                found.add(key)
+                left += self.cited_by(key)
         return found
+
+    def signature(self, key):
+        """What the name of a definition is followed by, up to the first field, case or equation."""
+        end = rf"\n{re.escape(key[2])} |\bwhere\b|\Z"
+        return re.search(rf"{re.escape(key[2])}(.*?)(?:{end})", self.bodies[key], re.S)[1].strip()
 
     def computes(self, key):
         """Whether the definition is a function that yields a value: no type, no statement."""
-        body = self.bodies[key]
-        if re.match(r"pub (?:record|data) ", body):
-            return False
-        signature = re.split(rf"^{re.escape(key[2])}\b", body, flags=re.M)[0]
-        return not re.search(r"Type 0\s*\Z", signature)
+        return not self.signature(key).endswith("Type 0")
+
+    def states(self, key):
+        """Whether the definition is a statement about values: no function, no type of data."""
+        return not self.computes(key) and self.signature(key) != ": Type 0"

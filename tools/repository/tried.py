@@ -1,7 +1,7 @@
-"""Where the prover refused which wrong bodies of the second tier: `wrong-bodies/tried` of a crate.
+"""The wrong bodies of the second tier that the prover refused: `wrong-bodies/tried` of a crate.
 
-A line has an edit's name and a digest of all that decides whether it is refused at a goal: the edit,
-the files of its crate and of all below it, all without comment lines, and the toolchain's logic.
+A line has an edit's name and a digest of all that decides on a refusal at a goal: the edit, the
+files of its crate and of all crates below, without comment lines, and the toolchain's logic.
 """
 import hashlib
 import subprocess
@@ -9,7 +9,7 @@ import subprocess
 from repository.crates import uses
 
 PARTS = ("src", "specs", "proofs")
-# What a comment line begins with. No text in quotes of the sources has a line that begins so.
+# The beginning of a comment line. No text in quotes of the sources has a line with this beginning.
 COMMENTS = {".rt": b"//", ".antt": b"--"}
 HEAD = "# The text on which each edit was refused at a goal. tools/wrong_bodies writes this.\n"
 
@@ -23,19 +23,19 @@ def digest(*parts):
 
 
 def toolchain():
-    """The line that names the toolchain: its kit, and the sum of the logic by which it judges."""
+    """The toolchain's line: its kit, and the sum of its logic."""
     return subprocess.run(["rt", "version"], capture_output=True, check=True).stdout
 
 
 def text_of(file):
-    """The lines of a file, without those that are comments alone."""
+    """The lines of a file without comment lines."""
     mark, lines = COMMENTS.get(file.suffix), file.read_bytes().split(b"\n")
     return b"\n".join(line for line in lines if not mark or not line.lstrip().startswith(mark))
 
 
 def of_texts(top):
-    """A digest for each crate of the copy at `top`: its files, all below it, the toolchain's logic.
-    Kits of one logic differ in commands and speed."""
+    """A digest for each crate of the copy at `top`: its files, all crates below, the toolchain's
+    logic. Kits of equal logic differ in commands and speed."""
     found, logic = {}, toolchain().partition(b" logic ")[2] or toolchain()
     for name, used in uses().items():
         crate, parts = top / "crates" / name, [logic, " ".join(used).encode()]

@@ -1,15 +1,18 @@
-"""What docs/ADMIN.md says besides its configurations."""
-import tempfile
+"""docs/ADMIN.md, besides the configurations there."""
+import re
 import time
 
-from .messages import SERVFAIL, code, expect, is_answer, question
-from .running import TOP, Forwarder, Server, case, run_of
+from repository.crates import TOP
+from repository.packing import code
+
+from .cases import Forwarder, Server, case, run_of, within, written
+from .messages import SERVFAIL, expect, never, question
+from .of_commands import SMALLEST
 
 
 @case
 def what_check_cannot_know(program):
-    """It reads the file alone: each configuration of that table is accepted."""
-    smallest = (TOP / "examples" / "smallest.toml").read_text()
+    """The command reads the file alone: each configuration of that table is accepted."""
     server = 'servers = ["192.0.2.53:53"]'
     rows = [
         (server, 'servers = ["127.0.0.1:53"]'),
@@ -21,10 +24,8 @@ def what_check_cannot_know(program):
         ("version = 1", 'version = 1\nlisten = "192.0.2.1:53"'),
     ]
     for old, new in rows:
-        expect(smallest.count(old), 1)
-        with tempfile.NamedTemporaryFile("w") as file:
-            file.write(smallest.replace(old, new))
-            file.flush()
+        expect(SMALLEST.count(old), 1)
+        with written(SMALLEST.replace(old, new)) as file:
             expect((new, *run_of(program, "check", file.name)), (new, b"ok 1\n", b"", 0))
 
 
@@ -32,22 +33,35 @@ def what_check_cannot_know(program):
 def repeats_of_one_silent_name_use_up_the_questions(program):
     """Of equal questions each waits by itself: after 1,024 in 6 seconds a question of another route
     fails at once, and is answered once the tries for the silent name are over."""
-    silent, well = Server(by_udp=lambda query: None), Server()
-    limits = "tries = 4\nask_ms = 1500\ndeadline_ms = 8000\n"
-    with Forwarder(program, [silent.port], limits=limits, others=[("test", well.port)]) as forwarder, forwarder.udp() as client:
-        other = question("other.test")
+    silent, limits = Server(never), {"tries": 4, "ask_ms": 1500, "deadline_ms": 8000}
+    with (Forwarder(program, [silent], {"test": [Server()]}, **limits) as forwarder,
+          forwarder.udp() as client):
         for n in range(1023):
             client.send(question("silent.example", identifier=n))
             time.sleep(0.001)
-        is_answer(forwarder.ask_udp(other), other)
+        forwarder.answers("other.test")
         client.send(question("silent.example", identifier=1023))
         time.sleep(0.1)
-        began = time.monotonic()
-        expect(code(forwarder.ask_udp(other)), SERVFAIL)
-        if time.monotonic() - began > 0.5:
-            raise AssertionError("it was not refused at once")
+        with within(0.5, "it was not refused at once"):
+            forwarder.fails("other.test")
         expect(code(client.recv(65535)), SERVFAIL)
         time.sleep(0.5)
-        is_answer(forwarder.ask_udp(other), other)
-        expect({query[12:] for query in silent.asked}, {question("silent.example")[12:]})
-        expect(len(silent.asked), 4)
+        forwarder.answers("other.test")
+        expect([query[12:] for query in silent.asked], [question("silent.example")[12:]] * 4)
+
+
+@case
+def with_the_limits_of_an_office_clients_get_a_reply_in_time(program):
+    """With the first server silent the second answers after `ask_ms`; with both silent, clients get
+    SERVFAIL after all tries, before they give up."""
+    page = (TOP / "docs" / "ADMIN.md").read_text(encoding="utf-8")
+    row = re.search(r"^\| office.*?\| (\d+) \| (\d+) \| (\d+) \|$", page, re.M)
+    limits = dict(zip(("tries", "ask_ms", "deadline_ms"), map(int, row.groups())))
+    all_tries = limits["tries"] * limits["ask_ms"]
+    for second, least in ((Server(), limits["ask_ms"]), (Server(never), all_tries)):
+        with Forwarder(program, [Server(never), second], **limits) as forwarder:
+            began = time.monotonic()
+            forwarder.fails() if least == all_tries else forwarder.answers()
+            took = 1000 * (time.monotonic() - began)
+            if not least <= took < 5000:
+                raise AssertionError(f"a reply after {took:.0f} ms")

@@ -1,14 +1,16 @@
-"""What is asked of name servers, and what comes of what they do."""
+"""Queries to name servers, and the outcomes of their replies."""
 import socket
-import struct
 import time
 
-from repository.packing import framed
+from repository.packing import code, framed
+from running.processes import descriptors
+from running.waiting import until
 
+from .cases import (
+    Forwarder, Server, case, descriptors_at_most, free_port, in_a_network_of_its_own, reset, within)
 from .messages import (
-    SERVFAIL, UNKNOWN, code, cut_reply_to, expect, is_answer, is_long_answer, long_reply_to, question,
-    reply_to)
-from .running import Forwarder, Server, case, descriptors, free_port, in_a_network_of_its_own
+    SERVFAIL, UNKNOWN, cut_reply_to, expect, head, is_answer, is_long_answer, long_reply_to, never,
+    number_of, question, reply_to)
 
 
 @case
@@ -21,12 +23,9 @@ def a_cut_reply_is_asked_for_over_tcp(program):
         stream.sendall(framed(reply_to(query)))
         ends.append(stream.recv(1))
 
-    server = Server(by_udp=cut_reply_to, over_tcp=sees_the_end)
-    with Forwarder(program, [server.port]) as forwarder:
+    with Forwarder(program, [Server(cut_reply_to, sees_the_end)]) as forwarder:
         forwarder.is_well()
-        until = time.monotonic() + 1.5
-        while len(ends) < 2 and time.monotonic() < until:
-            time.sleep(0.01)
+        until(lambda: len(ends) == 2, 1.5, "a connection stays open")
         expect(ends, [b"", b""])
 
 
@@ -41,7 +40,8 @@ def servers_over_tcp(program):
         stream.sendall(octets[30:])
 
     def another_first(stream, query):
-        stream.sendall(framed(reply_to(question("other.example", identifier=8))) + framed(reply_to(query)))
+        other = reply_to(question("other.example", identifier=8))
+        stream.sendall(framed(other) + framed(reply_to(query)))
 
     def twice(stream, query):
         stream.sendall(framed(reply_to(query)) * 2)
@@ -54,8 +54,7 @@ def servers_over_tcp(program):
             stream.sendall(framed(reply_to(query)))
 
     for over_tcp in (in_two_pieces, another_first, twice, unless_the_client_has_ended):
-        server = Server(by_udp=cut_reply_to, over_tcp=over_tcp)
-        with Forwarder(program, [server.port]) as forwarder:
+        with Forwarder(program, [Server(cut_reply_to, over_tcp)]) as forwarder:
             forwarder.is_well()
 
 
@@ -66,109 +65,102 @@ def servers_that_close_or_reset(program):
         stream.close()
 
     def resets(stream, query):
-        stream.setsockopt(socket.SOL_SOCKET, socket.SO_LINGER, struct.pack("ii", 1, 0))
-        stream.close()
+        reset(stream)
 
     for over_tcp in (closes, resets):
-        first, second = Server(by_udp=cut_reply_to, over_tcp=over_tcp), Server()
-        with Forwarder(program, [first.port, second.port]) as forwarder:
-            began = time.monotonic()
-            forwarder.is_well()
-            if time.monotonic() - began > 1:
-                raise AssertionError("it waited for the time of an ask")
+        with Forwarder(program, [Server(cut_reply_to, over_tcp), Server()]) as forwarder:
+            with within(1, "it waited for the time of an ask"):
+                forwarder.is_well()
 
 
 @case
 def a_server_that_is_not_there(program):
-    gone, server = free_port(), Server()
+    gone = free_port()
     with Forwarder(program, [gone]) as forwarder:
-        began = time.monotonic()
-        expect(code(forwarder.ask_udp(question())), SERVFAIL)
-        if time.monotonic() - began > 1:
-            raise AssertionError("the refusal was not reported")
-    with Forwarder(program, [gone, server.port]) as forwarder:
+        with within(1, "the refusal was not reported"):
+            forwarder.fails()
+    with Forwarder(program, [gone, Server()]) as forwarder:
         forwarder.is_well()
 
 
 @case
 def a_server_that_never_answers(program):
-    silent, server = Server(by_udp=lambda query: None), Server()
-    with Forwarder(program, [silent.port, server.port], limits="ask_ms = 300\n") as forwarder:
+    with Forwarder(program, [Server(never), Server()], ask_ms=300) as forwarder:
         forwarder.is_well()
 
 
 @case
 def strangers_that_reply_first(program):
-    """They reply to the port of the query, one from the server's port at another address, one from another port at its
-    address. Only the server's reply, which comes later, answers the question."""
-    strangers = [socket.socket(socket.AF_INET, socket.SOCK_DGRAM) for _ in range(2)]
+    """Two strangers reply to the port of the query: from the server's port at a wrong address, and
+    from a wrong port at the server's address. Only the server's reply, the last, counts."""
+    strangers = [socket.socket(type=socket.SOCK_DGRAM) for _ in range(2)]
 
     def by_udp(query):
         for stranger in strangers:
-            stranger.sendto(reply_to(query, address=b"\xc0\0\2\1"), ("127.0.0.1", server.asked_from[-1]))
+            forged = reply_to(query, address=b"\xc0\0\2\1")
+            stranger.sendto(forged, ("127.0.0.1", server.asked_from[-1]))
         time.sleep(0.05)
         return reply_to(query)
 
-    server = Server(by_udp=by_udp)
-    for stranger, at in zip(strangers, (("127.0.0.6", server.port), ("127.0.0.1", free_port()))):
-        stranger.bind(at)
-    with Forwarder(program, [server.port]) as forwarder:
+    server = Server(by_udp)
+    strangers[0].bind(("127.0.0.6", server.port))
+    strangers[1].bind(("127.0.0.1", free_port()))
+    with Forwarder(program, [server]) as forwarder:
         forwarder.is_well()
     expect(len(server.asked), 2)
 
 
 @case
 def many_asks_at_once(program):
-    server = Server(by_udp=lambda query: time.sleep(0.0005) or reply_to(query))
-    limits = "ask_ms = 5000\ndeadline_ms = 20000\n"
-    with Forwarder(program, [server.port], limits=limits) as forwarder, forwarder.udp() as client:
+    server = Server(lambda query: time.sleep(0.0005) or reply_to(query))
+    with (Forwarder(program, [server], ask_ms=5000, deadline_ms=20000) as forwarder,
+          forwarder.udp() as client):
         asked = {n: question(f"n{n}.example", identifier=n) for n in range(200)}
         for message in asked.values():
             client.send(message)
-        left = dict(asked)
-        while left:
+        while asked:
             reply = client.recv(65535)
-            is_answer(reply, left.pop(struct.unpack(">H", reply[:2])[0]))
+            is_answer(reply, asked.pop(number_of(reply)))
 
 
 @case
 def long_replies_by_udp(program):
-    """A reply by UDP has up to 65,507 octets: over TCP the client gets all of it, by UDP it is cut."""
+    """A reply by UDP has up to 65,507 octets: over TCP the client gets the whole, by UDP a cut
+    reply."""
     for octets in (6000, 60000):
-        server = Server(by_udp=lambda query: long_reply_to(query, octets))
-        with Forwarder(program, [server.port]) as forwarder:
+        server = Server(lambda query: long_reply_to(query, octets))
+        with Forwarder(program, [server]) as forwarder:
             asked = question(kind=UNKNOWN)
             is_long_answer(forwarder.ask_tcp(asked), asked, octets)
-            expect(forwarder.ask_udp(asked), asked[:2] + struct.pack(">5H", 0x8380, 1, 0, 0, 0) + asked[12:])
+            expect(forwarder.ask_udp(asked), head(asked, 0x8380, 0) + asked[12:])
 
 
 @case
 def runs_draw_other_identifiers_and_ports(program):
-    """Of 200 queries each, asked for in one go, three runs draw no pair of both in common (RFC 5452
-    9.2): a stranger who knows what one run drew learns nothing of another. Of runs with the same
-    random words two ask at the same draws."""
+    """Three runs with 200 queries each have no pair of identifier and port in common (RFC 5452
+    9.2): the draws of a run tell a stranger nothing of the next. Runs with equal random words would
+    draw equal pairs."""
     runs = []
     for _ in range(3):
-        server = Server(by_udp=lambda query: None)
-        with Forwarder(program, [server.port]) as forwarder, forwarder.udp() as client:
+        server = Server(never)
+        with Forwarder(program, [server]) as forwarder, forwarder.udp() as client:
             for n in range(200):
                 client.send(question(f"n{n}.example"))
-            until = time.monotonic() + 5
-            while len(server.asked_from) < 200 and time.monotonic() < until:
-                time.sleep(0.01)
+            until(lambda: len(server.asked_from) == 200, 5, "not all was asked")
         runs.append({(query[:2], port) for query, port in zip(server.asked, server.asked_from)})
-    drawn = len(set.union(*runs))
-    if min(map(len, runs)) < 200 or drawn < sum(map(len, runs)):
-        raise AssertionError(f"{' and '.join(str(len(run)) for run in runs)} pairs are {drawn} in all")
+    drawn, sizes = len(set.union(*runs)), [len(run) for run in runs]
+    if min(sizes) < 200 or drawn < sum(sizes):
+        raise AssertionError(f"{' and '.join(map(str, sizes))} pairs are {drawn} in all")
 
 
 def are_drawn_everywhere(drawn, first, end):
     """Each quarter of the range has at least 80 of 600 random values: 150 are expected, with a
     deviation of 11."""
-    quarter = (end - first) // 4
-    counts = [sum(first + k * quarter <= value < first + (k + 1) * quarter for value in drawn) for k in range(4)]
+    size = (end - first) // 4
+    quarters = [(value - first) // size for value in drawn]
+    counts = [quarters.count(quarter) for quarter in range(4)]
     if sum(counts) != len(drawn) or min(counts) < 80:
-        raise AssertionError(f"of {len(drawn)} from {first} to {end - 1} the quarters have {counts}")
+        raise AssertionError(f"{len(drawn)} from {first} to {end - 1}: quarters have {counts}")
 
 
 @case
@@ -176,10 +168,10 @@ def ports_and_identifiers_are_drawn_from_all_that_there_are(program):
     """600 queries leave from ports of 1,024 to 65,535, and their identifiers use all 16 bits (RFC
     5452 9.2)."""
     server = Server()
-    with Forwarder(program, [server.port]) as forwarder:
+    with Forwarder(program, [server]) as forwarder:
         for n in range(600):
-            is_answer(forwarder.ask_udp(question(f"n{n}.example")), question(f"n{n}.example"))
-    identifiers = [struct.unpack(">H", query[:2])[0] for query in server.asked]
+            forwarder.answers(f"n{n}.example")
+    identifiers = [number_of(query) for query in server.asked]
     expect(len(identifiers), 600)
     are_drawn_everywhere(server.asked_from, 1024, 65536)
     are_drawn_everywhere(identifiers, 0, 65536)
@@ -194,21 +186,18 @@ def ports_and_identifiers_are_drawn_from_all_that_there_are(program):
 def a_query_that_the_system_refuses_to_send(program):
     """The try fails (EPERM), and the next server is asked at once, not after the five seconds that
     a query may take. After 200 such queries no descriptor more is open."""
-    refused = free_port()
+    refused, limits = free_port(), {"ask_ms": 5000, "deadline_ms": 9000}
 
     def body():
         first, second = Server(port=refused), Server()
-        limits = "ask_ms = 5000\ndeadline_ms = 9000\ntries = 1\n"
-        with Forwarder(program, [first.port], limits=limits, descriptors=64) as forwarder:
-            before = descriptors(forwarder.process.pid)
+        bounds = descriptors_at_most(64)
+        with Forwarder(program, [first], bounds=bounds, tries=1, **limits) as forwarder:
+            before = descriptors(forwarder.pid)
             for n in range(200):
-                expect(code(forwarder.ask_udp(question(f"n{n}.example"))), SERVFAIL)
-            expect(descriptors(forwarder.process.pid), before)
-        with Forwarder(program, [first.port, second.port], limits="ask_ms = 5000\ndeadline_ms = 9000\n") as forwarder:
-            began = time.monotonic()
-            is_answer(forwarder.ask_udp(question()), question())
-            if time.monotonic() - began > 1:
-                raise AssertionError(f"answered after {time.monotonic() - began:.1f} s")
+                forwarder.fails(f"n{n}.example")
+            expect(descriptors(forwarder.pid), before)
+        with Forwarder(program, [first, second], **limits) as forwarder, within(1):
+            forwarder.answers()
         expect(first.asked, [])
 
     chain = "add table ip own; add chain ip own sent { type filter hook output priority 0; }"
@@ -217,11 +206,12 @@ def a_query_that_the_system_refuses_to_send(program):
 
 @case
 def a_client_over_tcp_waits_to_the_deadline(program):
-    """Its question is asked sixteen times at most, a second each; it gets its reply at its
+    """The question is asked sixteen times at most, a second each; the client gets a reply at the
     deadline, and not before."""
-    server = Server(by_udp=lambda query: None)
-    with Forwarder(program, [server.port], limits="ask_ms = 1000\ntries = 16\ndeadline_ms = 13000\n") as forwarder:
+    server, limits = Server(never), {"ask_ms": 1000, "tries": 16, "deadline_ms": 13000}
+    with Forwarder(program, [server], **limits) as forwarder:
         began = time.monotonic()
         expect(code(forwarder.ask_tcp(question())), SERVFAIL)
-        if not 12.9 < time.monotonic() - began < 13.9 or not 12 <= len(server.asked) <= 13:
-            raise AssertionError(f"after {time.monotonic() - began:.1f} s and {len(server.asked)} queries")
+        took, count = time.monotonic() - began, len(server.asked)
+        if not 12.9 < took < 13.9 or not 12 <= count <= 13:
+            raise AssertionError(f"after {took:.1f} s and {count} queries")

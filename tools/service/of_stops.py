@@ -1,18 +1,21 @@
-"""What comes while the service is stopped, and is read afterwards."""
+"""Questions that come while the service is stopped, and are read afterwards."""
 import socket
 import time
 
-from .messages import expect, is_answer, question, reply_to
-from .running import Forwarder, Server, case, stopped, waits
+from running.processes import waits
+
+from .cases import Forwarder, Server, case, stopped
+from .messages import expect, is_answer, kept_reply_to, never, question, reply_to
 
 
 @case
 def a_burst_beside_an_open_query(program):
-    """A query is open that no server answers, and 300 cached questions come while the service is stopped. It answers
-    one after another: until the last it has slept 60 times at most, in one of three bursts."""
-    server = Server(by_udp=lambda query: None if b"never" in query else reply_to(query, seconds=300))
-    limits = "ask_ms = 10000\ndeadline_ms = 20000\n"
-    with (Forwarder(program, [server.port], limits=limits) as forwarder, forwarder.udp() as other,
+    """A query stays without answer, and 300 cached questions come while the service is stopped. The
+    service answers in turn, and sleeps 60 times at most until the last, in a single burst of three
+    at least."""
+    server = Server(lambda query: never(query) if b"never" in query else kept_reply_to(query))
+    limits = {"ask_ms": 10000, "deadline_ms": 20000}
+    with (Forwarder(program, [server], **limits) as forwarder, forwarder.udp() as other,
           forwarder.udp() as client):
         client.setsockopt(socket.SOL_SOCKET, socket.SO_RCVBUF, 1 << 20)
         forwarder.ask_udp(question())
@@ -22,22 +25,26 @@ def a_burst_beside_an_open_query(program):
             with stopped(forwarder):
                 for n in range(300):
                     client.send(question(identifier=n))
-                before = waits(forwarder.process.pid)
+                before = waits(forwarder.pid)
             expect(len({client.recv(65535)[:2] for _ in range(300)}), 300)
-            slept.append(waits(forwarder.process.pid) - before)
+            slept.append(waits(forwarder.pid) - before)
         if min(slept) > 60:
             raise AssertionError(f"it slept {' and '.join(map(str, slept))} times")
 
 
 @case
 def a_question_that_is_read_after_its_deadline(program):
-    """It comes behind 400 cached ones, while the service is stopped. The service reads a few, and is stopped again, for
-    longer than a question may wait for its reply. The question's time begins when it is read: it is answered. A
-    question that was read before the long stop shows nothing; for the next one the service runs less."""
-    server = Server(by_udp=lambda query: time.sleep(0.1) or reply_to(query, seconds=300 if b"kept" in query else 0))
-    limits = "ask_ms = 1500\ndeadline_ms = 1500\n"
-    with (Forwarder(program, [server.port], limits=limits) as forwarder, forwarder.udp() as other,
-          forwarder.udp() as client):
+    """The question comes after 400 cached ones, while the service is stopped. The service reads a
+    few, and is stopped again, for longer than a question may wait for a reply. A question's time
+    begins when the service reads it: the question is answered. If the service read the question
+    before the long stop, the next attempt lets the service run less."""
+    def by_udp(query):
+        time.sleep(0.1)
+        return kept_reply_to(query) if b"kept" in query else reply_to(query)
+
+    limits = {"ask_ms": 1500, "deadline_ms": 1500}
+    with (Forwarder(program, [server := Server(by_udp)], **limits) as forwarder,
+          forwarder.udp() as other, forwarder.udp() as client):
         forwarder.ask_udp(question("kept.example"))
         for runs in (3, 1, 0):
             late = question(f"late{runs}.example")

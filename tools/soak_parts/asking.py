@@ -1,4 +1,5 @@
-"""The clients: they ask at the times of the office, over UDP and TCP, and write down what they get."""
+"""The clients: they ask at the times of the office, over UDP and TCP, and write down the
+answers."""
 import contextlib
 import errno
 import heapq
@@ -13,21 +14,21 @@ import sys
 import time
 from typing import NamedTuple
 
-from repository.packing import framed
-from service.messages import question
+from repository.packing import framed, query
 from soak_parts.clock import DAY
 from soak_parts.office import FORWARDER
 from soak_parts.people import Day
 from soak_parts.zones import KINDS
 
-AGAIN, REFUSED, OVER = 5, 1, 60  # seconds until a client asks again: in silence, or if nobody listens; and gives up
-MOST = 3  # times that a client sends a question over UDP
+# Seconds until a client asks again, in silence or if nobody listens; and until it gives up.
+AGAIN, REFUSED, OVER = 5, 1, 60
+MOST = 3  # sendings of a question over UDP
 TC, LONGEST = 2, 65_535
-PATIENCE = 0.02  # seconds of the system for which the clients wait for answers at most, before they look at the time
+PATIENCE = 0.02  # seconds of the system between two looks at the time, at most
 
 
 class Exchange(NamedTuple):
-    """A question and what came of it: nanoseconds of the system, and an empty answer if none came."""
+    """A question and its outcome: nanoseconds of the system, and an answer, empty for none."""
 
     asked: int
     answered: int
@@ -47,7 +48,7 @@ class Conversation:
     def __init__(self, client, octets, over_tcp):
         self.client, self.octets, self.over_tcp = client, octets, over_tcp
         self.asked, self.sent, self.got = time.time_ns(), 0, b""
-        self.socket = socket.socket(socket.AF_INET, socket.SOCK_STREAM if over_tcp else socket.SOCK_DGRAM)
+        self.socket = socket.socket(type=socket.SOCK_STREAM if over_tcp else socket.SOCK_DGRAM)
         self.socket.setblocking(False)
         self.socket.bind((address_of(client), 0))
         found = self.socket.connect_ex((FORWARDER, 53))
@@ -59,7 +60,8 @@ class Conversation:
         self.socket.send(framed(self.octets) if self.over_tcp else self.octets)
 
     def take(self):
-        """What came: an answer, or None if it isn't whole yet. An empty one is the end of the connection."""
+        """The answer, or None if more has to come. An empty answer is the end of the
+        connection."""
         octets = self.socket.recv(LONGEST)
         if not self.over_tcp:
             return octets
@@ -97,25 +99,25 @@ class Clients:
             self.refused(conversation)
 
     def refused(self, conversation):
-        """Nobody listens: over UDP it is tried again soon."""
+        """Nobody listens: over UDP the client tries again soon."""
         if conversation.over_tcp:
             self.end(conversation, b"")
         else:
             self.wake(conversation, REFUSED)
 
     def end(self, conversation, answer):
-        """Writes down what came. A client goes on over TCP if its answer was cut."""
+        """Writes down the answer. After a cut answer the client goes on over TCP."""
         self.poll.unregister(conversation.socket)
         del self.open[conversation.socket.fileno()]
         conversation.socket.close()
-        over_tcp, octets = conversation.over_tcp, conversation.octets
-        found = Exchange(conversation.asked, time.time_ns(), conversation.client, over_tcp, octets, answer)
-        pickle.dump(tuple(found), self.file)
+        over_tcp, octets, client = conversation.over_tcp, conversation.octets, conversation.client
+        found = (conversation.asked, time.time_ns(), client, over_tcp, octets, answer)
+        pickle.dump(found, self.file)
         if not over_tcp and len(answer) > TC and answer[TC] & TC:
-            self.ask(conversation.client, os.urandom(2) + octets[2:], True)
+            self.ask(client, os.urandom(2) + octets[2:], True)
 
     def turn(self, seconds):
-        """Takes what comes for so long, in seconds of the system, and does what is due."""
+        """Takes answers for some seconds of the system, and does all that is due."""
         for number, event in self.poll.poll(max(0, seconds)):
             conversation = self.open[number]
             if event & select.EPOLLOUT and not event & (select.EPOLLERR | select.EPOLLHUP):
@@ -143,7 +145,7 @@ class Clients:
                 self.attempt(conversation)
 
     def until(self, seconds):
-        """Waits until it is that late in the office."""
+        """Waits for a time of the office."""
         while (left := self.clock.left(seconds)) > 0:
             due = (self.due[0][0] - time.time_ns()) / 1e9 if self.due else left
             self.turn(min(left, due, PATIENCE))
@@ -151,7 +153,8 @@ class Clients:
 
 
 def ask_all(clock, office, visits, days, file_of):
-    """Asks all questions of so many days; `file_of` gives the path for those of a day. SIGTERM ends it early."""
+    """Asks all questions of some days; `file_of` returns the path for a day. SIGTERM comes
+    early."""
     signal.signal(signal.SIGINT, signal.SIG_IGN)
     signal.signal(signal.SIGTERM, lambda *_: sys.exit(0))
     clients = Clients(clock)
@@ -160,7 +163,8 @@ def ask_all(clock, office, visits, days, file_of):
         with open(file_of(day), "wb") as clients.file:
             for asked in questions:
                 clients.until(asked.at)
-                octets = question(asked.name, KINDS[asked.kind], int.from_bytes(os.urandom(2), "big"))
+                number = int.from_bytes(os.urandom(2), "big")
+                octets = query(asked.name, KINDS[asked.kind], number)
                 clients.ask(asked.client, octets, asked.over_tcp)
             clients.until((day + 1) * DAY)
     with open(file_of(days), "wb") as clients.file:
@@ -168,8 +172,10 @@ def ask_all(clock, office, visits, days, file_of):
 
 
 def exchanges(folder):
-    """What was written down, in the order of the answers."""
-    for path in sorted(folder.glob("asked*"), key=lambda path: int(path.name.removeprefix("asked"))):
+    """The exchanges that were written down, in the order of the answers."""
+    days = sorted(int(path.name.removeprefix("asked")) for path in folder.glob("asked*"))
+    for day in days:
+        path = folder / f"asked{day}"
         with open(path, "rb") as file, contextlib.suppress(EOFError, pickle.UnpicklingError):
             while True:
                 yield Exchange(*pickle.load(file))

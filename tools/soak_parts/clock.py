@@ -6,8 +6,8 @@ SECOND = 1_000_000_000  # nanoseconds
 
 
 class Clock:
-    """Seconds of the office since its beginning, midnight of a Monday. `began` is that of the system, in nanoseconds
-    since 1970."""
+    """Seconds of the office since the beginning, midnight of a Monday. `began` is the system's time
+    then, in nanoseconds since 1970."""
 
     def __init__(self, speed):
         self.speed, self.began = speed, time.time_ns()
@@ -16,15 +16,15 @@ class Clock:
         return self.of(time.time_ns())
 
     def of(self, moment):
-        """The office's time at a moment of the system, which is in nanoseconds."""
+        """The office's time at a moment of the system, in nanoseconds."""
         return (moment - self.began) * self.speed / SECOND
 
     def at(self, seconds):
-        """When it is that late in the office: nanoseconds of the system."""
+        """The system's nanoseconds at a time of the office."""
         return self.began + int(seconds * SECOND / self.speed)
 
     def left(self, seconds):
-        """The system's seconds until it is that late in the office."""
+        """The system's seconds until a time of the office."""
         return (self.at(seconds) - time.time_ns()) / SECOND
 
 

@@ -1,4 +1,4 @@
-"""Each life of the forwarder, explained by its own step (forwarder-explain)."""
+"""Each life of the forwarder, explained from its capture (forwarder-explain)."""
 import json
 import os
 import pathlib
@@ -9,8 +9,7 @@ from collections import Counter
 
 EXPLAIN = pathlib.Path(__file__).resolve().parent.parent.parent / "explain" / "forwarder-explain"
 TIMES = pathlib.Path(__file__).resolve().parent / "times.py"
-# Answers of which one may differ: what came together may have been taken in an order that is not found again.
-MOST_DIFFERENT = 50
+MOST_OPEN = 50  # answers of which one may be open: the capture has all from the beginning of each life
 
 
 def aside():
@@ -37,13 +36,16 @@ class Explanation(threading.Thread):
             for row in map(json.loads, lines):
                 self.counts = row.get("summary", self.counts)
                 self.reasons.update([row["reason"]] if "reason" in row else [])
-                self.different += [row] if row.get("compared") == "different" else []
+                self.different += [row] if row.get("verdict") == "different" else []
+        self.counts.pop("version", None)
 
     def faults(self):
         if not self.counts:
             yield f"{self.file.name} was not explained: status {self.status}, {' '.join(self.notes[-1:])}"
-        if len(self.different) * MOST_DIFFERENT > self.counts.get("answers", 0):
-            yield f"{self.file.name}: {len(self.different):,} answers are not the step's"
+        if self.different:
+            yield f"{self.file.name}: {len(self.different):,} answers are different"
+        if self.counts.get("open", 0) * MOST_OPEN > self.counts.get("questions", 0):
+            yield f"{self.file.name}: {self.counts['open']:,} questions are open"
 
 
 class Ending(Explanation):

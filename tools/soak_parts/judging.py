@@ -1,12 +1,12 @@
-"""Whether each answer was true: what the zones had when it can have been asked of their servers."""
+"""The truth of each answer: the content of the zones when their servers can have been asked."""
 import math
 from collections import Counter
 
 from reading.messages import CNAME, SOA, Unreadable, first_question, read_message
-from service.messages import name as name_octets
+from repository.packing import name as name_octets
 from soak_parts.clock import shown
 from soak_parts.office import DENIED, ROUTES, SERVED, STALE
-from soak_parts.zones import NEGATIVE, NUMBERS
+from soak_parts.zones import NEGATIVE, NUMBERS, overlaps
 
 NOERROR, SERVFAIL, NXDOMAIN = 0, 2, 3
 FAILED, EXPIRED = "failed though a server was there", "expired though a server was there"
@@ -17,7 +17,7 @@ LATE = 0.02  # seconds of the system by which a program of the office may be lat
 
 
 class Wrong(Exception):
-    """An answer that can't be true, and why."""
+    """An answer that can't be true; why."""
 
 
 def text_of(name):
@@ -26,7 +26,8 @@ def text_of(name):
 
 def octets_of(record):
     """The data of a record in octets, names in full and in small letters."""
-    return b"".join(part if isinstance(part, bytes) else name_octets(text_of(part)) for part in record.data)
+    return b"".join(part if isinstance(part, bytes) else name_octets(text_of(part))
+                    for part in record.data)
 
 
 def is_under(name, suffix):
@@ -34,28 +35,29 @@ def is_under(name, suffix):
 
 
 def zone_of(name):
-    """The longest zone that a name is in, or None."""
+    """The longest zone of a name, or None."""
     found = [zone for zones in SERVED.values() for zone in zones if is_under(name, zone)]
     return max(found, key=len, default=None)
 
 
 def servers_of(name):
     """The servers of the name's route."""
-    suffix = max((each for each in ROUTES if each != "." and is_under(name, each)), key=len, default=".")
-    return ROUTES[suffix]
+    suffixes = [each for each in ROUTES if each != "." and is_under(name, each)]
+    return ROUTES[max(suffixes, key=len, default=".")]
 
 
 class Judge:
-    """Judges exchanges by what a run found; `longest` is how many seconds a question may take. `undue` are failures of
-    which the servers give no reason."""
+    """Judges exchanges by the findings of a run. `longest`: seconds that a question may take;
+    `undue`: failures without a reason in the servers."""
 
     def __init__(self, found, longest):
-        self.clock, self.history, self.failed, self.restarts = found.clock, found.history, found.failed, found.restarts
+        self.clock, self.history = found.clock, found.history
+        self.failed, self.restarts = found.failed, found.restarts
         self.longest, self.slack = longest, SLACK + LATE * found.clock.speed
         self.counts, self.faults, self.undue = Counter(), [], []
 
     def judge(self, exchange):
-        """Counts an exchange, and notes what is wrong with it."""
+        """Counts an exchange, and notes its faults."""
         asked, answered = self.clock.of(exchange.asked), self.clock.of(exchange.answered)
         question = first_question(exchange.question)
         what = f"{text_of(question.name)} {NUMBERS[question.kind]}"
@@ -69,13 +71,14 @@ class Judge:
             self.faults.append(f"{said} with {exchange.answer.hex()}: {fault}")
 
     def kind(self, exchange, asked, answered):
-        """One word for what became of a question."""
+        """A word for the outcome of a question."""
         question = first_question(exchange.question)
         if not exchange.answer:
-            if any(asked - self.slack <= ended and began <= answered for began, ended in self.restarts):
+            if overlaps([(asked - self.slack, answered)], self.restarts):
                 return "lost at a restart"
             raise Wrong("no answer")
-        if exchange.answer[:2] != exchange.question[:2] or first_question(exchange.answer) != question:
+        is_of_it = exchange.answer[:2] == exchange.question[:2]
+        if not is_of_it or first_question(exchange.answer) != question:
             raise Wrong("it is not of this question")
         message = read_message(exchange.answer)
         if not message.header.qr:
@@ -87,15 +90,15 @@ class Judge:
         return Walk(self, question, message, asked, answered).kind()
 
     def fails(self, name, since, until):
-        """Whether all servers of the name's route failed at a moment between the two."""
+        """Whether all servers of the name's route failed at some moment between two."""
         spans = [(since, until)]
         for server in servers_of(name):
-            spans = [(max(a, b), min(c, d)) for a, c in spans for b, d in self.failed[server] if max(a, b) <= min(c, d)]
+            spans = overlaps(spans, self.failed[server])
         return bool(spans)
 
 
 class Walk:
-    """An answer that is followed from the question's name along aliases to its end."""
+    """The walk through an answer, from the question's name along aliases to the end."""
 
     def __init__(self, judge, question, message, asked, answered):
         self.judge, self.history = judge, judge.history
@@ -105,7 +108,7 @@ class Walk:
         self.expired = None
 
     def kind(self):
-        """One word for the answer."""
+        """A word for the answer."""
         code = self.message.header.rcode
         records = list(self.message.answers)
         if code == SERVFAIL:
@@ -114,7 +117,8 @@ class Walk:
             raise Wrong(f"result code {code}")
         for _ in range(MOST_ALIASES + 1):
             kind = CNAME if records and records[0].kind == CNAME else self.question.kind
-            held = [record for record in records if record.kind == kind and text_of(record.owner) == self.name]
+            held = [record for record in records
+                    if record.kind == kind and text_of(record.owner) == self.name]
             if not held:
                 break
             if records[:len(held)] != held:
@@ -134,20 +138,23 @@ class Walk:
         return self.expired or "answered"
 
     def see_set(self, kind, held):
-        """Each server that gave this set had it when it can have been asked: by the seconds that are left of it."""
+        """Each server that gave this set had it when it can have been asked: by the seconds that
+        are left of it."""
         octets, left = frozenset(octets_of(record) for record in held), held[0].ttl
         if any(record.ttl != left for record in held) or len(octets) != len(held):
             raise Wrong(f"the lifetimes of {self.name} differ, or records are there twice")
         known = self.history.had(self.name, kind, octets, -math.inf, math.inf)
         for version in known:
             age = version.held.ttl - left
-            if age >= 0 and self.overlaps(version, self.since - age - self.judge.longest, self.until - age):
+            since = self.since - age - self.judge.longest
+            if age >= 0 and self.overlaps(version, since, self.until - age):
                 return
         for version in known:
             window = version.held.ttl + STALE + self.judge.longest
             if left == AGED and self.overlaps(version, self.since - window, self.until):
                 since = self.since - self.judge.longest
-                self.expired = "expired" if self.judge.fails(self.name, since, self.until) else EXPIRED
+                fails = self.judge.fails(self.name, since, self.until)
+                self.expired = "expired" if fails else EXPIRED
                 return
         raise Wrong(f"{self.name} {kind} with {left} s left was not so in its zone")
 
@@ -156,7 +163,7 @@ class Walk:
         return version.began <= until and version.ended >= since
 
     def failure(self):
-        """SERVFAIL is right if all servers of the route of the name, or of where its aliases lead, failed."""
+        """SERVFAIL is right if all servers failed, of the name's route or of an alias's target."""
         if self.message.answers:
             raise Wrong("a failure with records")
         names = [self.name, *self.targets()]
@@ -165,7 +172,7 @@ class Walk:
         return FAILED
 
     def targets(self):
-        """Where aliases of the name can lead."""
+        """The possible targets of aliases of the name."""
         left, found = [self.name], []
         while left:
             for version in self.history.versions.get((left.pop(), "CNAME"), ()):
@@ -176,7 +183,7 @@ class Walk:
         return found
 
     def denial(self, code):
-        """The name, or its set, was not there when its server can have said so."""
+        """The name or its set was missing when the server can have denied it."""
         if is_under(self.name, DENIED):
             if code != NXDOMAIN or self.message.authority:
                 raise Wrong("a denied name is answered otherwise")
@@ -197,7 +204,7 @@ class Walk:
         return "no such type"
 
     def moments(self, zone):
-        """From when to when the denial can have been given, by the seconds that are left of its SOA record."""
+        """The first and last moment of the denial, by the seconds that its SOA record has left."""
         found = [record for record in self.message.authority if record.kind == SOA]
         if len(found) != 1 or text_of(found[0].owner) != zone or found[0].ttl > NEGATIVE:
             raise Wrong("a denial without the SOA record of its zone")

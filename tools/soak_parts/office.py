@@ -1,4 +1,5 @@
-"""The generated office: what its zones have at the beginning, and what changes day by day. A seed decides all of it."""
+"""The generated office: the content of its zones at the beginning, and the changes day by day, all
+by a seed."""
 import random
 from typing import NamedTuple
 
@@ -6,21 +7,22 @@ from soak_parts.clock import DAY, HOUR
 from soak_parts.zones import RecordSet, apex
 
 FORWARDER, HARNESS = "10.0.0.53", "10.0.0.99"
-OUTSIDE, INSIDE, LARGE = ("192.0.2.1", "192.0.2.2"), ("10.0.0.10", "10.0.0.11"), ("192.0.2.3", "192.0.2.1")
+OUTSIDE, INSIDE = ("192.0.2.1", "192.0.2.2"), ("10.0.0.10", "10.0.0.11")
+LARGE = ("192.0.2.3", "192.0.2.1")
 COM, CDN, CORP, REVERSE, BIG = "com", "cdn.net", "corp.example", "10.in-addr.arpa", "big.example"
-# The zones of each server, in the order in which the forwarder may ask them.
-SERVED = {OUTSIDE[0]: (COM, CDN, BIG), OUTSIDE[1]: (COM, CDN), INSIDE[0]: (CORP, REVERSE), INSIDE[1]: (CORP, REVERSE),
-          LARGE[0]: (BIG,)}
+# The zones of each server, in the forwarder's order.
+SERVED = {OUTSIDE[0]: (COM, CDN, BIG), OUTSIDE[1]: (COM, CDN),
+          **dict.fromkeys(INSIDE, (CORP, REVERSE)), LARGE[0]: (BIG,)}
 ROUTES = {".": OUTSIDE, CORP: INSIDE, REVERSE: INSIDE, BIG: LARGE}
 DENIED = "lan"
 SITES, NETWORKS, PRINTERS, TEXTS = 1500, 60, 40, 20
 LIFETIMES = (60, 300, 300, 900, 3600, 3600, 14_400, 86_400)  # seconds
 STALE = HOUR  # seconds for which expired sets may be answered
-LEASE, MOVING, SHORT = 1200, 300, 30  # lifetimes of machines, of aliases that move, and of names of a CDN
+LEASE, MOVING, SHORT = 1200, 300, 30  # lifetimes of machines, of moving aliases, of a CDN's names
 
 
 class Change(NamedTuple):
-    """What a name has of a type from then on: a set, or None for nothing."""
+    """The new set of a name and type, or None for nothing."""
 
     at: float
     zone: str
@@ -39,7 +41,7 @@ def spread(chance, middle, width):
 
 
 class Office:
-    """The office of a seed with so many clients, and all sets that its zones have at first."""
+    """The office of a seed with some clients, and the first sets of its zones."""
 
     def __init__(self, seed, clients):
         self.seed, self.clients = seed, clients
@@ -53,7 +55,7 @@ class Office:
         self.make_large(chance)
 
     def chance(self, *what):
-        """Random numbers for one purpose."""
+        """Random numbers for a purpose."""
         return random.Random(" ".join(map(str, (self.seed, self.clients, *what))))
 
     def add(self, zone, owner, kind, ttl, *data):
@@ -78,7 +80,8 @@ class Office:
             self.add(CDN, f"e{n}.pool.cdn.net", "A", SHORT, *addresses(chance, 4))
 
     def make_inside(self, chance):
-        """Services, printers with names for their addresses, and no machine yet: these come in the morning."""
+        """Services, printers with names for their addresses, and no machine yet: machines come in
+        the morning."""
         for n in (1, 2):
             self.add(CORP, f"web{n}.corp.example", "A", HOUR, f"10.0.0.{20 + n}")
         self.add(CORP, "intranet.corp.example", "CNAME", MOVING, "web1.corp.example.")
@@ -90,10 +93,11 @@ class Office:
         self.add(CORP, "_ldap._tcp.corp.example", "SRV", 600, *ldap)
         for n in range(PRINTERS):
             self.add(CORP, f"printer{n}.corp.example", "A", 4 * HOUR, f"10.0.2.{n}")
-            self.add(REVERSE, f"{n}.2.0.10.in-addr.arpa", "PTR", 4 * HOUR, f"printer{n}.corp.example.")
+            owner, target = f"{n}.2.0.10.in-addr.arpa", f"printer{n}.corp.example."
+            self.add(REVERSE, owner, "PTR", 4 * HOUR, target)
 
     def make_large(self, chance):
-        """Sets that don't fit a datagram of 512 octets, up to 4 KiB."""
+        """Sets past a datagram of 512 octets, up to 4 KiB."""
         for n in range(TEXTS):
             strings = [f'"{chr(97 + k) * 250}"' for k in range(2 + chance.randrange(15))]
             several = [f"10.{n}.{k}.{chance.randrange(250)}" for k in range(30 + 10 * n)]
@@ -105,10 +109,11 @@ class Office:
         chance = self.chance("changes", day)
         found = [*self.networks(day, chance), *self.sites(day, chance), *self.aliases(day, chance)]
         found += self.machines(day, chance) if is_working(day) else []
-        return sorted((each for each in found if each.at < (day + 1) * DAY), key=lambda each: each.at)
+        today = [each for each in found if each.at < (day + 1) * DAY]
+        return sorted(today, key=lambda each: each.at)
 
     def networks(self, day, chance):
-        """A third of the networks give other addresses now and then."""
+        """A third of the networks change addresses now and then."""
         for n in range(0, NETWORKS, 3):
             at = day * DAY + chance.uniform(0, HOUR)
             while at < (day + 1) * DAY:
@@ -117,7 +122,8 @@ class Office:
                 at += chance.uniform(HOUR / 2, 2 * HOUR)
 
     def sites(self, day, chance):
-        """Sites move, vanish for hours, or become an alias and are none again. No site does more than one a day."""
+        """Sites move, vanish for hours, or become an alias for some hours: a site has at most one
+        such change a day."""
         chosen = chance.sample(range(SITES), 50)
         for n in chosen[:30]:
             name = f"site{n}.com"
@@ -140,14 +146,14 @@ class Office:
             yield Change(back, COM, name, "CNAME", alias)
 
     def aliases(self, day, chance):
-        """The intranet is moved from one machine to another."""
+        """The intranet moves between two machines."""
         for turn in range(3):
             at = day * DAY + chance.uniform(turn * 8 * HOUR, (turn + 1) * 8 * HOUR)
             name, target = "intranet.corp.example", f"web{1 + (day + turn) % 2}.corp.example."
             yield Change(at, CORP, name, "CNAME", RecordSet(name, "CNAME", MOVING, (target,)))
 
     def machines(self, day, chance):
-        """Each client has an address from its arrival to its leaving; a few get another one at noon."""
+        """Each client has an address from arrival to leaving; a few get a second at noon."""
         for n, (comes, goes) in enumerate(self.presences(day)):
             name = f"pc{n}.corp.example"
             yield self.lease(day, comes, name, chance)

@@ -1,4 +1,4 @@
-"""What the clients of the office ask, day by day."""
+"""The questions of the office's clients, day by day."""
 from bisect import bisect
 from itertools import accumulate
 from typing import NamedTuple
@@ -6,14 +6,21 @@ from typing import NamedTuple
 from soak_parts.clock import DAY, HOUR
 from soak_parts.office import DENIED, NETWORKS, PRINTERS, SITES, TEXTS, is_working
 
-MACHINES = 12  # clients that are never switched off: servers and printers
+MACHINES = 12  # clients that never sleep: servers and printers
 PAUSE = 2  # seconds within which a page asks for its names
 LUNCH = 12 * HOUR, 13 * HOUR
 POPULAR = list(accumulate(1 / (rank + 3) for rank in range(SITES)))
 
 
+INSIDE = "intranet", "files", "mail", "printer", "pc", "pc", "ldap", "back"
+
+
+def both(name):
+    return [(name, "A"), (name, "AAAA")]
+
+
 class Asked(NamedTuple):
-    """A question: when, by which client, for which name and type, and whether over TCP."""
+    """A question: its time, client, name and type, and whether it goes over TCP."""
 
     at: float
     client: int
@@ -23,7 +30,7 @@ class Asked(NamedTuple):
 
 
 class Day:
-    """The questions of a day. `visits` is how often a client looks at something on a working day."""
+    """The questions of a day. `visits`: the visits of a client on a working day."""
 
     def __init__(self, office, number, visits):
         self.office, self.number, self.visits = office, number, visits
@@ -52,7 +59,7 @@ class Day:
                 found.append(Asked(moment, client, self.spelled(name), kind, over_tcp))
 
     def looked_at(self, client):
-        """The names and types that one visit asks for."""
+        """The names and types of a visit."""
         draw = self.chance.random()
         if draw < 0.6:
             return self.page()
@@ -64,34 +71,36 @@ class Day:
         return bisect(POPULAR, self.chance.random() * POPULAR[-1])
 
     def page(self):
-        """A page of a site, with what it takes from networks of servers."""
+        """A page of a site, with its parts from networks of servers."""
         name = f"www.site{self.site()}.com"
-        found = [(name, "A"), (name, "AAAA")] + ([(name, "HTTPS")] if self.chance.random() < 0.3 else [])
+        found = both(name) + ([(name, "HTTPS")] if self.chance.random() < 0.3 else [])
         for _ in range(self.chance.randrange(4)):
-            other = f"e{self.chance.randrange(NETWORKS)}.cdn.net"
-            found += [(other, "A"), (other, "AAAA")]
+            found += both(f"e{self.chance.randrange(NETWORKS)}.cdn.net")
         return found
 
     def inside(self, client):
         """Services and machines of the office."""
         printer = self.chance.randrange(PRINTERS)
-        ask = self.chance.choice(("intranet", "files", "mail", "printer", "pc", "pc", "ldap", "back"))
-        named = {"printer": f"printer{printer}", "pc": f"pc{self.chance.randrange(self.office.clients)}"}
+        ask = self.chance.choice(INSIDE)
+        machine = f"pc{self.chance.randrange(self.office.clients)}"
+        named = {"printer": f"printer{printer}", "pc": machine}
         if ask == "ldap":
-            return [("_ldap._tcp.corp.example", "SRV"), ("corp.example", "MX"), ("corp.example", "TXT")]
+            domain = "corp.example"
+            return [(f"_ldap._tcp.{domain}", "SRV"), (domain, "MX"), (domain, "TXT")]
         if ask == "back":
             return [(f"{printer}.2.0.10.in-addr.arpa", "PTR")]
-        return [(named.get(ask, ask) + ".corp.example", kind) for kind in ("A", "AAAA")]
+        return both(named.get(ask, ask) + ".corp.example")
 
     def seldom(self, draw):
-        """Mail, names that are mistyped, completed by a search list, denied or below a denied one, and large sets."""
+        """Mail, names that are mistyped, completed by a search list or denied, and large sets."""
         n = self.site()
         if draw < 0.88:
             return [(f"site{n}.com", "MX"), (f"mail.site{n}.com", "A"), (f"site{n}.com", "A")]
         if draw < 0.91:
-            return [(f"ww.site{n}.com", "A"), (f"a.ww.site{n}.com", "A"), (f"_dmarc.site{n}.com", "TXT")]
+            mistyped = f"ww.site{n}.com"
+            return [(mistyped, "A"), (f"a.{mistyped}", "A"), (f"_dmarc.site{n}.com", "TXT")]
         if draw < 0.94:
-            return [(f"www.site{n}.com.corp.example", "A"), (f"www.site{n}.com.corp.example", "AAAA")]
+            return both(f"www.site{n}.com.corp.example")
         if draw < 0.96:
             return [(f"wpad.{DENIED}", "A"), (f"host{n}.{DENIED}", "AAAA")]
         large = self.chance.randrange(TEXTS)

@@ -1,4 +1,4 @@
-"""Faults that are put into what clients got and into samples, to see that each kind of them is seen."""
+"""Faults for answers and samples, planted to see that each kind is seen."""
 from collections import Counter
 from dataclasses import replace
 
@@ -8,12 +8,12 @@ from soak_parts.judging import NOERROR, NXDOMAIN, SERVFAIL, Judge, octets_of, te
 from soak_parts.sampling import Life, Sample
 from soak_parts.zones import KINDS, NEGATIVE, NUMBERS
 
-EACH = 100  # times that each kind is planted at most
-NOWHERE = bytes([203, 0, 113, 77])  # an address that the office never has
+EACH = 100  # the most plants of a kind
+NOWHERE = bytes([203, 0, 113, 77])  # never an address of the office
 
 
 class Answer:
-    """An answer with addresses, and the history of the zones; `asked` is in seconds of the office."""
+    """An answer with addresses, and the history of the zones; `asked`: seconds of the office."""
 
     def __init__(self, message, history, asked):
         self.message, self.history, self.asked = message, history, asked
@@ -26,16 +26,20 @@ class Answer:
         return replace(self.message, answers=answers)
 
     def denial(self, rcode):
-        """A denial of a name whose set never changed, with the SOA record of its zone."""
+        """A denial of a name with a single set ever, and the SOA record of the zone."""
         if len(self.versions()) > 1 or len(self.message.answers) > 1:
             return None
         owner = tuple(label.encode() for label in zone_of(self.name).split("."))
         soa = Record(owner, SOA, 1, NEGATIVE, (owner, owner, bytes(20)))
-        return replace(self.message, header=replace(self.message.header, rcode=rcode), answers=[], authority=[soa])
+        return self.with_code(rcode, answers=[], authority=[soa])
+
+    def with_code(self, rcode, **more):
+        return replace(self.message, header=replace(self.message.header, rcode=rcode), **more)
 
 
 def another_address(answer):
-    return answer.with_answers([*answer.message.answers[:-1], replace(answer.last, data=(NOWHERE,))])
+    last = replace(answer.last, data=(NOWHERE,))
+    return answer.with_answers([*answer.message.answers[:-1], last])
 
 
 def one_record_less(answer):
@@ -44,12 +48,14 @@ def one_record_less(answer):
 
 
 def more_seconds_than_the_zone_gives(answer):
-    return answer.with_answers([replace(each, ttl=each.ttl + 2 * DAY) for each in answer.message.answers])
+    answers = answer.message.answers
+    return answer.with_answers([replace(each, ttl=each.ttl + 2 * DAY) for each in answers])
 
 
 def a_set_of_hours_ago_as_if_it_were_new(answer):
-    old = [each for each in answer.versions()
-           if each.held and each.ended < answer.asked - 2 * HOUR and octets_of(answer.last) not in each.octets]
+    ended = [each for each in answer.versions()
+             if each.held and each.ended < answer.asked - 2 * HOUR]
+    old = [each for each in ended if octets_of(answer.last) not in each.octets]
     rest = [each for each in answer.message.answers if each.owner != answer.last.owner]
     return answer.with_answers(rest + [replace(answer.last, ttl=old[0].held.ttl, data=(data,))
                                        for data in sorted(old[0].octets)]) if old else None
@@ -64,17 +70,17 @@ def a_denied_type(answer):
 
 
 def a_failure(answer):
-    return replace(answer.message, header=replace(answer.message.header, rcode=SERVFAIL), answers=[])
+    return answer.with_code(SERVFAIL, answers=[])
 
 
-FAULTS = (another_address, one_record_less, more_seconds_than_the_zone_gives, a_set_of_hours_ago_as_if_it_were_new,
-          a_denied_name, a_denied_type, a_failure)
+FAULTS = (another_address, one_record_less, more_seconds_than_the_zone_gives,
+          a_set_of_hours_ago_as_if_it_were_new, a_denied_name, a_denied_type, a_failure)
 
 
 def grown(memory, descriptors, wakes):
-    """Whether a life of three days is faulted in which these grow with each hour."""
-    samples = [Sample(HOUR * n, 10**7 + memory * n, 9 + descriptors * n, 1000 * n + wakes * n * n, 0)
-               for n in range(72)]
+    """Whether a life of three days with such growth in each hour has a fault."""
+    samples = [Sample(HOUR * n, 10**7 + memory * n, 9 + descriptors * n,
+                      1000 * n + wakes * n * n, 0) for n in range(72)]
     return any(Life(samples).faults())
 
 
@@ -83,7 +89,7 @@ GROWTHS = {"memory that grows": (50_000, 0, 0), "descriptors that stay open": (0
 
 
 def planted(found, longest, exchanges):
-    """How often each fault was planted into an answer that is right, and how often it was seen."""
+    """How often each fault was planted into a right answer, and how often seen."""
     counts, seen = Counter(), Counter()
     for exchange in exchanges:
         message = read_message(exchange.answer) if exchange.answer else None

@@ -1,4 +1,4 @@
-"""The figures of a run, and what is wrong."""
+"""The figures of a run, and the faults."""
 import statistics
 from collections import Counter
 
@@ -6,29 +6,31 @@ from soak_parts import sampling
 from soak_parts.clock import DAY, HOUR
 
 MOST_SHOWN = 10
-MOST_UNDUE = 1000  # answers of which one may fail so: the machine may not have kept up with the clock
+MOST_UNDUE = 1000  # answers of which one may fail so, on a machine too slow for the clock
 
 
 def asked(judge):
-    """What the clients got."""
+    """The outcomes for the clients."""
     yield f"clients: {sum(judge.counts.values()):,} questions"
     for word, count in judge.counts.most_common():
         yield f"  {count:>9,} {word}"
 
 
 def explained(explanations):
-    """What forwarder-explain found, over all lives."""
+    """The findings of forwarder-explain, over all lives."""
     counts, reasons = Counter(), Counter()
     for each in explanations:
         counts.update({key: value for key, value in each.counts.items() if isinstance(value, int)})
         reasons.update(each.reasons)
-    yield f"forwarder-explain: {counts.pop('questions', 0):,} questions, {counts.pop('answers', 0):,} answers"
+    questions, answers = (counts.pop(each, 0) for each in ("questions", "answers"))
+    yield f"forwarder-explain: {questions:,} questions, {answers:,} answers"
     yield "  " + ", ".join(f"{key.replace('_', ' ')} {value:,}" for key, value in counts.items())
     listed = ", ".join(f"{key}: {value:,}" for key, value in sorted(reasons.items(), key=str))
     yield f"  by reason: {listed or 'none'}"
     for each in explanations:
         for row in each.different[:MOST_SHOWN]:
-            yield f"  different: {each.file.name} {row['time']:.3f} {row['client']} {row['name']} {row['type']}"
+            fields = " ".join(str(row[key]) for key in ("client", "name", "type"))
+            yield f"  different: {each.file.name} {row['time']:.3f} {fields}"
         for note in each.notes:
             yield f"  {note.partition(': ')[2]}"
 
@@ -58,11 +60,12 @@ def by_day(life):
 
 
 def faults(judge, found, explanations):
-    """All that is wrong, a line each."""
+    """All faults, a line each."""
     yield from (f"by the zones: {fault}" for fault in judge.faults)
     for each in explanations:
         yield from (f"by the step: {fault}" for fault in each.faults())
     for number, life in enumerate(found.lives, 1):
         yield from (f"life {number}: {fault}" for fault in life.faults())
     if len(judge.undue) * MOST_UNDUE > sum(judge.counts.values()):
-        yield f"{len(judge.undue):,} answers failed though a server was there: the first {judge.undue[0]}"
+        failed = f"{len(judge.undue):,} answers failed though a server was there"
+        yield f"{failed}: the first {judge.undue[0]}"

@@ -7,13 +7,13 @@ import pathlib
 import tempfile
 import time
 
+from running.capture import Capture
 from soak_parts import asking, failing, sampling
-from soak_parts.capturing import Capture
 from soak_parts.clock import DAY, HOUR, Clock, shown
 from soak_parts.explaining import Ending
 from soak_parts.failing import KILLED
-from soak_parts.forwarder import Service
-from soak_parts.office import SERVED
+from soak_parts.forwarder import Lives
+from soak_parts.office import HARNESS, SERVED
 from soak_parts.servers import Served
 from soak_parts.zones import History
 
@@ -26,7 +26,7 @@ WARM = 1.0  # seconds of the system before the office's clock begins
 
 
 class Pending:
-    """A change that servers have to take, and the version of the set that ends once all have."""
+    """A change for some servers, and the version of the set that ends with the last server."""
 
     __slots__ = ("change", "ends", "left")
 
@@ -36,8 +36,8 @@ class Pending:
 
 @dataclasses.dataclass
 class Found:
-    """What answers are judged by, and what was sampled: when servers failed, by address, and when restarts began and
-    ended, in seconds of the office; and by how many of these something was done late."""
+    """The findings by which answers are judged, and the samples: failures of servers by address,
+    restarts with begin and end, in seconds of the office; and the greatest lateness."""
 
     clock: Clock
     history: History
@@ -48,7 +48,7 @@ class Found:
 
 
 class Run:
-    """All of it. `say` prints what happens."""
+    """The whole run. `say` prints its events."""
 
     def __init__(self, office, words, folder, say):
         self.office, self.words, self.folder, self.say = office, words, folder, say
@@ -59,9 +59,10 @@ class Run:
                 self.history.begin(each.owner, each.kind, each)
         self.clock = Clock(words.speed)
         self.memory = tempfile.TemporaryDirectory(dir=MEMORY if MEMORY.exists() else None)
-        self.served = {address: Served(pathlib.Path(self.memory.name) / address, address, self.now, self.text_of)
-                       for address in SERVED}
-        self.service = Service(words.program, folder, words.speed)
+        folders = pathlib.Path(self.memory.name)
+        self.served = {each: Served(folders / each, each, self.now, self.text_of)
+                       for each in SERVED}
+        self.service = Lives(words.program, folder, words.speed)
         self.restarts, self.explanations, self.capture = [], [], None
         self.plan, self.numbers, self.late = [], itertools.count(), 0.0
 
@@ -69,7 +70,7 @@ class Run:
         return self.clock.now()
 
     def text_of(self, zone):
-        """The master file of a zone as it is to be now; the SOA record comes first."""
+        """The master file of a zone for now; the SOA record comes first."""
         return "".join(line for each in self.content[zone].values() for line in each.lines())
 
     def at(self, seconds, work, *given):
@@ -77,7 +78,7 @@ class Run:
         heapq.heappush(self.plan, (seconds, next(self.numbers), work, given))
 
     def go(self):
-        """Runs all days; gives whether it came to the end."""
+        """Runs all days; returns whether the end was reached."""
         try:
             for each in self.served.values():
                 each.start()
@@ -97,8 +98,9 @@ class Run:
         for number in range(self.words.days // 7 + 1):
             if number * WEEK + RESTARTS < ends:
                 self.at(number * WEEK + RESTARTS, self.restart)
-        clients = multiprocessing.get_context("fork").Process(
-            target=asking.ask_all, args=(self.clock, self.office, self.words.visits, self.words.days, self.file_of))
+        asked = self.clock, self.office, self.words.visits, self.words.days, self.file_of
+        context = multiprocessing.get_context("fork")
+        clients = context.Process(target=asking.ask_all, args=asked)
         clients.start()
         try:
             self.work_until(ends + asking.OVER)
@@ -118,7 +120,7 @@ class Run:
         return self.folder / f"asked{day}"
 
     def work_until(self, ends):
-        """Does what is planned, when it is due, and looks after the servers."""
+        """Does all planned work in time, and looks after the servers."""
         while (left := self.clock.left(ends)) > 0:
             self.tend()
             if self.plan and self.plan[0][0] <= self.now():
@@ -130,7 +132,7 @@ class Run:
                 time.sleep(max(0, min(left, due, LOOK)))
 
     def begin_day(self, day):
-        """Plans a day, and the one after it."""
+        """Plans a day, and the beginning of the next."""
         if day >= self.words.days:
             return
         self.say(f"{shown(self.now())}: {self.state()}")
@@ -143,9 +145,9 @@ class Run:
         self.at((day + 1) * DAY, self.begin_day, day + 1)
 
     def state(self):
-        samples = self.service.lives[-1].samples
-        last = samples[-1] if samples else None
-        return f"{sampling.kib(last.memory)}, {last.descriptors} descriptors" if last else "it begins"
+        for last in self.service.lives[-1].samples[-1:]:
+            return f"{sampling.kib(last.memory)}, {last.descriptors} descriptors"
+        return "it begins"
 
     def sample(self):
         self.service.sample(self.now())
@@ -153,20 +155,20 @@ class Run:
     # The servers.
 
     def change(self, change):
-        """A zone changes; its servers take that when `tend` comes to them."""
+        """A zone changes; its servers take the change by `tend`."""
         held = self.content[change.zone]
         if change.held:
             held[change.owner, change.kind] = change.held
         else:
             held.pop((change.owner, change.kind), None)
         ends = self.history.begin(change.owner, change.kind, change.held, self.now())
-        holders = [each for each in self.served.values() if change.zone in each.zones]
+        holders = [each for each in self.served.values() if change.zone in each.names]
         pending = Pending(change, ends, holders)
         for each in holders:
             each.waiting.append(pending)
 
     def tend(self):
-        """Has the servers take their changes, and sees which have returned."""
+        """Has the servers take their changes, and notes each server's return."""
         for each in self.served.values():
             if each.probe:
                 each.has_returned()
@@ -186,13 +188,16 @@ class Run:
     # The forwarder.
 
     def begin_life(self):
-        """Starts a capture, and then the forwarder."""
-        self.capture = Capture(self.folder / f"life{len(self.service.lives)}.raw")
+        """Starts a capture, without the harness's own conversations, and then the forwarder."""
+        file = self.folder / f"life{len(self.service.lives)}.raw"
+        only = f"(udp or tcp or icmp) and not host {HARNESS}"
+        self.capture = Capture(file, ["--time-stamp-precision=nano"], only)
         self.capture.__enter__()
         self.service.start()
 
     def restart(self):
-        """Ends the forwarder and starts it again, while clients ask. Each life is captured from before its start."""
+        """Ends and starts the forwarder, while clients ask. Each life is captured from before the
+        start."""
         began, before = self.now(), self.capture
         self.service.stop()
         self.begin_life()
@@ -201,7 +206,7 @@ class Run:
         self.end_life(before)
 
     def end_life(self, capture):
-        """Ends a capture, and has it explained, while all else goes on."""
+        """Ends a capture, and starts an explanation, while all else goes on."""
         explanation = Ending(self.words.program, self.service.config, capture, self.clock)
         explanation.start()
         self.explanations.append(explanation)

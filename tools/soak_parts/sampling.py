@@ -1,9 +1,9 @@
-"""What the forwarder takes of the machine, sampled again and again, and whether it grows."""
+"""Samples of the forwarder's memory, descriptors and wake-ups, and their growth."""
 import dataclasses
 import statistics
 from typing import NamedTuple
 
-from service.running import descriptors, resident, spent, waits
+from running.processes import descriptors, resident, spent, waits
 from soak_parts.clock import DAY, HOUR, shown
 
 EVERY = HOUR  # seconds of the office between two samples
@@ -14,8 +14,8 @@ FILLING = DAY  # seconds of a life until its cache is full, and memory has to st
 
 
 class Sample(NamedTuple):
-    """At a time of the office: octets of memory, open descriptors, how often it has woken up so far, and seconds of
-    processor time so far."""
+    """At a time of the office: octets of memory, open descriptors, how often it has woken up so
+    far, and seconds of processor time so far."""
 
     at: float
     memory: int
@@ -35,22 +35,24 @@ class Life:
     samples: list
 
     def rates(self):
-        """Wake-ups in a second of the office between neighbouring samples, and the time of the second."""
+        """Wake-ups in a second of the office between neighbouring samples, and the time of the
+        second."""
         return [(after, (after.wakes - before.wakes) / (after.at - before.at))
                 for before, after in zip(self.samples, self.samples[1:]) if after.at > before.at]
 
     def faults(self):
-        """What grew from the first half to the second; memory once the cache is full."""
+        """Growth from the first half to the second; of memory once the cache is full."""
         full = [each for each in self.samples if each.at >= self.samples[0].at + FILLING]
         memory = [max(each.memory for each in half) for half in halves(full)]
         if memory and memory[1] > MOST_MEMORY * memory[0] + SPARE_MEMORY:
             yield f"memory grew from {kib(memory[0])} to {kib(memory[1])} by {shown(full[-1].at)}"
+        end = shown(self.samples[-1].at) if self.samples else ""
         least = [min(each.descriptors for each in half) for half in halves(self.samples)]
         if least and least[1] > least[0]:
-            yield f"at least {least[0]} descriptors became {least[1]} by {shown(self.samples[-1].at)}"
+            yield f"at least {least[0]} descriptors became {least[1]} by {end}"
         wakes = [statistics.median(rate for _, rate in half) for half in halves(self.rates())]
         if wakes and wakes[1] > MOST_WAKES * wakes[0]:
-            yield f"wake-ups rose from {wakes[0]:.1f} to {wakes[1]:.1f} a second by {shown(self.samples[-1].at)}"
+            yield f"wake-ups rose from {wakes[0]:.1f} to {wakes[1]:.1f} a second by {end}"
 
 
 def halves(values):

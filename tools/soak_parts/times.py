@@ -1,9 +1,9 @@
 """Writes a capture again, with the times of a faster clock: times.py CAPTURE TARGET BEGAN SPEED
 
-A packet that came so long after BEGAN, in nanoseconds since 1970, comes SPEED times as long after it.
-Packets that came together stay so: they keep their distances from the first of them. Otherwise what
-a program does within microseconds would seem to take it tenths of a second, and what it took in
-another order would seem to be far apart. So a packet is early by LONGEST at most.
+A packet's time after BEGAN, in nanoseconds since 1970, is multiplied by SPEED. Packets that came
+together stay together: they keep their distances from the first. Otherwise the work of microseconds
+would seem to take tenths of a second, and packets taken in turn would seem to be far apart. So a
+packet is early by LONGEST at most.
 """
 import struct
 import sys
@@ -16,11 +16,11 @@ LONGEST = 900_000_000  # nanoseconds of the faster clock, from the first of them
 
 
 class NoCapture(Exception):
-    """It is no capture with nanoseconds, in the order of this machine."""
+    """A file that is no capture with nanoseconds, in the order of this machine."""
 
 
 def records(source):
-    """Each packet of a capture: its time in nanoseconds, its length, and the octets that were kept."""
+    """Each packet of a capture: time in nanoseconds, length, and the kept octets."""
     while len(record := source.read(RECORD.size)) == RECORD.size:
         seconds, rest, kept, length = RECORD.unpack(record)
         yield seconds * SECOND + rest, length, source.read(kept)

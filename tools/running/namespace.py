@@ -7,11 +7,11 @@ INSIDE = "TOOL_IN_NAMESPACE"
 
 
 class NoNamespace(Exception):
-    """This user can't make one."""
+    """A user without the right to make one."""
 
 
 def enter(script, words):
-    """Runs the script again, with these words, in a namespace; returns in the run that is in it."""
+    """Runs the script again, with these words, in a namespace; returns in that second run."""
     if os.environ.pop(INSIDE, None):
         subprocess.run(["ip", "link", "set", "lo", "up"], check=True)
         return

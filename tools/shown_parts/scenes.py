@@ -1,0 +1,83 @@
+"""What has to be there before a page's first command, or before a single command."""
+import pathlib
+import subprocess
+
+from . import names
+from .pages import TOP
+
+ETC = pathlib.Path("/etc/forwarder")
+RING = pathlib.Path("/var/lib/forwarder-capture")
+NAMED = "options { forwarders { 198.51.100.53; }; };\n"
+DNSMASQ = "no-resolv\nlisten-address=10.0.0.53\nserver=198.51.100.53\n"
+ASKED = "dig @10.0.0.53 www.example.com"
+
+
+def shell(text):
+    subprocess.run(["bash", "-c", text], check=True, capture_output=True)
+
+
+def guide():
+    """The configuration of docs/ADMIN.md's first steps."""
+    page = (TOP / "docs" / "ADMIN.md").read_text(encoding="utf-8")
+    block = page.partition("```toml\n")[2].partition("```")[0]
+    return "".join(line.removeprefix("   ") for line in block.splitlines(keepends=True))
+
+
+def served(_office):
+    """The service of the guide runs, and there are files that commands name."""
+    (ETC / "forwarder.toml").write_text(guide())
+    (ETC / "guests.toml").write_text(guide().replace("10.0.0.53", "10.0.0.54"))
+    pathlib.Path("my.toml").write_text(guide().replace("10.0.0.53:53", "127.0.0.1:5300"))
+    pathlib.Path("old/etc/bind").mkdir(parents=True)
+    pathlib.Path("old/etc/bind/named.conf").write_text(NAMED)
+    shell("systemctl enable --now forwarder")
+
+
+def unserved(_office):
+    """Files of services that the page comes upon; the forwarder is still to be configured."""
+    (ETC / "guests.toml").write_text(guide().replace("10.0.0.53", "10.0.0.54"))
+    pathlib.Path("/etc/dnsmasq.d").mkdir(exist_ok=True)
+    pathlib.Path("/etc/dnsmasq.conf").write_text(DNSMASQ)
+    for folder in ("/etc/sysctl.d", "/etc/keepalived", "/etc/systemd/resolved.conf.d"):
+        pathlib.Path(folder).mkdir(parents=True, exist_ok=True)
+
+
+def captured(_office):
+    """A capture with a question, as seen.pcap and in the ring."""
+    RING.mkdir(parents=True, exist_ok=True)
+    if not (RING / "seen.pcap3").exists():
+        capture = "timeout -s INT 2.5 tcpdump -U -i any -w /tmp/seen.pcap 'port 53 or icmp'"
+        shell(f"{capture} & sleep 1; {ASKED}; wait")
+        shell(f"cp /tmp/seen.pcap {RING}/seen.pcap3; cp /tmp/seen.pcap seen.pcap")
+
+
+def company_down(office):
+    office.stop(names.COMPANY)
+
+
+def lan_denied(_office):
+    """`lan` is denied for one question, as the text in front of it says."""
+    text = (ETC / "forwarder.toml").read_text().replace("version = 1", "version = 2")
+    text += '\n[[route]]\nsuffix = "lan"\ndeny = true\n'
+    (ETC / "forwarder.toml").write_text(text)
+    shell("systemctl restart forwarder")
+
+
+def names_of_a_day(_office):
+    """Names that are also asked of the old program: port 5300 is still the forwarder's."""
+    pathlib.Path("names").write_text("www.example.com A\ngone.corp.example A\n")
+
+
+def listening(_office):
+    """A reader types slower than the program starts."""
+    shell("for _ in {1..50}; do ss -lnu | grep -q ':5300 ' && break; sleep 0.1; done")
+
+
+def new_package(_office):
+    shell("cp /tmp/pavelimoan_*.deb pavelimoan_NEW.deb")
+    (ETC / "forwarder.toml").write_text(guide())  # after the way back
+    shell("systemctl stop dnsmasq; systemctl restart forwarder")
+
+
+def empty_cache(_office):
+    shell("systemctl restart forwarder")
