@@ -6,6 +6,7 @@ import shutil
 import signal
 import socket
 import subprocess
+import sys
 
 from repository.crates import TOP
 from repository.packing import code, framed, take_frame
@@ -33,8 +34,11 @@ def missing(*commands):
 
 
 def built(words):
-    """The program at the path in `words`, or the built program; a missing program is built."""
+    """The program at the path in `words`, or the built program; a missing program is built. An
+    option in its place ends the tool with the tool's text."""
     program = str(words[0] if words else PROGRAM)
+    if program.startswith("-"):
+        sys.exit(sys.modules["__main__"].__doc__.strip())
     if not words or not os.path.exists(program):
         check = ["rt", "run", "--", "check", str(TOP / "examples" / "office.toml")]
         subprocess.run(check, cwd=MAIN, stdout=subprocess.DEVNULL, check=True)

@@ -108,10 +108,10 @@ class Office:
         self.open = {}
         self.start(names.OUTSIDE + names.COMPANY)
 
-    def start(self, addresses):
+    def start(self, addresses, silent=False):
         for address in addresses:
             if address not in self.open:
-                self.open[address] = names.Server(address)
+                self.open[address] = names.Server(address, silent)
 
     def stop(self, addresses):
         for address in addresses:

@@ -17,6 +17,7 @@ RECORDS = {
     ("www.example.com.", "A"): ("www.example.com.", 300, "IN", "A", "192.0.2.80"),
     (INTRANET, "A"): (INTRANET, 300, "IN", "A", "10.0.0.80"),
     ("www.corp.example.", "A"): ALIAS,
+    (".", "SOA"): (".", 300, "IN", "SOA", SOA.format(zone="example.com.")),
     (TEXT, "TXT"): (TEXT, 300, "IN", "TXT", *[f'"{"x" * 250}"'] * 4),
 }
 
@@ -39,13 +40,13 @@ def reply_to(octets):
 
 
 class Server:
-    """A name server at port 53 of an address, until it is stopped."""
+    """A name server at port 53 of an address, until it is stopped; a silent one replies nothing."""
 
-    def __init__(self, address):
+    def __init__(self, address, silent=False):
         self.udp = socket.socket(socket.AF_INET, socket.SOCK_DGRAM)
         self.udp.bind((address, 53))
         self.tcp = socket.create_server((address, 53))
-        for serve in (self.serve_udp, self.serve_tcp):
+        for serve in () if silent else (self.serve_udp, self.serve_tcp):
             threading.Thread(target=serve, daemon=True).start()
 
     def serve_udp(self):

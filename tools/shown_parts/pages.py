@@ -4,7 +4,8 @@ import pathlib
 import re
 
 TOP = pathlib.Path(__file__).resolve().parent.parent.parent
-MANUALS = ("forwarder.8", "forwarder.toml.5", "forwarder-explain.1", "forwarder-import.1")
+MANUALS = ("forwarder.8", "forwarder.toml.5", "forwarder-explain.1", "forwarder-import.1",
+           "forwarder-advise.1")
 FENCE = re.compile(r"^( *)```(\w*)\n(.*?)^ *```$", re.M | re.S)
 LITERAL = re.compile(r"^\.Bd -literal[^\n]*\n(.*?)^\.Ed$|^\.Dl ([^\n]*)$", re.M | re.S)
 # The first words of a command in a manual; other literal text is output or configuration.
@@ -79,6 +80,11 @@ def fences(page, text):
             yield Step(page, first, "check", "a configuration", [content])
 
 
+def unfolded(lines):
+    """The lines of output, with what is set in belonging to the line before."""
+    return re.sub(r"\n +", " ", "\n".join(lines)).splitlines()
+
+
 def literals(page, text):
     """The steps of a page in mdoc."""
     for block in LITERAL.finditer(text):
@@ -86,6 +92,9 @@ def literals(page, text):
         first = text[:block.start()].count("\n") + (2 if block[1] else 1)
         if CONFIGURATION.search(inside):
             yield Step(page, first, "check", "a configuration", [inside])
+        elif inside.startswith("$ "):
+            for at, each, shown in console(inside.splitlines()):
+                yield Step(page, first + at, "run", each, unfolded(shown))
         elif FIRST.match(inside):
             lines = inside.splitlines()
             yield from (Step(page, first + at, "run", each) for at, each in commands(lines))
@@ -110,7 +119,8 @@ def configurations():
 
 def markdown():
     """The pages in Markdown that are written by hand."""
-    folders = ("*.md", "docs/*.md", "crates/*/README.md", "packaging/*.md", "explain/*.md")
+    folders = ("*.md", "docs/*.md", "crates/*/README.md", "packaging/*.md", "explain/*.md",
+               "explain/trials/*.md", "import/*.md", "tools/**/*.md")
     return sorted(str(file.relative_to(TOP)) for folder in folders for file in TOP.glob(folder))
 
 

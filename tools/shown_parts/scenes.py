@@ -63,6 +63,14 @@ def lan_denied(_office):
     shell("systemctl restart forwarder")
 
 
+def unwise(office):
+    """A cache above the unit's memory, and a silent server."""
+    limits = "[limits]\ncache = 32768"
+    (ETC / "forwarder.toml").write_text(guide().replace("[limits]", limits))
+    office.stop(names.OUTSIDE[1:])
+    office.start(names.OUTSIDE[1:], silent=True)
+
+
 def names_of_a_day(_office):
     """Names that are also asked of the old program: port 5300 is still the forwarder's."""
     pathlib.Path("names").write_text("www.example.com A\ngone.corp.example A\n")
