@@ -33,7 +33,7 @@ RULES = [
     Rule(r"tools/(beside|soak|with_others|instructions)\b.*", "minutes", "tools/release_check"),
     Rule(r"tools/(loopback|trials|second_reading(?! replay))\b.*|tools/shown.*|"
          r"(explain|import)/test .*|"
-         r"tools/(crates_index|definitions|wrong_bodies_index|pictures|reaches|links)\b( --check)?",
+         r"tools/(crates_index|definitions|wrong_bodies_index|pictures|reaches|links)\b( --\w+)?",
          "a part of it", "tools/trials"),
     Rule(r"tools/pictures .+|tools/beside --costs", "writes what is committed", "tools/pictures"),
     Rule(r"tools/free_bits PROGRAM|dsc=\S+packaging/source .*", slow=True),
