@@ -31,10 +31,8 @@ def the_own_address(configuration, _):
         for server in dict.fromkeys(route.servers):
             is_here = server[0] == address or (int(address) == 0 and server[0].is_loopback)
             if is_here and server[1] == port:
-                yield (
-                    f"{of(route)}: {shown_peer(server)} is this forwarder itself: write another"
-                    " server"
-                )
+                yield (f"{of(route)}: {shown_peer(server)} is this forwarder itself: write another"
+                       " server")
 
 
 @advice
@@ -43,10 +41,8 @@ def a_server_twice(configuration, _):
     for route in configuration.routes:
         for server in dict.fromkeys(route.servers):
             if route.servers.count(server) > 1:
-                yield (
-                    f"{of(route)}: {shown_peer(server)} is there twice: write another server, or"
-                    " none"
-                )
+                yield (f"{of(route)}: {shown_peer(server)} is there twice: write another server, or"
+                       " none")
 
 
 @advice
@@ -54,10 +50,8 @@ def a_deadline_before_one_try(configuration, _):
     """A question whose deadline comes before the first server had `ask_ms`."""
     ask, deadline = (configuration.limits[key] for key in ("ask_ms", "deadline_ms"))
     if deadline < ask:
-        yield (
-            f"`deadline_ms` ({deadline}) is below `ask_ms` ({ask}), so no server has its time: "
-            f"write `ask_ms = {max(100, deadline // 2)}`"
-        )
+        yield (f"`deadline_ms` ({deadline}) is below `ask_ms` ({ask}), so no server has its time: "
+               f"write `ask_ms = {max(100, deadline // 2)}`")
 
 
 @advice
@@ -65,11 +59,9 @@ def tries_past_the_deadline(configuration, _):
     """Tries beyond the deadline are never made."""
     tries, ask, deadline = times(configuration)
     if ask <= deadline < tries * ask:
-        yield (
-            f"`tries` times `ask_ms` ({tries * ask}) is above `deadline_ms` ({deadline}), so the"
-            " last tries are never made, and `stale_s` is never used: write `tries ="
-            f" {deadline // ask}`"
-        )
+        yield (f"`tries` times `ask_ms` ({tries * ask}) is above `deadline_ms` ({deadline}), so the"
+               " last tries are never made, and `stale_s` is never used: write `tries ="
+               f" {deadline // ask}`")
 
 
 @advice
@@ -78,13 +70,10 @@ def tries_past_the_patience_of_clients(configuration, _):
     tries, ask, _ = times(configuration)
     if tries * ask > PATIENCE_MS and any(route.servers for route in configuration.routes):
         fewer = min(tries, max(1, PATIENCE_MS // ask))
-        better = (
-            f"`tries = {fewer}`" if ask <= PATIENCE_MS else f"`ask_ms = {PATIENCE_MS // tries}`"
-        )
-        yield (
-            f"`tries` times `ask_ms` ({tries * ask}) is above the {PATIENCE_MS} ms after which"
-            f" clients give up: write {better}"
-        )
+        better = (f"`tries = {fewer}`"
+                  if ask <= PATIENCE_MS else f"`ask_ms = {PATIENCE_MS // tries}`")
+        yield (f"`tries` times `ask_ms` ({tries * ask}) is above the {PATIENCE_MS} ms after which"
+               f" clients give up: write {better}")
 
 
 @advice
@@ -93,10 +82,8 @@ def a_cache_past_the_memory(configuration, unit):
     cache, memory = configuration.limits["cache"], unit.octets()
     most = SETS * memory // WITHIN if memory else cache
     if cache > most:
-        yield (
-            f"`cache` ({cache}) may need more than the unit's `MemoryMax={unit.memory}`, since a"
-            f" set may have 64 KiB: write `cache = {max(1, most)}`, or a larger `MemoryMax`"
-        )
+        yield (f"`cache` ({cache}) may need more than the unit's `MemoryMax={unit.memory}`, since a"
+               f" set may have 64 KiB: write `cache = {max(1, most)}`, or a larger `MemoryMax`")
 
 
 @advice
@@ -141,8 +128,7 @@ def only_this_machine_is_served(configuration, unit):
     if spoken:
         yield (
             f"`listen` at {address} serves this machine alone, but {spoken[-1]} is of a network: "
-            f"write this machine's address there, as `10.0.0.53:{port}`"
-        )
+            f"write this machine's address there, as `10.0.0.53:{port}`")
 
 
 NETWORK = re.compile(r"(?<![\w./-])(networks?|clients|offices?|LAN)(?![\w/-]|\.\w)", re.I)

@@ -6,16 +6,7 @@ from .bind_statements import statements_of
 from .files import Line, Refused
 from .found import LocalZone
 from .names import (
-    ENCRYPTED,
-    LOCAL_ZONES,
-    OF_SHARED,
-    ipv4_of,
-    keep,
-    key_of,
-    peer_of,
-    port_of,
-    suffix_of,
-)
+    LOCAL_ZONES, OF_SHARED, ipv4_of, keep, key_of, peer_of, port_of, suffix_of)
 from .rows import Row
 
 NOT_FROM_ROOT = "names are not resolved from the root if no server answers"
@@ -41,13 +32,11 @@ class Bind:
 
     def each(self, statement, call):
         """Has a statement carried, or the statements of an included file."""
-        try:
+        with self.found.refusing(statement.line):
             if statement.words[0] == "include":
                 self.include(statement, call)
             else:
                 call(statement)
-        except Refused as refused:
-            self.found.refuse(statement.line, refused)
 
     def include(self, statement, call):
         """Has the statements of included files carried."""
@@ -65,9 +54,8 @@ class Bind:
             self.zone(statement)
         elif statement.words[0] in LISTS and len(statement.words) > 1:
             self.lists[statement.words[1]] = statement
-            self.found.pass_over(
-                statement.line, "its addresses are those of the zones that name it"
-            )
+            self.found.pass_over(statement.line,
+                                 "its addresses are those of the zones that name it")
         elif statement.words[0] == "view":
             self.found.refuse(statement.line, left_out("view"))
             for each in statement.block:
@@ -125,9 +113,8 @@ class Bind:
             return
         for each in statements:
             if each.words[0] == "forwarders" and each.blocks and each.block:
-                self.found.leave(
-                    each.line, f"`forward first` is the default: {NOT_FROM_ROOT}", Row.ITERATING
-                )
+                self.found.leave(each.line, f"`forward first` is the default: {NOT_FROM_ROOT}",
+                                 Row.ITERATING)
 
     def forwarders(self, suffix, statement, block):
         """The servers of a suffix."""
@@ -135,13 +122,8 @@ class Bind:
         is_encrypted = after(statement.words, "tls")
         for each in block:
             address, port = each.words[0], after(each.words, "port") or port_of_all or "53"
-
-            def peer():
-                if is_encrypted or after(each.words, "tls"):
-                    raise Refused(ENCRYPTED)
-                return peer_of(address, port)
-
-            self.found.serve(suffix, peer, each.line)
+            tls = is_encrypted or after(each.words, "tls")
+            self.found.serve(suffix, lambda: peer_of(address, port, tls), each.line)
 
     def listen(self, statement):
         """Addresses of this machine; `any` for all of them."""
@@ -155,10 +137,8 @@ class Bind:
         port = after(statement.words, "port")
         port = port_of(port) if port else None
         for each in statement.block:
-            try:
+            with self.found.refusing(each.line):
                 self.address(each, port)
-            except Refused as refused:
-                self.found.refuse(each.line, refused)
 
     def address(self, statement, port):
         """An element of `listen-on`."""
@@ -192,8 +172,7 @@ class Bind:
         elif kind in KEPT or kind in WITH_SERVERS:
             refused = Refused(
                 f"the server has this zone itself: write a route to a server that has {suffix}",
-                Row.RECORDS,
-            )
+                Row.RECORDS)
             self.found.route(suffix).lost.append((statement.line, refused))
         else:
             raise Refused(f"{kind} is no type of a zone that is known here: {keep('named')}")
@@ -203,15 +182,13 @@ class Bind:
         route = self.found.route(suffix)
         route.named.append(statement.line)
         for each in statement.block:
-            try:
+            with self.found.refusing(each.line):
                 if each.words[0] == "forwarders":
                     self.forwarders(suffix, each, each.block)
                 elif each.words[0] == "forward":
                     self.forward(each)
                 elif each.words[0] != "type":
                     raise left_out(each.words[0])
-            except Refused as refused:
-                self.found.refuse(each.line, refused)
         self.forward_by_default(statement.block)
         if not route.servers and not route.lost:
             what = f"{suffix} has no forwarder, so it is resolved from the root"
@@ -223,10 +200,8 @@ class Bind:
             self.copied(*copy)
         self.stale_answers()
         if not self.found.addresses:
-            what = (
-                "without `listen-on` named listens at all addresses: write this machine's in"
-                " `listen`"
-            )
+            what = ("without `listen-on` named listens at all addresses: write this machine's in"
+                    " `listen`")
             self.found.leave(self.first, what, Row.LISTENING)
         self.forward_by_default(self.forwarding)
         if not any(each.words[0] == "forwarders" and each.block for each in self.forwarding):
@@ -241,14 +216,8 @@ class Bind:
         remark = "a referral is no answer" if "stub" in kind else f"of a {kind} zone"
         for each in statement.block:
             if each.words[0] in (*LISTS, "server-addresses"):
-                for address, port, is_encrypted, line in self.addresses(each, set()):
-
-                    def peer():
-                        if is_encrypted:
-                            raise Refused(ENCRYPTED)
-                        return peer_of(address, port)
-
-                    self.found.serve(suffix, peer, line, remark)
+                for address, port, tls, line in self.addresses(each, set()):
+                    self.found.serve(suffix, lambda: peer_of(address, port, tls), line, remark)
             elif each.words[0] == "server-names":
                 names = ", ".join(name.words[0] for name in each.block)
                 what = f"{names}: write the addresses of these names"
@@ -284,20 +253,10 @@ class Bind:
     def stale_answers(self):
         """Carries how long an expired record set may be answered."""
         switch, window = self.stale.get("stale-answer-enable"), self.stale.get("max-stale-ttl")
-        if switch is None or switch.words[1:] not in (["yes"], ["true"], ["1"]):
-            for each in filter(None, (switch, window)):
-                self.found.pass_over(
-                    each.line, "without `stale-answer-enable yes` nothing expired is answered"
-                )
-            return
-        statement = window or switch
-        try:
-            text = str(seconds_of(window.value())) if window else "86400"
-            self.found.limit("stale_s", text, statement.line, "once all tries failed")
-        except Refused as refused:
-            self.found.refuse(statement.line, refused)
-        if window:
-            self.found.pass_over(switch.line, "`stale_s` above 0 says it")
+        is_on = bool(switch) and switch.words[1:] in (["yes"], ["true"], ["1"])
+        self.found.stale(switch and switch.line, is_on, window and window.line,
+                         lambda: str(seconds_of(window.value())) if window else "86400",
+                         "stale-answer-enable yes")
 
 
 def kind_of(zone):

@@ -14,19 +14,15 @@ ALSO_EMPTY = ("home.arpa", "empty.as112.arpa", "resolver.arpa")
 
 # Statements of `options` with the value for the behaviour of this forwarder.
 SAME = dict(
-    each.split("=")
-    for each in """
+    each.split("=") for each in """
     recursion=yes auth-nxdomain=no dnssec-validation=no dnssec-enable=no querylog=no
     minimal-responses=yes minimal-any=yes stale-answer-ttl=30 stale-cache-enable=yes
-    """.split()
-)
+    """.split())
 
-OF_THE_UNIT = set(
-    """
+OF_THE_UNIT = set("""
     coresize datasize directory dump-file files key-directory lock-file managed-keys-directory
     memstatistics-file pid-file recursing-file secroots-file stacksize
-    """.split()
-)
+    """.split())
 
 # Without a counterpart: the row, advice and names.
 left_out = table(
@@ -78,6 +74,4 @@ IPV6:
   masterfile-.* type in-view interface-interval automatic-interface-scan max-.* min-.*
   disable-.* heartbeat-interval dialup random-device memstatistics flush-zones-on-shutdown
   synth-from-dnssec message-compression multi-master update-.* tkey-.* host-statistics.* dscp
-""",
-    f"it is no statement of named.conf that is known here: {keep('named')}",
-)
+""", f"it is no statement of named.conf that is known here: {keep('named')}")

@@ -24,24 +24,13 @@ class Dnsmasq:
         self.kept = found.kept_dnsmasq = KeptDnsmasq(found)
         self.wild = []  # domains with a wildcard, their line, and a call with the suffix
         self.options = {
-            "server": self.server,
-            "local": self.server,
-            "address": self.address,
-            "rev-server": self.rev_server,
-            "domain": self.domain,
-            "listen-address": self.listen_address,
-            "port": self.port,
-            "cache-size": self.cache_size,
-            "dns-forward-max": self.forward_max,
-            "use-stale-cache": self.stale,
-            "no-resolv": self.no_resolv,
-            "no-hosts": self.no_hosts,
-            "resolv-file": self.resolv_file,
-            "bogus-priv": self.bogus_priv,
-            "conf-file": self.conf_file,
-            "servers-file": self.conf_file,
-            "conf-dir": self.conf_dir,
-        }
+            "server": self.server, "local": self.server, "address": self.address,
+            "rev-server": self.rev_server, "domain": self.domain, "port": self.port,
+            "listen-address": self.listen_address, "cache-size": self.cache_size,
+            "dns-forward-max": self.forward_max, "use-stale-cache": self.stale,
+            "no-resolv": self.no_resolv, "no-hosts": self.no_hosts, "conf-dir": self.conf_dir,
+            "resolv-file": self.resolv_file, "bogus-priv": self.bogus_priv,
+            "conf-file": self.conf_file, "servers-file": self.conf_file}
 
     def read(self, path, by=None):
         """Takes the lines of a file, included by the line `by`."""
@@ -51,10 +40,8 @@ class Dnsmasq:
         self.once.add(os.path.realpath(path))
         with self.files.lines(path, by) as lines:
             for line in lines:
-                try:
+                with self.found.refusing(line):
                     self.take(line)
-                except Refused as refused:
-                    self.found.refuse(line, refused)
 
     def take(self, line):
         """Takes a line."""
@@ -83,21 +70,15 @@ class Dnsmasq:
         """Notes what dnsmasq does without a line."""
         if self.serves and not self.found.addresses:
             self.found.leave(
-                self.first,
-                (
-                    "without `listen-address` dnsmasq listens at all addresses: write this"
-                    " machine's in `listen`"
-                ),
-                Row.LISTENING,
-            )
+                self.first, ("without `listen-address` dnsmasq listens at all addresses: write this"
+                             " machine's in `listen`"), Row.LISTENING)
         self.say_of_resolv_files(kinds["resolv"].paths if "resolv" in kinds else [])
         if self.serves and self.has_hosts:
             what = "write a route to a name server that has its names"
             if self.kept.is_asked():
                 what = (
                     f"write a route to {self.kept.peer} for those that are not below a domain of"
-                    " leases"
-                )
+                    " leases")
             what = f"without `no-hosts` dnsmasq answers from /etc/hosts, too: {what}"
             self.found.leave(self.first, what, Row.RECORDS)
         named = set(self.found.routes)
@@ -126,19 +107,15 @@ class Dnsmasq:
     def why_not_read(self, path):
         """Why dnsmasq does not ask the servers of a resolv.conf; empty if asked."""
         if self.no_resolv_line:
-            return (
-                "dnsmasq does not ask this server: no-resolv at"
-                f" {self.files.place(self.no_resolv_line)}"
-            )
+            return ("dnsmasq does not ask this server: no-resolv at"
+                    f" {self.files.place(self.no_resolv_line)}")
         if self.resolv_files and not any(
-            is_at(path, named) for named in self.resolv_files.values()
-        ):
+                is_at(path, named) for named in self.resolv_files.values()):
             line, named = next(iter(self.resolv_files.items()))
             place = self.files.place(line)
             return (
                 f"dnsmasq does not ask this server: resolv-file at {place}: give {named} instead of"
-                " this file"
-            )
+                " this file")
         return ""
 
     def say_of_resolv_files(self, given):
@@ -149,16 +126,13 @@ class Dnsmasq:
             elif any(is_at(each, path) for each in given):
                 self.found.pass_over(line, "its servers are those that the file has now")
             else:
-                what = (
-                    f"its servers may change: give {path} as a file, too, to take those that it"
-                    " has now"
-                )
+                what = (f"its servers may change: give {path} as a file, too, to take those that it"
+                        " has now")
                 self.found.leave(line, what, Row.PROVIDED)
         if self.serves and not self.no_resolv_line and not self.resolv_files and not given:
             what = (
                 "without `no-resolv` dnsmasq asks the servers of /etc/resolv.conf, too: give that"
-                " file as well"
-            )
+                " file as well")
             self.found.leave(self.first, what, Row.PROVIDED)
 
     def server(self, value, line):
@@ -166,9 +140,8 @@ class Dnsmasq:
         domains, target = domains_of(value)
         server, *sources = target.split("@")
         for source in sources:
-            self.found.leave(
-                line, f"queries do not leave from {source}: let the routing table decide"
-            )
+            self.found.leave(line,
+                             f"queries do not leave from {source}: let the routing table decide")
         if not domains and not server:
             raise Refused("it names neither a domain nor a server")
         for domain in domains or ["#"]:
@@ -193,13 +166,11 @@ class Dnsmasq:
         try:
             if not suffix:
                 raise Refused(
-                    "names without a dot are asked like others: give clients a search domain"
-                )
+                    "names without a dot are asked like others: give clients a search domain")
             call(suffix)
         except Refused as refused:
-            self.found.leave(
-                line, f"{domain}: {refused.what}" if domain else refused.what, refused.row
-            )
+            self.found.leave(line, f"{domain}: {refused.what}" if domain else refused.what,
+                             refused.row)
 
     def address(self, value, line):
         """`address=/DOMAIN/ADDRESS`; without an address the domain does not exist."""
@@ -229,18 +200,15 @@ class Dnsmasq:
     def listen_address(self, value, line):
         """Addresses with commas between."""
         for text in value.split(","):
-            try:
+            with self.found.refusing(line):
                 self.found.listen(ipv4_of(text.strip()), None, line)
-            except Refused as refused:
-                self.found.refuse(line, refused)
 
     def port(self, value, line):
         """The port of all addresses; 0 is for DHCP alone."""
         if value == "0":
             self.serves = self.kept.serves = False
             raise Refused(
-                "with port 0 dnsmasq serves no DNS, so none of its settings of DNS has an effect"
-            )
+                "with port 0 dnsmasq serves no DNS, so none of its settings of DNS has an effect")
         self.found.set_port(value, line)
 
     def cache_size(self, value, line):
@@ -251,9 +219,8 @@ class Dnsmasq:
 
     def stale(self, value, line):
         """Seconds after the end of a record; 0 is for ever."""
-        self.found.limit(
-            "stale_s", "999999" if value == "0" else value or "86400", line, "once all tries failed"
-        )
+        self.found.limit("stale_s", "999999" if value == "0" else value or "86400", line,
+                         "once all tries failed")
 
     def no_resolv(self, _, line):
         self.no_resolv_line = line
@@ -300,11 +267,8 @@ def files_in(folder, endings):
     unwanted = tuple(ending for ending in endings if ending and not ending.startswith("*"))
     paths = []
     for name in sorted(os.listdir(folder)):
-        is_hidden = (
-            name.startswith(".")
-            or name.endswith("~")
-            or (name.startswith("#") and name.endswith("#"))
-        )
+        is_hidden = (name.startswith(".") or name.endswith("~") or
+                     (name.startswith("#") and name.endswith("#")))
         is_chosen = name.endswith(wanted) if wanted else True
         path = os.path.join(folder, name)
         if not is_hidden and is_chosen and not name.endswith(unwanted) and os.path.isfile(path):
@@ -328,7 +292,7 @@ def bare(text):
             is_quoted = not is_quoted
         elif character == "\\" and is_quoted:
             said.append(next(characters, (0, ""))[1])
-        elif character == "#" and not is_quoted and not text[place - 1 : place].strip():
+        elif character == "#" and not is_quoted and not text[place - 1:place].strip():
             break
         else:
             said.append(character)

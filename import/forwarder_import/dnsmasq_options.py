@@ -6,13 +6,11 @@ from .tables import table
 
 DHCP = re.compile(
     r"dhcp-.*|pxe-.*|tftp-.*|enable-tftp|enable-ra|ra-param|bootp-dynamic|no-ping|read-ethers|"
-    r"leasefile-ro|script-.*|quiet-.*|log-dhcp|no-dhcp.*|shared-network|bridge-interface|tag-if"
-)
+    r"leasefile-ro|script-.*|quiet-.*|log-dhcp|no-dhcp.*|shared-network|bridge-interface|tag-if")
 RECORDS = re.compile(
     r"host-record|dynamic-host|cname|mx-.*|selfmx|localmx|srv-host|txt-record|ptr-record|"
     r"naptr-record|caa-record|dns-rr|interface-name|synth-domain|addn-hosts|hostsdir|expand-hosts|"
-    r"localise-queries"
-)
+    r"localise-queries")
 WITHOUT_NAMES = {"addn-hosts", "hostsdir", "expand-hosts", "localise-queries", "selfmx", "localmx"}
 
 # Without a counterpart: the row, advice and names.
@@ -52,21 +50,14 @@ PROVIDED: write the servers into the configuration
   enable-dbus enable-ubus conf-script
 -: it has no counterpart
   clear-on-reload no-round-robin no-ident test version help
-""",
-    f"it is no option of dnsmasq that is known here: {keep('dnsmasq')}",
-)
+""", f"it is no option of dnsmasq that is known here: {keep('dnsmasq')}")
 
 UNIT = "the unit of systemd has its own"
 NEEDLESS = {
     "no-poll": "no file is read after the start",
-    "bind-interfaces": "the one address of `listen` alone is bound",
-    "bind-dynamic": "the one address of `listen` alone is bound",
-    "user": UNIT,
-    "group": UNIT,
-    "pid-file": UNIT,
-    "keep-in-foreground": UNIT,
-    "no-daemon": UNIT,
-}
+    **dict.fromkeys(("bind-interfaces", "bind-dynamic"),
+                    "the one address of `listen` alone is bound"),
+    **dict.fromkeys(("user", "group", "pid-file", "keep-in-foreground", "no-daemon"), UNIT)}
 
 
 def names_of_record(name, value):

@@ -66,8 +66,7 @@ class Files:
         if self.count > MOST_FILES or len(self.within) > DEEPEST:
             raise Unreadable(
                 f"{shown(path)}: is one of more than {MOST_FILES} files, or of {DEEPEST} in one"
-                " another"
-            )
+                " another")
         if path not in self.read:
             self.read.append(path)
             self.short = None

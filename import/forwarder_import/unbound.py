@@ -5,24 +5,13 @@ from dataclasses import dataclass, field
 
 from .files import Line, Refused
 from .names import (
-    ENCRYPTED,
-    LOCAL_ZONES,
-    OF_SHARED,
-    cut,
-    ipv4_of,
-    keep,
-    key_of,
-    peer_of,
-    port_of,
-    suffix_of,
-)
+    LOCAL_ZONES, OF_SHARED, cut, ipv4_of, keep, key_of, peer_of, port_of, suffix_of)
 from .rows import Row
 from .unbound_local import WITH_LAN, Local, LocalZones
-from .unbound_options import CLAUSES, DENYING, OF_THE_UNIT, SAME, TRANSPARENT, left_out
+from .unbound_options import CLAUSES, DENYING, OF_THE_UNIT, REDIRECTING, SAME, TRANSPARENT, left_out
 
 TOKEN = re.compile(
-    r"""\s*(?:"(?P<double>[^"]*)"|'(?P<single>[^']*)'|(?P<open>["'])|(?!\#)(?P<word>[^\s"']+))"""
-)
+    r"""\s*(?:"(?P<double>[^"]*)"|'(?P<single>[^']*)'|(?P<open>["'])|(?!\#)(?P<word>[^\s"']+))""")
 KEY = re.compile(r"([a-z][a-z0-9-]*):(.*)", re.S)
 TLS = {"forward-tls-upstream", "forward-ssl-upstream", "stub-tls-upstream", "stub-ssl-upstream"}
 TLS_OF_ALL = {"tls-upstream", "ssl-upstream"}
@@ -68,11 +57,9 @@ class Unbound:
         """Gathers the statements of a file and of included files, in order."""
         with self.files.lines(path, by) as lines:
             for line in lines:
-                try:
+                with self.found.refusing(line):
                     for token, is_quoted in tokens_of(line.text):
                         self.take(token, is_quoted, line)
-                except Refused as refused:
-                    self.found.refuse(line, refused)
 
     def take(self, token, is_quoted, line):
         """Takes a word: a key, or a value of the key before."""
@@ -85,10 +72,8 @@ class Unbound:
             raise Refused(f"{token} has no key before it")
         else:
             last.values.append(token)
-        if (
-            self.statements[-1].key in ("include", "include-toplevel")
-            and self.statements[-1].values
-        ):
+        if (self.statements[-1].key in ("include", "include-toplevel") and
+                self.statements[-1].values):
             self.include(self.statements.pop())
 
     def include(self, statement):
@@ -96,10 +81,8 @@ class Unbound:
         if statement.key == "include-toplevel":
             self.statements.append(Statement("server", statement.line))
         for path in self.files.paths(statement.value(), statement.line):
-            try:
+            with self.found.refusing(statement.shown()):
                 self.gather(path, statement.line)
-            except Refused as refused:
-                self.found.refuse(statement.shown(), refused)
 
     def end(self, _):
         """Carries all statements, clause by clause."""
@@ -127,15 +110,15 @@ class Unbound:
                     self.found.refuse(each.shown(), refused)
             return
         for statement in statements:
-            try:
+            with self.found.refusing(statement.shown()):
                 if kind == "server":
                     self.setting(statement)
                 elif (kind, statement.key) == ("auth-zone", "name"):
                     self.own_zone(statement)
+                elif (kind, statement.key) == ("view", "local-zone"):
+                    self.of_view(statement)
                 else:
                     raise of_clause(kind)
-            except Refused as refused:
-                self.found.refuse(statement.shown(), refused)
 
     def setting(self, statement):
         """Carries a statement of the clause `server`."""
@@ -167,9 +150,16 @@ class Unbound:
         route = self.found.route(statement.value())
         refused = Refused(
             f"the server has this zone itself: write a route to a server that has {route.suffix}",
-            Row.RECORDS,
-        )
+            Row.RECORDS)
         route.lost.append((statement.shown(), refused))
+
+    def of_view(self, statement):
+        """A local zone of a view. Nobody is asked for its names until the view has a service."""
+        if len(statement.values) == 2 and statement.values[1] not in TRANSPARENT:
+            route = self.found.route(statement.values[0])
+            route.lost.append((statement.shown(), of_clause("view")))
+        else:
+            raise of_clause("view")
 
     def local_zone(self, statement, line):
         """A zone nobody is asked about, or an exception."""
@@ -181,34 +171,28 @@ class Unbound:
             self.nodefault.add(key_of(suffix_of(zone)))
             return
         suffix = suffix_of(zone)
-        self.local.add(key_of(suffix), Local(suffix, line, kind in DENYING, kind in TRANSPARENT))
+        denies = kind in DENYING or kind in REDIRECTING
+        self.local.add(key_of(suffix), Local(suffix, line, denies, kind in TRANSPARENT))
         if kind in DENYING:
             self.found.deny(zone, line, DENYING[kind])
+        elif kind in REDIRECTING:
+            what = "write a route to a name server that has its names"
+            self.found.route(zone).lost.append((line, Refused(what, Row.RECORDS)))
         elif kind not in TRANSPARENT:
             raise Refused(
                 "write a route that denies it, or one to a name server that has its names",
-                Row.RECORDS,
-            )
+                Row.RECORDS)
 
     def stale_answers(self):
-        """Carries how long an expired record set may be answered."""
+        """Carries how long an expired record set may be answered: 0 is for ever."""
         switch, window = self.stale.get("serve-expired"), self.stale.get("serve-expired-ttl")
-        if switch is None or not is_yes(switch):
-            for each in filter(None, (switch, window)):
-                self.found.pass_over(
-                    each.shown(), "without `serve-expired: yes` nothing expired is answered"
-                )
-            return
-        line = (window or switch).shown()
-        try:
-            text = window.value() if window else "0"
-            self.found.limit(
-                "stale_s", "999999" if text == "0" else text, line, "once all tries failed"
-            )
-        except Refused as refused:
-            self.found.refuse(line, refused)
-        if window:
-            self.found.pass_over(switch.shown(), "`stale_s` above 0 says it")
+
+        def text():
+            seconds = window.value() if window else "0"
+            return "999999" if seconds == "0" else seconds
+
+        self.found.stale(switch and switch.shown(), bool(switch) and is_yes(switch),
+                         window and window.shown(), text, "serve-expired: yes")
 
     def without_a_line(self):
         """Notes what unbound does without a line."""
@@ -221,8 +205,7 @@ class Unbound:
         of_lan = [each for each in self.statements if each.key == "unblock-lan-zones"]
         is_open = bool(of_lan) and is_yes(of_lan[-1])
         self.local.add_defaults(
-            self.first, self.nodefault | (set(LOCAL_ZONES) - WITH_LAN if is_open else set())
-        )
+            self.first, self.nodefault | (set(LOCAL_ZONES) - WITH_LAN if is_open else set()))
         if not is_open:
             self.found.leave(self.first, f"unbound denies names {OF_SHARED}", Row.SPECIAL)
 
@@ -244,19 +227,15 @@ class Zone:
         if key_of(suffix.rstrip(".") or ".") in self.reader.zones:
             raise Refused(
                 f"the zone {suffix} is there already, and only the first counts: write all servers"
-                " into it"
-            )
+                " into it")
         route = self.found.route(suffix)
         route.named.append(names[0].shown())
         self.reader.zones.add(key_of(route.suffix))
-        is_encrypted = is_encrypted or any(
-            each.key in TLS and is_yes(each) for each in self.statements
-        )
+        is_encrypted = is_encrypted or any(each.key in TLS and is_yes(each)
+                                           for each in self.statements)
         for statement in self.statements:
-            try:
+            with self.found.refusing(statement.shown()):
                 self.take(statement, route, is_encrypted)
-            except Refused as refused:
-                self.found.refuse(statement.shown(), refused)
         if not route.servers and not route.lost:
             route.lost.append((self.clause.shown(), Refused(f"the zone {suffix} has no server")))
 
@@ -267,11 +246,10 @@ class Zone:
             remark = "a referral is no answer" if self.kind == "stub" else ""
 
             def peer():
-                met = server_of(statement, is_encrypted)
+                met = peer_of(*cut(statement.value().partition("#")[0], "@"), is_encrypted)
                 if "#" in statement.value():
-                    self.found.pass_over(
-                        line, "what follows # is a name for TLS, which is off there"
-                    )
+                    self.found.pass_over(line,
+                                         "what follows # is a name for TLS, which is off there")
                 return met
 
             self.found.serve(route.suffix, peer, line, remark)
@@ -283,26 +261,15 @@ class Zone:
             raise Refused(*ZONE_SETTINGS[part])
         elif statement.key != "name":
             raise Refused(
-                f"it is no setting of a {self.clause.key} that is known here: {keep('unbound')}"
-            )
+                f"it is no setting of a {self.clause.key} that is known here: {keep('unbound')}")
 
 
 ZONE_SETTINGS = {
-    "tls-upstream": ("", None),
-    "ssl-upstream": ("", None),
+    "tls-upstream": ("", None), "ssl-upstream": ("", None),
     "first": ("it is not resolved from the root if its servers fail", Row.ITERATING),
     "prime": ("its servers are those that are written", Row.ITERATING),
     "no-cache": ("its answers are cached, too", Row.TTL),
-    "tcp-upstream": ("servers are asked by UDP first: let UDP through", None),
-}
-
-
-def server_of(statement, is_encrypted):
-    """The peer of `ADDRESS@PORT#NAME`."""
-    text, _, _ = statement.value().partition("#")
-    if is_encrypted:
-        raise Refused(ENCRYPTED)
-    return peer_of(*cut(text, "@"))
+    "tcp-upstream": ("servers are asked by UDP first: let UDP through", None)}
 
 
 def names_of_data(statement):

@@ -5,47 +5,28 @@ from .tables import table
 
 # Clauses, with a row about their statements.
 CLAUSES = {
-    "server": None,
-    "forward-zone": None,
-    "stub-zone": None,
-    "auth-zone": Row.RECORDS,
-    "rpz": None,
-    "view": Row.WHO,
-    "remote-control": Row.STATISTICS,
-    "python": None,
-    "dynlib": None,
-    "dnscrypt": None,
-    "dnstap": Row.LOG,
-    "cachedb": None,
-    "ipset": None,
-}
+    **dict.fromkeys(("server", "forward-zone", "stub-zone", "rpz", "python", "dynlib", "dnscrypt",
+                     "cachedb", "ipset")),
+    "auth-zone": Row.RECORDS, "view": Row.WHO, "remote-control": Row.STATISTICS, "dnstap": Row.LOG}
 
-REFUSES = "there REFUSED, here NXDOMAIN"
-DROPS = "there no answer, here NXDOMAIN"
 DENYING = {  # types of a local zone, with the difference
-    "static": "",
-    "always_nxdomain": "",
-    "refuse": REFUSES,
-    "always_refuse": REFUSES,
-    "deny": DROPS,
-    "always_deny": DROPS,
-    "inform_deny": DROPS,
+    "static": "", "always_nxdomain": "",
+    **dict.fromkeys(("refuse", "always_refuse"), "there REFUSED, here NXDOMAIN"),
+    **dict.fromkeys(("deny", "always_deny", "inform_deny"), "there no answer, here NXDOMAIN"),
     "always_null": "there the address 0.0.0.0, here NXDOMAIN",
-    "always_nodata": "there no data, here NXDOMAIN",
-}
+    "always_nodata": "there no data, here NXDOMAIN"}
+REDIRECTING = {"redirect", "inform_redirect"}  # all names have the data of the zone
 TRANSPARENT = {"transparent", "always_transparent", "typetransparent", "inform"}
 
 # Settings of the clause `server` with the value for the behaviour of this forwarder.
 SAME = dict(
-    each.split("=")
-    for each in """
+    each.split("=") for each in """
     do-ip4=yes do-ip6=no do-udp=yes do-tcp=yes prefer-ip6=no prefer-ip4=yes
     interface-automatic=no tls-upstream=no ssl-upstream=no serve-expired-reply-ttl=30
     serve-expired-ttl-reset=no insecure-lan-zones=yes do-not-query-localhost=no
     module-config=iterator use-caps-for-id=no log-queries=no log-replies=no prefetch=no
     deny-any=yes rrset-roundrobin=no num-threads=1
-    """.split()
-)
+    """.split())
 
 OF_THE_UNIT = {"username", "chroot", "directory", "pidfile", "use-systemd", "do-daemonize"}
 
@@ -106,6 +87,4 @@ DNSSEC: nothing is validated here
 -: it has no counterpart
   prefetch.* minimal-responses rrset-roundrobin deny-any unwanted-reply-threshold secret-seed
   ipsecmod-.* proxy-protocol-port cookie-.* answer-cookie tcp-upstream shm-.*
-""",
-    f"it is no setting of unbound that is known here: {keep('unbound')}",
-)
+""", f"it is no setting of unbound that is known here: {keep('unbound')}")

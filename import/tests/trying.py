@@ -43,6 +43,13 @@ def imported(program, folder, *words):
     return ran.stdout, ran.stderr, ran.returncode
 
 
+def of_text(program, name, text, *words):
+    """The same for a file of this name and text."""
+    with tempfile.TemporaryDirectory() as folder:
+        (pathlib.Path(folder) / name).write_text(text)
+        return imported(program, folder, *words, name)
+
+
 def accept(program, text):
     """Has the program check a configuration."""
     with tempfile.NamedTemporaryFile("w", suffix=".toml") as file:

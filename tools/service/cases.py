@@ -48,11 +48,7 @@ class Server(NameServer):
     """A name server, by default with an address for each name."""
 
     def __init__(self, by_udp=reply_to, over_tcp=None, **more):
-        super().__init__(by_udp, over_tcp or self.answer_frame, **more)
-
-    @staticmethod
-    def answer_frame(stream, query):
-        stream.sendall(framed(reply_to(query)))
+        super().__init__(by_udp, over_tcp or self.framing(reply_to), **more)
 
 
 class Forwarder(Service):
