@@ -47,8 +47,7 @@ class Files:
 
     @contextlib.contextmanager
     def lines(self, path, by=None):
-        """The lines of a file, while the file and included files are read. `by` is the including
-        line, if any."""
+        """The lines of a file, while it is read. `by` is the including line, if any."""
         real = os.path.realpath(path)
         if real in self.within:
             raise Refused("the file is being read already: it would include itself")

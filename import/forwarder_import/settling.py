@@ -148,8 +148,7 @@ def ordered(found):
 
 
 def many_of(routes, found, listen):
-    """The local zones of a line with many. The zone of the office's own private network becomes
-    the first."""
+    """The local zones of a line with many, that of the office's private network first."""
     many = []
     for line in dict.fromkeys(own.line for own in found.local):
         group = [route for route in routes if route.lines() == [line]]

@@ -9,7 +9,8 @@ import tomllib
 from forwarder_import import advice, advise, files
 from repository.packing import NS, name, record, reply
 from running.nameserver import NameServer
-from trying import HERE, NotTried, accept, expect, test
+from running.trying import NotHere
+from testing import HERE, accept, expect, test
 
 TABLE = tomllib.loads((HERE / "tests" / "advices.toml").read_text())
 BASE = TABLE["base"]
@@ -111,7 +112,7 @@ def the_administrators_first_configuration_gets_no_advice(_):
 def servers_are_asked_by_udp_and_tcp(_):
     """Each does something else."""
     if not importlib.util.find_spec("dns"):
-        raise NotTried("python3-dnspython missing")
+        raise NotHere("python3-dnspython missing")
     peers = [served(by_udp, by_tcp) for by_udp, by_tcp, _ in SERVERS]
     lines = [f"route `.`: {peer}: {said}" for peer, (_, _, said) in zip(peers, SERVERS)]
     head = BASE.partition("[[route]]")[0]

@@ -4,8 +4,8 @@ import subprocess
 
 from running import programs
 from running.foreign import NAMED, UNBOUND
+from running.trying import NotHere
 from running.waiting import until
-from trying import NotTried
 
 CONTROLLED = UNBOUND + """remote-control:
   control-enable: yes
@@ -17,7 +17,7 @@ PORT = 23053
 def started(folder, name, text, *words):
     """A program with this configuration."""
     if programs.missing(name):
-        raise NotTried(f"{name} missing")
+        raise NotHere(f"{name} missing")
     values = {"folder": folder, "address": "127.0.0.1", "port": PORT, "more": ""}
     (folder / "conf").write_text(text.format(**values))
     words = [programs.path(name), *words, "-c", folder / "conf"]

@@ -129,8 +129,7 @@ class Failed(Exception):
 
 @contextlib.contextmanager
 def running(program, folder):
-    """Runs the program with a folder of its own until the block ends; gives its process
-    identifier."""
+    """Runs the program with a folder of its own until the block ends; gives its number."""
     own = folder / f"run-{program.key}"
     shutil.rmtree(own, ignore_errors=True)
     own.mkdir()

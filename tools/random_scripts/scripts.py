@@ -6,7 +6,7 @@ import dataclasses
 import random as randomness
 
 from reading import script
-from reading.configuration import Refused, read_configuration
+from reading.configuration import read_configuration
 from reading.step import Forwarder
 
 from . import configurations

@@ -87,7 +87,7 @@ class Statement:
         return {name: keys for name, keys in found.items() if len(keys) > 1}
 
     def other_names(self, key):
-        """The names that the definition's file gives to others' words, each with the word itself."""
+        """The names that the definition's file gives to words of others, each with the word."""
         words = words_of(self.specs.bodies[key])
         for crate, path, names, short in imports(self.specs.texts[key[:2]]):
             for name, other in re.findall(r"(\S+) as (\w+)", names):

@@ -147,8 +147,9 @@ def head(statement):
 def foot(statement):
     """The types of the code, and the words of the library."""
     yield "## Types of the code"
-    yield wrapped("The definitions above name these types of the program. There a number is a "
-                  "natural number, octets are a list of numbers, and a name is the list of its labels.")
+    yield wrapped(
+        "The definitions above name these types of the program. There a number is a natural "
+        "number, octets are a list of numbers, and a name is the list of its labels.")
     for each in statement.types_of_code():
         at, shown = declaration(*each)
         yield f"### {at}\n\n```rust\n{shown}\n```"

@@ -18,10 +18,6 @@ class Failed(Exception):
     """A result is not the wanted result."""
 
 
-class NotTried(Exception):
-    """Something a test needs is missing."""
-
-
 def expect(met, wanted):
     if met != wanted:
         raise Failed(f"\n{met}\n  in place of\n{wanted}")
