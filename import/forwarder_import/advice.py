@@ -94,17 +94,15 @@ def no_name_reaches_it(configuration, _):
         if labels[-1].isdigit():
             octets = [each for each in labels if each != "0"] or ["0"]
             zone = zone_of(octets if is_private(octets) else octets[::-1])
-            yield (
-                f"{of(route)}: no name ends in the label {labels[-1]}: for addresses write `{zone}`"
-            )
+            fault = f"no name ends in the label {labels[-1]}"
+            yield f"{of(route)}: {fault}: for addresses write `{zone}`"
         elif labels[-2:] == ["in-addr", "arpa"] and (right := turned(labels[:-2])):
             yield f"{of(route)}: the octets of an address are turned round: write `{right}`"
         elif labels[-2:] == ["in-addr", "arpa"] and not is_address(labels[:-2]):
             yield f"{of(route)}: no address has these octets: write four of at most 255, or less"
         elif labels[-2:] == ["ip6", "arpa"] and not is_address_of_6(labels[:-2]):
-            yield (
-                f"{of(route)}: an address of IPv6 has 32 digits, each a label: write these, or less"
-            )
+            fault = "an address of IPv6 has 32 digits, each a label"
+            yield f"{of(route)}: {fault}: write these, or less"
 
 
 @advice

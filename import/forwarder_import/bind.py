@@ -1,14 +1,15 @@
 """Reads BIND's named.conf, with included files: see named.conf(5)."""
 import re
 
-from .bind_options import ALSO_EMPTY, KEPT, LISTS, OF_THE_UNIT, SAME, WITH_SERVERS, left_out
 from .bind_statements import statements_of
 from .files import Line, Refused
 from .found import LocalZone
 from .names import (
-    LOCAL_ZONES, OF_SHARED, ipv4_of, keep, key_of, peer_of, port_of, suffix_of)
+    LISTEN, LOCAL_ZONES, OF_SHARED, ipv4_of, keep, key_of, peer_of, port_of, suffix_of)
 from .rows import Row
+from .tables import options
 
+BIND = options("bind", "named")
 NOT_FROM_ROOT = "names are not resolved from the root if no server answers"
 
 
@@ -52,16 +53,16 @@ class Bind:
                 self.each(each, self.option)
         elif statement.words[0] == "zone":
             self.zone(statement)
-        elif statement.words[0] in LISTS and len(statement.words) > 1:
+        elif statement.words[0] in BIND.lists and len(statement.words) > 1:
             self.lists[statement.words[1]] = statement
             self.found.pass_over(statement.line,
                                  "its addresses are those of the zones that name it")
         elif statement.words[0] == "view":
-            self.found.refuse(statement.line, left_out("view"))
+            self.found.refuse(statement.line, BIND.left_out("view"))
             for each in statement.block:
                 self.each(each, self.of_view)
         else:
-            raise left_out(statement.words[0])
+            raise BIND.left_out(statement.words[0])
 
     def of_view(self, statement):
         """A statement of a view. Nobody is asked for its zones until the view has a service."""
@@ -93,12 +94,12 @@ class Bind:
         elif key == "empty-zones-enable" and words == ["no"]:
             self.has_empty_zones = False
             self.found.pass_over(statement.line, "so it is here")
-        elif key in OF_THE_UNIT:
+        elif key in BIND.of_the_unit:
             self.found.pass_over(statement.line, "the unit of systemd has its own")
-        elif SAME.get(key) == " ".join(words):
+        elif BIND.same.get(key) == " ".join(words):
             self.found.pass_over(statement.line, "so it is here")
         else:
-            raise left_out(key)
+            raise BIND.left_out(key)
 
     def forward(self, statement):
         """Whether names are resolved from the root if no forwarder answers."""
@@ -133,7 +134,7 @@ class Bind:
                 return
             raise Refused("", Row.IPV6)
         if after(statement.words, "tls") or after(statement.words, "http"):
-            raise left_out("tls")
+            raise BIND.left_out("tls")
         port = after(statement.words, "port")
         port = port_of(port) if port else None
         for each in statement.block:
@@ -167,13 +168,10 @@ class Bind:
             self.forwarded(suffix, statement)
         elif kind == "hint":
             raise Refused("write a route `.` to servers that resolve", Row.ITERATING)
-        elif kind in WITH_SERVERS and suffix != ".":
+        elif kind in BIND.with_servers and suffix != ".":
             self.copies.append((suffix, kind, statement))
-        elif kind in KEPT or kind in WITH_SERVERS:
-            refused = Refused(
-                f"the server has this zone itself: write a route to a server that has {suffix}",
-                Row.RECORDS)
-            self.found.route(suffix).lost.append((statement.line, refused))
+        elif kind in BIND.kept or kind in BIND.with_servers:
+            self.found.own_zone(suffix, statement.line)
         else:
             raise Refused(f"{kind} is no type of a zone that is known here: {keep('named')}")
 
@@ -188,7 +186,7 @@ class Bind:
                 elif each.words[0] == "forward":
                     self.forward(each)
                 elif each.words[0] != "type":
-                    raise left_out(each.words[0])
+                    raise BIND.left_out(each.words[0])
         self.forward_by_default(statement.block)
         if not route.servers and not route.lost:
             what = f"{suffix} has no forwarder, so it is resolved from the root"
@@ -200,9 +198,8 @@ class Bind:
             self.copied(*copy)
         self.stale_answers()
         if not self.found.addresses:
-            what = ("without `listen-on` named listens at all addresses: write this machine's in"
-                    " `listen`")
-            self.found.leave(self.first, what, Row.LISTENING)
+            what = "without `listen-on` named listens at all addresses"
+            self.found.leave(self.first, f"{what}: {LISTEN}", Row.LISTENING)
         self.forward_by_default(self.forwarding)
         if not any(each.words[0] == "forwarders" and each.block for each in self.forwarding):
             what = "names without a forwarder are resolved from the root: write a route `.`"
@@ -215,7 +212,7 @@ class Bind:
         route.named.append(statement.line)
         remark = "a referral is no answer" if "stub" in kind else f"of a {kind} zone"
         for each in statement.block:
-            if each.words[0] in (*LISTS, "server-addresses"):
+            if each.words[0] in (*BIND.lists, "server-addresses"):
                 for address, port, tls, line in self.addresses(each, set()):
                     self.found.serve(suffix, lambda: peer_of(address, port, tls), line, remark)
             elif each.words[0] == "server-names":
@@ -244,7 +241,7 @@ class Bind:
         is_only = any(each.words == ["forward", "only"] for each in self.forwarding)
         if not self.has_empty_zones or (is_set and is_only):
             return
-        for zone in [*LOCAL_ZONES, *ALSO_EMPTY]:
+        for zone in [*LOCAL_ZONES, *BIND.also_empty]:
             if zone not in self.not_empty:
                 remark = "named denies it by itself without `forward only`"
                 self.found.local.append(LocalZone(zone, self.first, "", remark))

@@ -13,8 +13,8 @@ TOKEN = re.compile(
     | (?P<word> [^\s{};"]+ )
     """, re.S | re.X)
 
-GOING_ON = {"inet", "unix", "response-policy", "deny-answer-addresses",
-            "deny-answer-aliases"}  # after a block
+# Statements that go on after a block.
+GOING_ON = {"inet", "unix", "response-policy", "deny-answer-addresses", "deny-answer-aliases"}
 
 
 @dataclass
@@ -59,8 +59,8 @@ class Parser:
     """Makes statements of tokens. Open blocks are on a stack, so depth needs no recursion."""
 
     def __init__(self):
-        self.top, self.open = (
-            [], [])  # of an open block: the statements around, and the statement before the brace
+        self.top = []
+        self.open = []  # of each block: the statements around, and the statement before the brace
         self.block, self.statement = self.top, None
 
     def take(self, mark, word, line):

@@ -16,7 +16,8 @@ OF_DPKG = (".dpkg-dist", ".dpkg-old", ".dpkg-new")  # endings ignored by Debian'
 
 def arguments(words):
     parser = argparse.ArgumentParser(
-        prog="forwarder-import", description=(
+        prog="forwarder-import",
+        description=(
             "Print a forwarder.toml that does what the configuration of another forwarder says:"
             " dnsmasq, unbound, BIND, systemd-resolved, or a resolv.conf. Each key has the line"
             " that it is from. Lines that have no counterpart follow as comments, with what to do,"

@@ -2,13 +2,15 @@
 import os
 import re
 
-from .dnsmasq_options import DHCP, NEEDLESS, RECORDS, left_out, names_of_record
 from .files import Line, Refused
 from .found import LocalZone
 from .kept_dnsmasq import OF_RECORDS, STAYS, KeptDnsmasq
-from .names import LOCAL_ZONES, cut, ipv4_of, key_of, peer_of, reverse_zones, suffix_of
+from .names import LISTEN, LOCAL_ZONES, cut, ipv4_of, key_of, peer_of, reverse_zones, suffix_of
 from .rows import Row
+from .tables import options
 
+DNSMASQ = options("dnsmasq", "dnsmasq")
+DHCP, RECORDS = (re.compile("|".join(each)) for each in (DNSMASQ.dhcp, DNSMASQ.records))
 WITHOUT_VALUE = {"no-resolv", "no-hosts", "bogus-priv", "use-stale-cache"}
 NULL = ("#", "0.0.0.0", "::")  # addresses of nobody
 
@@ -56,10 +58,10 @@ class Dnsmasq:
             self.kept.take(name, value, line)
         elif re.fullmatch(RECORDS, name):
             self.record(names_of_record(name, value), line, OF_RECORDS)
-        elif name in NEEDLESS:
-            self.found.pass_over(line, NEEDLESS[name])
+        elif name in DNSMASQ.needless:
+            self.found.pass_over(line, DNSMASQ.needless[name])
         elif name:
-            raise left_out(name)
+            raise DNSMASQ.left_out(name)
 
     def record(self, names, line, what):
         """A line of own records, for the kept dnsmasq, if any."""
@@ -69,17 +71,14 @@ class Dnsmasq:
     def end(self, kinds):
         """Notes what dnsmasq does without a line."""
         if self.serves and not self.found.addresses:
-            self.found.leave(
-                self.first, ("without `listen-address` dnsmasq listens at all addresses: write this"
-                             " machine's in `listen`"), Row.LISTENING)
+            what = "without `listen-address` dnsmasq listens at all addresses"
+            self.found.leave(self.first, f"{what}: {LISTEN}", Row.LISTENING)
         self.say_of_resolv_files(kinds["resolv"].paths if "resolv" in kinds else [])
         if self.serves and self.has_hosts:
-            what = "write a route to a name server that has its names"
+            to = "a name server that has its names"
             if self.kept.is_asked():
-                what = (
-                    f"write a route to {self.kept.peer} for those that are not below a domain of"
-                    " leases")
-            what = f"without `no-hosts` dnsmasq answers from /etc/hosts, too: {what}"
+                to = f"{self.kept.peer} for those that are not below a domain of leases"
+            what = f"without `no-hosts` dnsmasq answers from /etc/hosts, too: write a route to {to}"
             self.found.leave(self.first, what, Row.RECORDS)
         named = set(self.found.routes)
         for domain, line, call in self.wild:
@@ -106,17 +105,13 @@ class Dnsmasq:
 
     def why_not_read(self, path):
         """Why dnsmasq does not ask the servers of a resolv.conf; empty if asked."""
+        why = "dnsmasq does not ask this server"
         if self.no_resolv_line:
-            return ("dnsmasq does not ask this server: no-resolv at"
-                    f" {self.files.place(self.no_resolv_line)}")
-        if self.resolv_files and not any(
-                is_at(path, named) for named in self.resolv_files.values()):
-            line, named = next(iter(self.resolv_files.items()))
-            place = self.files.place(line)
-            return (
-                f"dnsmasq does not ask this server: resolv-file at {place}: give {named} instead of"
-                " this file")
-        return ""
+            return f"{why}: no-resolv at {self.files.place(self.no_resolv_line)}"
+        if not self.resolv_files or any(is_at(path, each) for each in self.resolv_files.values()):
+            return ""
+        line, named = next(iter(self.resolv_files.items()))
+        return f"{why}: resolv-file at {self.files.place(line)}: give {named} instead of this file"
 
     def say_of_resolv_files(self, given):
         """Says whose servers are missing. `given` are the paths of files like resolv.conf."""
@@ -126,14 +121,11 @@ class Dnsmasq:
             elif any(is_at(each, path) for each in given):
                 self.found.pass_over(line, "its servers are those that the file has now")
             else:
-                what = (f"its servers may change: give {path} as a file, too, to take those that it"
-                        " has now")
-                self.found.leave(line, what, Row.PROVIDED)
+                what = f"give {path} as a file, too, to take those that it has now"
+                self.found.leave(line, f"its servers may change: {what}", Row.PROVIDED)
         if self.serves and not self.no_resolv_line and not self.resolv_files and not given:
-            what = (
-                "without `no-resolv` dnsmasq asks the servers of /etc/resolv.conf, too: give that"
-                " file as well")
-            self.found.leave(self.first, what, Row.PROVIDED)
+            what = "without `no-resolv` dnsmasq asks the servers of /etc/resolv.conf, too"
+            self.found.leave(self.first, f"{what}: give that file as well", Row.PROVIDED)
 
     def server(self, value, line):
         """`server=/DOMAIN/ADDRESS#PORT@SOURCE`; each part may be missing."""
@@ -274,6 +266,18 @@ def files_in(folder, endings):
         if not is_hidden and is_chosen and not name.endswith(unwanted) and os.path.isfile(path):
             paths.append(path)
     return paths
+
+
+def names_of_record(name, value):
+    """The names of a line of own records, without a final dot."""
+    words = [word.strip().removesuffix(".") for word in value.split(",")]
+    if name in DNSMASQ.without_names:
+        return []
+    if name == "cname":
+        return [word for word in words if not word.isdigit()][:-1]
+    if name == "host-record":
+        return [word for word in words if not re.fullmatch(r"[0-9.]*|.*:.*", word)]
+    return words[:1]
 
 
 def option_of(text):

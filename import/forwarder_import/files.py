@@ -63,17 +63,14 @@ class Files:
         """The lines of a file, without their ends."""
         self.count += 1
         if self.count > MOST_FILES or len(self.within) > DEEPEST:
-            raise Unreadable(
-                f"{shown(path)}: is one of more than {MOST_FILES} files, or of {DEEPEST} in one"
-                " another")
+            most = f"{MOST_FILES} files, or of {DEEPEST} in one another"
+            raise Unreadable(f"{shown(path)}: is one of more than {most}")
         if path not in self.read:
             self.read.append(path)
             self.short = None
         text = octets_of(path).decode("utf-8-sig", "backslashreplace")
-        return [
-            Line(path, number, line.removesuffix("\r"))
-            for number, line in enumerate(text.split("\n"), 1)
-        ]
+        return [Line(path, number, line.removesuffix("\r"))
+                for number, line in enumerate(text.split("\n"), 1)]
 
     def place(self, line):
         """The file and number of a line, once all files are read."""

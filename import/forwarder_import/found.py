@@ -47,11 +47,9 @@ class Route:
     def lines(self):
         """The lines of the suffix, each once."""
         of_servers = (line for server in self.servers.values() for line in server.lines)
-        return list(
-            dict.fromkeys([
-                *self.denied, *self.named, *of_servers, *self.standard,
-                *(line for line, _ in self.lost)
-            ]))
+        lost = (line for line, _ in self.lost)
+        every = *self.denied, *self.named, *of_servers, *self.standard, *lost
+        return list(dict.fromkeys(every))
 
 
 @dataclass(frozen=True)
@@ -148,6 +146,12 @@ class Found:
         route = self.route(text)
         route.denied.append(line)
         route.remark = route.remark or remark
+
+    def own_zone(self, text, line):
+        """A zone with own data of the server. Nobody is asked until a route has its servers."""
+        route = self.route(text)
+        what = f"the server has this zone itself: write a route to a server that has {route.suffix}"
+        route.lost.append((line, Refused(what, Row.RECORDS)))
 
     def undo_denial(self, key, line):
         """Takes a denial back, since a later line of the suffix decides."""

@@ -18,6 +18,7 @@ OF_SHARED = "of 100.64.0.0/10 by itself: here they are asked, since they need 64
 
 PRIVATE_ZONES = LOCAL_ZONES[:18]  # of RFC 1918
 
+LISTEN = "write this machine's in `listen`"
 OVER_TLS = "write a route to a program on this machine that asks it over TLS"
 ENCRYPTED = f"NOT IN PLAIN: queries to it are encrypted there, and would not be here: {OVER_TLS}"
 PORT_OF_TLS = 853  # RFC 7858, section 3.1

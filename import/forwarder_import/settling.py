@@ -90,10 +90,8 @@ def lose(route, text, why):
 def local(found):
     """Denies local zones, unless their names are below a suffix with servers."""
     for own in found.local:
-        near = [
-            found.routes[key] for key in (own.zone, *keys_above(own.zone))
-            if key != "." and key in found.routes
-        ]
+        near = [found.routes[key] for key in (own.zone, *keys_above(own.zone))
+                if key != "." and key in found.routes]
         if not any(route.servers or route.lost for route in near):
             found.deny(own.zone, own.line, own.of_denial)
         for server in near[0].servers.values() if near else ():
@@ -131,12 +129,16 @@ def ordered(found):
     lines = {route.suffix: route.lines() for route in found.routes.values()}
     counts = collections.Counter(line for each in lines.values() for line in each)
 
-    def place(route):
-        return (route.suffix != ".", min(
-            (counts[line] for line in lines[route.suffix]), default=0) > MANY_ROUTES)
+    def is_of_many(route):
+        return min((counts[line] for line in lines[route.suffix]), default=0) > MANY_ROUTES
 
-    ranked = sorted(found.routes.values(), key=lambda route:
-                    (route.suffix != ".", rank(route), place(route)))
+    def place(route):
+        return route.suffix != ".", is_of_many(route)
+
+    def importance(route):
+        return route.suffix != ".", rank(route), is_of_many(route)
+
+    ranked = sorted(found.routes.values(), key=importance)
     leave_past({route.suffix: lines[route.suffix] for route in ranked[MOST_ROUTES:]}, counts, found)
     kept = {route.suffix for route in ranked[:MOST_ROUTES]}
     routes = sorted((route for route in found.routes.values() if route.suffix in kept), key=place)

@@ -7,9 +7,10 @@ from .files import Line, Refused
 from .names import (
     LOCAL_ZONES, OF_SHARED, cut, ipv4_of, keep, key_of, peer_of, port_of, suffix_of)
 from .rows import Row
+from .tables import options
 from .unbound_local import WITH_LAN, Local, LocalZones
-from .unbound_options import CLAUSES, DENYING, OF_THE_UNIT, REDIRECTING, SAME, TRANSPARENT, left_out
 
+UNBOUND = options("unbound", "unbound")
 TOKEN = re.compile(
     r"""\s*(?:"(?P<double>[^"]*)"|'(?P<single>[^']*)'|(?P<open>["'])|(?!\#)(?P<word>[^\s"']+))""")
 KEY = re.compile(r"([a-z][a-z0-9-]*):(.*)", re.S)
@@ -64,11 +65,11 @@ class Unbound:
     def take(self, token, is_quoted, line):
         """Takes a word: a key, or a value of the key before."""
         last = self.statements[-1] if self.statements else None
-        wants_value = last is not None and not last.values and last.key not in CLAUSES
+        wants_value = last is not None and not last.values and last.key not in UNBOUND.clauses
         key = None if is_quoted or wants_value else KEY.fullmatch(token)
         if key:
             self.statements.append(Statement(key[1], line, [key[2]] if key[2] else []))
-        elif last is None or last.key in CLAUSES:
+        elif last is None or last.key in UNBOUND.clauses:
             raise Refused(f"{token} has no key before it")
         else:
             last.values.append(token)
@@ -89,7 +90,7 @@ class Unbound:
         is_encrypted = any(each.key in TLS_OF_ALL and is_yes(each) for each in self.statements)
         clause, zone = None, []
         for statement in [*self.statements, Statement("server", self.first)]:
-            if statement.key not in CLAUSES:
+            if statement.key not in UNBOUND.clauses:
                 zone.append(statement)
                 continue
             self.clause(clause, zone, is_encrypted)
@@ -114,7 +115,7 @@ class Unbound:
                 if kind == "server":
                     self.setting(statement)
                 elif (kind, statement.key) == ("auth-zone", "name"):
-                    self.own_zone(statement)
+                    self.found.own_zone(statement.value(), statement.shown())
                 elif (kind, statement.key) == ("view", "local-zone"):
                     self.of_view(statement)
                 else:
@@ -135,27 +136,19 @@ class Unbound:
                 self.found.pass_over(self.stale[key].shown(), "a later line decides")
             self.stale[key] = statement
         elif key in ("local-data", "local-data-ptr"):
-            self.found.record(names_of_data(statement), line, left_out(key))
+            self.found.record(names_of_data(statement), line, UNBOUND.left_out(key))
         elif key == "unblock-lan-zones":
             self.found.pass_over(line, "the routes of private addresses say it")
-        elif key in OF_THE_UNIT:
+        elif key in UNBOUND.of_the_unit:
             self.found.pass_over(line, "the unit of systemd has its own")
-        elif SAME.get(key) == " ".join(statement.values).lower():
+        elif UNBOUND.same.get(key) == " ".join(statement.values).lower():
             self.found.pass_over(line, "so it is here")
         else:
-            raise left_out(key)
-
-    def own_zone(self, statement):
-        """A zone with own data of unbound. Nobody is asked until a route has its servers."""
-        route = self.found.route(statement.value())
-        refused = Refused(
-            f"the server has this zone itself: write a route to a server that has {route.suffix}",
-            Row.RECORDS)
-        route.lost.append((statement.shown(), refused))
+            raise UNBOUND.left_out(key)
 
     def of_view(self, statement):
         """A local zone of a view. Nobody is asked for its names until the view has a service."""
-        if len(statement.values) == 2 and statement.values[1] not in TRANSPARENT:
+        if len(statement.values) == 2 and statement.values[1] not in UNBOUND.transparent:
             route = self.found.route(statement.values[0])
             route.lost.append((statement.shown(), of_clause("view")))
         else:
@@ -171,14 +164,14 @@ class Unbound:
             self.nodefault.add(key_of(suffix_of(zone)))
             return
         suffix = suffix_of(zone)
-        denies = kind in DENYING or kind in REDIRECTING
-        self.local.add(key_of(suffix), Local(suffix, line, denies, kind in TRANSPARENT))
-        if kind in DENYING:
-            self.found.deny(zone, line, DENYING[kind])
-        elif kind in REDIRECTING:
+        denies = kind in UNBOUND.denying or kind in UNBOUND.redirecting
+        self.local.add(key_of(suffix), Local(suffix, line, denies, kind in UNBOUND.transparent))
+        if kind in UNBOUND.denying:
+            self.found.deny(zone, line, UNBOUND.denying[kind])
+        elif kind in UNBOUND.redirecting:
             what = "write a route to a name server that has its names"
             self.found.route(zone).lost.append((line, Refused(what, Row.RECORDS)))
-        elif kind not in TRANSPARENT:
+        elif kind not in UNBOUND.transparent:
             raise Refused(
                 "write a route that denies it, or one to a name server that has its names",
                 Row.RECORDS)
@@ -287,7 +280,7 @@ def of_clause(kind):
     """Why a statement of a clause is left out; `kind` is None before the first clause."""
     if kind is None:
         return Refused("it is of no clause: write it below the line of its clause")
-    row = CLAUSES[kind]
+    row = Row[UNBOUND.clauses[kind]] if UNBOUND.clauses[kind] else None
     return Refused(f"it is of the clause {kind}" + ("" if row else f": {keep('unbound')}"), row)
 
 

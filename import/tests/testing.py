@@ -4,6 +4,8 @@ import pathlib
 import subprocess
 import tempfile
 
+from running.forwarder import checked
+
 HERE = pathlib.Path(__file__).resolve().parent.parent
 NAME = "forwarder-import: "
 TESTS = []
@@ -48,8 +50,5 @@ def of_text(program, name, text, *words):
 
 def accept(program, text):
     """Has the program check a configuration."""
-    with tempfile.NamedTemporaryFile("w", suffix=".toml") as file:
-        file.write(text)
-        file.flush()
-        ran = subprocess.run([program, "check", file.name], capture_output=True, text=True)
-    expect((ran.stdout, ran.returncode), (f"ok {text.count('[[route]]')}\n", 0))
+    printed, _, status = checked(program, text)
+    expect((printed, status), (f"ok {text.count('[[route]]')}\n", 0))

@@ -11,7 +11,7 @@ from reading import cache, configuration, messages, replies, step
 from reading.step import Forwarder
 
 NOERROR, NXDOMAIN = 0, 3
-ALL = []  # each with its rule, and what it gives other values
+ALL = []  # each misread rule, with a call that returns patches
 
 
 def misreads(*places):

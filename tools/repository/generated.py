@@ -3,8 +3,7 @@ from repository.crates import TOP
 
 
 def kept(page, text, is_checked, command, faults=(), fine=None):
-    """Writes a page, or says that it is stale. Prints this and other faults, or the line `fine`;
-    returns the status."""
+    """Writes a page, or notes a stale page. Prints all faults, or `fine`; returns the status."""
     found = list(faults)
     if not is_checked:
         page.write_text(text, encoding="utf-8")

@@ -12,7 +12,7 @@ HEADLINE = "ServesTruly"
 
 
 class Statement:
-    """The headline, all that it reaches, their files in order, and which code or table share."""
+    """The headline, all reached definitions, the files in order, and the shared definitions."""
 
     def __init__(self, specs):
         self.specs = specs

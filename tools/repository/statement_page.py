@@ -159,7 +159,7 @@ def foot(statement):
 
 
 def unread(statement):
-    """The library's words that the page on reading lacks, and its lines that no file has."""
+    """The library's words without a place in the page on reading, and the page's invented lines."""
     page = (TOP / "docs" / READING).read_text(encoding="utf-8").replace("\\|", "|")
     text = " ".join(re.findall(r"`([^`\n]+)`", page))
     known = words_of(text) | set(text.split())

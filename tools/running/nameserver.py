@@ -43,7 +43,7 @@ class NameServer:
         return lambda stream, query: stream.sendall(framed(reply_to(query)))
 
     def stop(self, *sockets):
-        """Closes these sockets, or both. A shutdown wakes the thread that waits at one."""
+        """Closes these sockets, or both. A shutdown wakes a waiting thread."""
         for each in sockets or (self.udp, self.tcp):
             with contextlib.suppress(OSError):
                 each.shutdown(socket.SHUT_RDWR)

@@ -7,6 +7,7 @@ import subprocess
 import tempfile
 import tomllib
 
+from running.forwarder import checked
 from running.programs import MAIN, TOP
 
 from .cases import Forwarder, NotHere, Server, case, free_port, need, run_of, written
@@ -108,11 +109,10 @@ def what_is_said_where_the_system_refuses(program):
         expect(run_of(program, "serve", elsewhere.name, "1"), said)
 
 
-def checked(program, octets):
-    """The lines that `check` prints of a configuration, also on standard error, and its status."""
-    with written(octets) as file:
-        printed, errors, status = run_of(program, "check", file.name)
-        return (printed + errors).decode().splitlines(), status
+def lines_of(program, octets):
+    """The lines of `check` of a configuration, also on standard error, and the status."""
+    printed, errors, status = checked(program, octets)
+    return (printed + errors).splitlines(), status
 
 
 def with_line(text, line):
@@ -126,7 +126,7 @@ def with_line(text, line):
 
 def is_refused(program, line, said, number):
     """The smallest configuration with this line is refused by this text and number."""
-    met = checked(program, with_line(SMALLEST, line))
+    met = lines_of(program, with_line(SMALLEST, line))
     expect((line, met), (line, ([said, f"fault {number}"], 2)))
 
 
@@ -144,12 +144,12 @@ def what_the_page_for_administrators_shows(program):
     for indent, text, said in blocks:
         text = "".join(line[len(indent):] for line in text.splitlines(keepends=True))
         wanted = (said.splitlines(), 2) if said else ([f"ok {text.count('[[route]]')}"], 0)
-        expect(checked(program, text), wanted)
+        expect(lines_of(program, text), wanted)
     utf_16 = ["the text is no TOML: see line 1, column 1: invalid UTF-8", "fault 1"]
-    met = checked(program, SMALLEST.encode("utf-16"))
+    met = lines_of(program, SMALLEST.encode("utf-16"))
     expect((met, utf_16[0] in page), ((utf_16, 2), True))
     marked = b"\xef\xbb\xbf" + SMALLEST.replace("\n", "\r\n").encode()
-    expect(checked(program, marked), (["ok 1"], 0))
+    expect(lines_of(program, marked), (["ok 1"], 0))
     # Two lines of the table are its head.
     expect((len(rows), len(blocks)), (table.count("\n|") - 2, page.count("```toml\n")))
     if len(rows) + len(REFUSED["line"]) < LEAST_REFUSED:
@@ -170,7 +170,7 @@ def why_a_text_is_no_configuration(program):
     key that may be meant."""
     for each in REFUSED["text"]:
         wanted = [each["said"], f"fault {each['fault']}"], 2
-        expect((each["text"], checked(program, each["text"])), (each["text"], wanted))
+        expect((each["text"], lines_of(program, each["text"])), (each["text"], wanted))
 
 
 def are_not_there(program, name, run):

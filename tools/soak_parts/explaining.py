@@ -14,7 +14,7 @@ MOST_OPEN = 50
 
 
 def aside():
-    """The words that run a command on one processor, while that has nothing else to do."""
+    """The words that run a command on one processor, while idle."""
     last = str(max(os.sched_getaffinity(0)))
     return ["chrt", "--other", "0", "nice", "-n", "19", "taskset", "-c", last]
 
