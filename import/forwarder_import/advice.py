@@ -67,8 +67,9 @@ def tries_past_the_deadline(configuration, _):
 @advice
 def tries_past_the_patience_of_clients(configuration, _):
     """Answers after clients have given up."""
-    tries, ask, _ = times(configuration)
-    if tries * ask > PATIENCE_MS and any(route.servers for route in configuration.routes):
+    tries, ask, deadline = times(configuration)
+    is_late = min(tries * ask, deadline) > PATIENCE_MS
+    if is_late and any(route.servers for route in configuration.routes):
         fewer = min(tries, max(1, PATIENCE_MS // ask))
         better = (f"`tries = {fewer}`"
                   if ask <= PATIENCE_MS else f"`ask_ms = {PATIENCE_MS // tries}`")
