@@ -31,10 +31,8 @@ def the_own_address(configuration, _):
         for server in dict.fromkeys(route.servers):
             is_here = server[0] == address or (int(address) == 0 and server[0].is_loopback)
             if is_here and server[1] == port:
-                yield (
-                    f"{of(route)}: {shown_peer(server)} is this forwarder itself: write another"
-                    " server"
-                )
+                yield (f"{of(route)}: {shown_peer(server)} is this forwarder itself: write another"
+                       " server")
 
 
 @advice
@@ -43,10 +41,8 @@ def a_server_twice(configuration, _):
     for route in configuration.routes:
         for server in dict.fromkeys(route.servers):
             if route.servers.count(server) > 1:
-                yield (
-                    f"{of(route)}: {shown_peer(server)} is there twice: write another server, or"
-                    " none"
-                )
+                yield (f"{of(route)}: {shown_peer(server)} is there twice: write another server, or"
+                       " none")
 
 
 @advice
@@ -54,10 +50,8 @@ def a_deadline_before_one_try(configuration, _):
     """A question whose deadline comes before the first server had `ask_ms`."""
     ask, deadline = (configuration.limits[key] for key in ("ask_ms", "deadline_ms"))
     if deadline < ask:
-        yield (
-            f"`deadline_ms` ({deadline}) is below `ask_ms` ({ask}), so no server has its time: "
-            f"write `ask_ms = {max(100, deadline // 2)}`"
-        )
+        yield (f"`deadline_ms` ({deadline}) is below `ask_ms` ({ask}), so no server has its time: "
+               f"write `ask_ms = {max(100, deadline // 2)}`")
 
 
 @advice
@@ -65,26 +59,22 @@ def tries_past_the_deadline(configuration, _):
     """Tries beyond the deadline are never made."""
     tries, ask, deadline = times(configuration)
     if ask <= deadline < tries * ask:
-        yield (
-            f"`tries` times `ask_ms` ({tries * ask}) is above `deadline_ms` ({deadline}), so the"
-            " last tries are never made, and `stale_s` is never used: write `tries ="
-            f" {deadline // ask}`"
-        )
+        yield (f"`tries` times `ask_ms` ({tries * ask}) is above `deadline_ms` ({deadline}), so the"
+               " last tries are never made, and `stale_s` is never used: write `tries ="
+               f" {deadline // ask}`")
 
 
 @advice
 def tries_past_the_patience_of_clients(configuration, _):
     """Answers after clients have given up."""
-    tries, ask, _ = times(configuration)
-    if tries * ask > PATIENCE_MS and any(route.servers for route in configuration.routes):
+    tries, ask, deadline = times(configuration)
+    is_late = min(tries * ask, deadline) > PATIENCE_MS
+    if is_late and any(route.servers for route in configuration.routes):
         fewer = min(tries, max(1, PATIENCE_MS // ask))
-        better = (
-            f"`tries = {fewer}`" if ask <= PATIENCE_MS else f"`ask_ms = {PATIENCE_MS // tries}`"
-        )
-        yield (
-            f"`tries` times `ask_ms` ({tries * ask}) is above the {PATIENCE_MS} ms after which"
-            f" clients give up: write {better}"
-        )
+        better = (f"`tries = {fewer}`"
+                  if ask <= PATIENCE_MS else f"`ask_ms = {PATIENCE_MS // tries}`")
+        yield (f"`tries` times `ask_ms` ({tries * ask}) is above the {PATIENCE_MS} ms after which"
+               f" clients give up: write {better}")
 
 
 @advice
@@ -93,10 +83,8 @@ def a_cache_past_the_memory(configuration, unit):
     cache, memory = configuration.limits["cache"], unit.octets()
     most = SETS * memory // WITHIN if memory else cache
     if cache > most:
-        yield (
-            f"`cache` ({cache}) may need more than the unit's `MemoryMax={unit.memory}`, since a"
-            f" set may have 64 KiB: write `cache = {max(1, most)}`, or a larger `MemoryMax`"
-        )
+        yield (f"`cache` ({cache}) may need more than the unit's `MemoryMax={unit.memory}`, since a"
+               f" set may have 64 KiB: write `cache = {max(1, most)}`, or a larger `MemoryMax`")
 
 
 @advice
@@ -107,17 +95,15 @@ def no_name_reaches_it(configuration, _):
         if labels[-1].isdigit():
             octets = [each for each in labels if each != "0"] or ["0"]
             zone = zone_of(octets if is_private(octets) else octets[::-1])
-            yield (
-                f"{of(route)}: no name ends in the label {labels[-1]}: for addresses write `{zone}`"
-            )
+            fault = f"no name ends in the label {labels[-1]}"
+            yield f"{of(route)}: {fault}: for addresses write `{zone}`"
         elif labels[-2:] == ["in-addr", "arpa"] and (right := turned(labels[:-2])):
             yield f"{of(route)}: the octets of an address are turned round: write `{right}`"
         elif labels[-2:] == ["in-addr", "arpa"] and not is_address(labels[:-2]):
             yield f"{of(route)}: no address has these octets: write four of at most 255, or less"
         elif labels[-2:] == ["ip6", "arpa"] and not is_address_of_6(labels[:-2]):
-            yield (
-                f"{of(route)}: an address of IPv6 has 32 digits, each a label: write these, or less"
-            )
+            fault = "an address of IPv6 has 32 digits, each a label"
+            yield f"{of(route)}: {fault}: write these, or less"
 
 
 @advice
@@ -141,8 +127,7 @@ def only_this_machine_is_served(configuration, unit):
     if spoken:
         yield (
             f"`listen` at {address} serves this machine alone, but {spoken[-1]} is of a network: "
-            f"write this machine's address there, as `10.0.0.53:{port}`"
-        )
+            f"write this machine's address there, as `10.0.0.53:{port}`")
 
 
 NETWORK = re.compile(r"(?<![\w./-])(networks?|clients|offices?|LAN)(?![\w/-]|\.\w)", re.I)

@@ -12,26 +12,17 @@ FINE, ADVISED, UNREADABLE = 0, 1, 2
 
 def arguments(words):
     parser = argparse.ArgumentParser(
-        prog="forwarder-advise",
-        description=(
+        prog="forwarder-advise", description=(
             "Say what `forwarder check` accepts in a configuration but is unwise: a line each, "
-            "with what to write instead."
-        ),
+            "with what to write instead."),
         epilog=(
             "Status: 0 without advice, 1 with advice, 2 if the file is not accepted or can't be "
-            "read. See forwarder-advise(1)."
-        ),
-    )
+            "read. See forwarder-advise(1)."))
     parser.add_argument("file", metavar="FILE", help="a forwarder.toml")
-    parser.add_argument(
-        "--ask", action="store_true", help="try each server by UDP and TCP, and say what came"
-    )
-    parser.add_argument(
-        "--units",
-        metavar="FOLDER",
-        default=FOLDER,
-        help="where the drop-ins of the units are (default: %(default)s)",
-    )
+    parser.add_argument("--ask", action="store_true",
+                        help="try each server by UDP and TCP, and say what came")
+    parser.add_argument("--units", metavar="FOLDER", default=FOLDER,
+                        help="where the drop-ins of the units are (default: %(default)s)")
     return parser.parse_args(words)
 
 

@@ -1,23 +1,15 @@
 """Reads BIND's named.conf, with included files: see named.conf(5)."""
 import re
 
-from .bind_options import ALSO_EMPTY, KEPT, LISTS, OF_THE_UNIT, SAME, WITH_SERVERS, left_out
 from .bind_statements import statements_of
 from .files import Line, Refused
 from .found import LocalZone
 from .names import (
-    ENCRYPTED,
-    LOCAL_ZONES,
-    OF_SHARED,
-    ipv4_of,
-    keep,
-    key_of,
-    peer_of,
-    port_of,
-    suffix_of,
-)
+    LISTEN, LOCAL_ZONES, OF_SHARED, ipv4_of, keep, key_of, peer_of, port_of, suffix_of)
 from .rows import Row
+from .tables import options
 
+BIND = options("bind", "named")
 NOT_FROM_ROOT = "names are not resolved from the root if no server answers"
 
 
@@ -41,13 +33,11 @@ class Bind:
 
     def each(self, statement, call):
         """Has a statement carried, or the statements of an included file."""
-        try:
+        with self.found.refusing(statement.line):
             if statement.words[0] == "include":
                 self.include(statement, call)
             else:
                 call(statement)
-        except Refused as refused:
-            self.found.refuse(statement.line, refused)
 
     def include(self, statement, call):
         """Has the statements of included files carried."""
@@ -63,17 +53,16 @@ class Bind:
                 self.each(each, self.option)
         elif statement.words[0] == "zone":
             self.zone(statement)
-        elif statement.words[0] in LISTS and len(statement.words) > 1:
+        elif statement.words[0] in BIND.lists and len(statement.words) > 1:
             self.lists[statement.words[1]] = statement
-            self.found.pass_over(
-                statement.line, "its addresses are those of the zones that name it"
-            )
+            self.found.pass_over(statement.line,
+                                 "its addresses are those of the zones that name it")
         elif statement.words[0] == "view":
-            self.found.refuse(statement.line, left_out("view"))
+            self.found.refuse(statement.line, BIND.left_out("view"))
             for each in statement.block:
                 self.each(each, self.of_view)
         else:
-            raise left_out(statement.words[0])
+            raise BIND.left_out(statement.words[0])
 
     def of_view(self, statement):
         """A statement of a view. Nobody is asked for its zones until the view has a service."""
@@ -105,12 +94,12 @@ class Bind:
         elif key == "empty-zones-enable" and words == ["no"]:
             self.has_empty_zones = False
             self.found.pass_over(statement.line, "so it is here")
-        elif key in OF_THE_UNIT:
+        elif key in BIND.of_the_unit:
             self.found.pass_over(statement.line, "the unit of systemd has its own")
-        elif SAME.get(key) == " ".join(words):
+        elif BIND.same.get(key) == " ".join(words):
             self.found.pass_over(statement.line, "so it is here")
         else:
-            raise left_out(key)
+            raise BIND.left_out(key)
 
     def forward(self, statement):
         """Whether names are resolved from the root if no forwarder answers."""
@@ -125,9 +114,8 @@ class Bind:
             return
         for each in statements:
             if each.words[0] == "forwarders" and each.blocks and each.block:
-                self.found.leave(
-                    each.line, f"`forward first` is the default: {NOT_FROM_ROOT}", Row.ITERATING
-                )
+                self.found.leave(each.line, f"`forward first` is the default: {NOT_FROM_ROOT}",
+                                 Row.ITERATING)
 
     def forwarders(self, suffix, statement, block):
         """The servers of a suffix."""
@@ -135,13 +123,8 @@ class Bind:
         is_encrypted = after(statement.words, "tls")
         for each in block:
             address, port = each.words[0], after(each.words, "port") or port_of_all or "53"
-
-            def peer():
-                if is_encrypted or after(each.words, "tls"):
-                    raise Refused(ENCRYPTED)
-                return peer_of(address, port)
-
-            self.found.serve(suffix, peer, each.line)
+            tls = is_encrypted or after(each.words, "tls")
+            self.found.serve(suffix, lambda: peer_of(address, port, tls), each.line)
 
     def listen(self, statement):
         """Addresses of this machine; `any` for all of them."""
@@ -151,14 +134,12 @@ class Bind:
                 return
             raise Refused("", Row.IPV6)
         if after(statement.words, "tls") or after(statement.words, "http"):
-            raise left_out("tls")
+            raise BIND.left_out("tls")
         port = after(statement.words, "port")
         port = port_of(port) if port else None
         for each in statement.block:
-            try:
+            with self.found.refusing(each.line):
                 self.address(each, port)
-            except Refused as refused:
-                self.found.refuse(each.line, refused)
 
     def address(self, statement, port):
         """An element of `listen-on`."""
@@ -187,14 +168,10 @@ class Bind:
             self.forwarded(suffix, statement)
         elif kind == "hint":
             raise Refused("write a route `.` to servers that resolve", Row.ITERATING)
-        elif kind in WITH_SERVERS and suffix != ".":
+        elif kind in BIND.with_servers and suffix != ".":
             self.copies.append((suffix, kind, statement))
-        elif kind in KEPT or kind in WITH_SERVERS:
-            refused = Refused(
-                f"the server has this zone itself: write a route to a server that has {suffix}",
-                Row.RECORDS,
-            )
-            self.found.route(suffix).lost.append((statement.line, refused))
+        elif kind in BIND.kept or kind in BIND.with_servers:
+            self.found.own_zone(suffix, statement.line)
         else:
             raise Refused(f"{kind} is no type of a zone that is known here: {keep('named')}")
 
@@ -203,15 +180,13 @@ class Bind:
         route = self.found.route(suffix)
         route.named.append(statement.line)
         for each in statement.block:
-            try:
+            with self.found.refusing(each.line):
                 if each.words[0] == "forwarders":
                     self.forwarders(suffix, each, each.block)
                 elif each.words[0] == "forward":
                     self.forward(each)
                 elif each.words[0] != "type":
-                    raise left_out(each.words[0])
-            except Refused as refused:
-                self.found.refuse(each.line, refused)
+                    raise BIND.left_out(each.words[0])
         self.forward_by_default(statement.block)
         if not route.servers and not route.lost:
             what = f"{suffix} has no forwarder, so it is resolved from the root"
@@ -223,11 +198,8 @@ class Bind:
             self.copied(*copy)
         self.stale_answers()
         if not self.found.addresses:
-            what = (
-                "without `listen-on` named listens at all addresses: write this machine's in"
-                " `listen`"
-            )
-            self.found.leave(self.first, what, Row.LISTENING)
+            what = "without `listen-on` named listens at all addresses"
+            self.found.leave(self.first, f"{what}: {LISTEN}", Row.LISTENING)
         self.forward_by_default(self.forwarding)
         if not any(each.words[0] == "forwarders" and each.block for each in self.forwarding):
             what = "names without a forwarder are resolved from the root: write a route `.`"
@@ -240,15 +212,9 @@ class Bind:
         route.named.append(statement.line)
         remark = "a referral is no answer" if "stub" in kind else f"of a {kind} zone"
         for each in statement.block:
-            if each.words[0] in (*LISTS, "server-addresses"):
-                for address, port, is_encrypted, line in self.addresses(each, set()):
-
-                    def peer():
-                        if is_encrypted:
-                            raise Refused(ENCRYPTED)
-                        return peer_of(address, port)
-
-                    self.found.serve(suffix, peer, line, remark)
+            if each.words[0] in (*BIND.lists, "server-addresses"):
+                for address, port, tls, line in self.addresses(each, set()):
+                    self.found.serve(suffix, lambda: peer_of(address, port, tls), line, remark)
             elif each.words[0] == "server-names":
                 names = ", ".join(name.words[0] for name in each.block)
                 what = f"{names}: write the addresses of these names"
@@ -275,7 +241,7 @@ class Bind:
         is_only = any(each.words == ["forward", "only"] for each in self.forwarding)
         if not self.has_empty_zones or (is_set and is_only):
             return
-        for zone in [*LOCAL_ZONES, *ALSO_EMPTY]:
+        for zone in [*LOCAL_ZONES, *BIND.also_empty]:
             if zone not in self.not_empty:
                 remark = "named denies it by itself without `forward only`"
                 self.found.local.append(LocalZone(zone, self.first, "", remark))
@@ -284,20 +250,10 @@ class Bind:
     def stale_answers(self):
         """Carries how long an expired record set may be answered."""
         switch, window = self.stale.get("stale-answer-enable"), self.stale.get("max-stale-ttl")
-        if switch is None or switch.words[1:] not in (["yes"], ["true"], ["1"]):
-            for each in filter(None, (switch, window)):
-                self.found.pass_over(
-                    each.line, "without `stale-answer-enable yes` nothing expired is answered"
-                )
-            return
-        statement = window or switch
-        try:
-            text = str(seconds_of(window.value())) if window else "86400"
-            self.found.limit("stale_s", text, statement.line, "once all tries failed")
-        except Refused as refused:
-            self.found.refuse(statement.line, refused)
-        if window:
-            self.found.pass_over(switch.line, "`stale_s` above 0 says it")
+        is_on = bool(switch) and switch.words[1:] in (["yes"], ["true"], ["1"])
+        self.found.stale(switch and switch.line, is_on, window and window.line,
+                         lambda: str(seconds_of(window.value())) if window else "86400",
+                         "stale-answer-enable yes")
 
 
 def kind_of(zone):

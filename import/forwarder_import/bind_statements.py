@@ -11,18 +11,10 @@ TOKEN = re.compile(
     | (?P<open> /\* | " )
     | (?P<mark> [{};] )
     | (?P<word> [^\s{};"]+ )
-    """,
-    re.S | re.X,
-)
+    """, re.S | re.X)
 
-
-GOING_ON = {
-    "inet",
-    "unix",
-    "response-policy",
-    "deny-answer-addresses",
-    "deny-answer-aliases",
-}  # after a block
+# Statements that go on after a block.
+GOING_ON = {"inet", "unix", "response-policy", "deny-answer-addresses", "deny-answer-aliases"}
 
 
 @dataclass
@@ -67,10 +59,8 @@ class Parser:
     """Makes statements of tokens. Open blocks are on a stack, so depth needs no recursion."""
 
     def __init__(self):
-        self.top, self.open = (
-            [],
-            [],
-        )  # of an open block: the statements around, and the statement before the brace
+        self.top = []
+        self.open = []  # of each block: the statements around, and the statement before the brace
         self.block, self.statement = self.top, None
 
     def take(self, mark, word, line):
@@ -126,10 +116,7 @@ def statements_of(lines):
     todo = list(statements)
     while todo:
         each = todo.pop()
-        each.line = Line(
-            each.line.path,
-            each.line.number,
-            " ".join([*each.words, *["{ .. }"] * len(each.blocks)]),
-        )
+        each.line = Line(each.line.path, each.line.number,
+                         " ".join([*each.words, *["{ .. }"] * len(each.blocks)]))
         todo += [inner for block in each.blocks for inner in block]
     return statements

@@ -21,31 +21,18 @@ def arguments(words):
             "Print a forwarder.toml that does what the configuration of another forwarder says:"
             " dnsmasq, unbound, BIND, systemd-resolved, or a resolv.conf. Each key has the line"
             " that it is from. Lines that have no counterpart follow as comments, with what to do,"
-            " and are named on standard error."
-        ),
+            " and are named on standard error."),
         epilog=(
             "Status: 0 if all is carried, 1 if something is left out, 2 if something can't be read."
-            " See forwarder-import(1)."
-        ),
-    )
+            " See forwarder-import(1)."))
     parser.add_argument(
-        "files",
-        metavar="FILE",
-        nargs="+",
-        help=(
-            "a configuration; files that it includes are read, too. The folder dnsmasq.d is its"
-            " files"
-        ),
-    )
-    parser.add_argument(
-        "--of", choices=READERS, help="whose the files are (default: by name and text)"
-    )
-    parser.add_argument(
-        "--root",
-        metavar="FOLDER",
-        default="",
-        help="where absolute paths of includes are looked up (default: /)",
-    )
+        "files", metavar="FILE", nargs="+",
+        help=("a configuration; files that it includes are read, too. The folder dnsmasq.d is its"
+              " files"))
+    parser.add_argument("--of", choices=READERS,
+                        help="whose the files are (default: by name and text)")
+    parser.add_argument("--root", metavar="FOLDER", default="",
+                        help="where absolute paths of includes are looked up (default: /)")
     return parser.parse_args(words)
 
 

@@ -2,13 +2,15 @@
 import os
 import re
 
-from .dnsmasq_options import DHCP, NEEDLESS, RECORDS, left_out, names_of_record
 from .files import Line, Refused
 from .found import LocalZone
 from .kept_dnsmasq import OF_RECORDS, STAYS, KeptDnsmasq
-from .names import LOCAL_ZONES, cut, ipv4_of, key_of, peer_of, reverse_zones, suffix_of
+from .names import LISTEN, LOCAL_ZONES, cut, ipv4_of, key_of, peer_of, reverse_zones, suffix_of
 from .rows import Row
+from .tables import options
 
+DNSMASQ = options("dnsmasq", "dnsmasq")
+DHCP, RECORDS = (re.compile("|".join(each)) for each in (DNSMASQ.dhcp, DNSMASQ.records))
 WITHOUT_VALUE = {"no-resolv", "no-hosts", "bogus-priv", "use-stale-cache"}
 NULL = ("#", "0.0.0.0", "::")  # addresses of nobody
 
@@ -24,24 +26,13 @@ class Dnsmasq:
         self.kept = found.kept_dnsmasq = KeptDnsmasq(found)
         self.wild = []  # domains with a wildcard, their line, and a call with the suffix
         self.options = {
-            "server": self.server,
-            "local": self.server,
-            "address": self.address,
-            "rev-server": self.rev_server,
-            "domain": self.domain,
-            "listen-address": self.listen_address,
-            "port": self.port,
-            "cache-size": self.cache_size,
-            "dns-forward-max": self.forward_max,
-            "use-stale-cache": self.stale,
-            "no-resolv": self.no_resolv,
-            "no-hosts": self.no_hosts,
-            "resolv-file": self.resolv_file,
-            "bogus-priv": self.bogus_priv,
-            "conf-file": self.conf_file,
-            "servers-file": self.conf_file,
-            "conf-dir": self.conf_dir,
-        }
+            "server": self.server, "local": self.server, "address": self.address,
+            "rev-server": self.rev_server, "domain": self.domain, "port": self.port,
+            "listen-address": self.listen_address, "cache-size": self.cache_size,
+            "dns-forward-max": self.forward_max, "use-stale-cache": self.stale,
+            "no-resolv": self.no_resolv, "no-hosts": self.no_hosts, "conf-dir": self.conf_dir,
+            "resolv-file": self.resolv_file, "bogus-priv": self.bogus_priv,
+            "conf-file": self.conf_file, "servers-file": self.conf_file}
 
     def read(self, path, by=None):
         """Takes the lines of a file, included by the line `by`."""
@@ -51,10 +42,8 @@ class Dnsmasq:
         self.once.add(os.path.realpath(path))
         with self.files.lines(path, by) as lines:
             for line in lines:
-                try:
+                with self.found.refusing(line):
                     self.take(line)
-                except Refused as refused:
-                    self.found.refuse(line, refused)
 
     def take(self, line):
         """Takes a line."""
@@ -69,10 +58,10 @@ class Dnsmasq:
             self.kept.take(name, value, line)
         elif re.fullmatch(RECORDS, name):
             self.record(names_of_record(name, value), line, OF_RECORDS)
-        elif name in NEEDLESS:
-            self.found.pass_over(line, NEEDLESS[name])
+        elif name in DNSMASQ.needless:
+            self.found.pass_over(line, DNSMASQ.needless[name])
         elif name:
-            raise left_out(name)
+            raise DNSMASQ.left_out(name)
 
     def record(self, names, line, what):
         """A line of own records, for the kept dnsmasq, if any."""
@@ -82,23 +71,14 @@ class Dnsmasq:
     def end(self, kinds):
         """Notes what dnsmasq does without a line."""
         if self.serves and not self.found.addresses:
-            self.found.leave(
-                self.first,
-                (
-                    "without `listen-address` dnsmasq listens at all addresses: write this"
-                    " machine's in `listen`"
-                ),
-                Row.LISTENING,
-            )
+            what = "without `listen-address` dnsmasq listens at all addresses"
+            self.found.leave(self.first, f"{what}: {LISTEN}", Row.LISTENING)
         self.say_of_resolv_files(kinds["resolv"].paths if "resolv" in kinds else [])
         if self.serves and self.has_hosts:
-            what = "write a route to a name server that has its names"
+            to = "a name server that has its names"
             if self.kept.is_asked():
-                what = (
-                    f"write a route to {self.kept.peer} for those that are not below a domain of"
-                    " leases"
-                )
-            what = f"without `no-hosts` dnsmasq answers from /etc/hosts, too: {what}"
+                to = f"{self.kept.peer} for those that are not below a domain of leases"
+            what = f"without `no-hosts` dnsmasq answers from /etc/hosts, too: write a route to {to}"
             self.found.leave(self.first, what, Row.RECORDS)
         named = set(self.found.routes)
         for domain, line, call in self.wild:
@@ -125,21 +105,13 @@ class Dnsmasq:
 
     def why_not_read(self, path):
         """Why dnsmasq does not ask the servers of a resolv.conf; empty if asked."""
+        why = "dnsmasq does not ask this server"
         if self.no_resolv_line:
-            return (
-                "dnsmasq does not ask this server: no-resolv at"
-                f" {self.files.place(self.no_resolv_line)}"
-            )
-        if self.resolv_files and not any(
-            is_at(path, named) for named in self.resolv_files.values()
-        ):
-            line, named = next(iter(self.resolv_files.items()))
-            place = self.files.place(line)
-            return (
-                f"dnsmasq does not ask this server: resolv-file at {place}: give {named} instead of"
-                " this file"
-            )
-        return ""
+            return f"{why}: no-resolv at {self.files.place(self.no_resolv_line)}"
+        if not self.resolv_files or any(is_at(path, each) for each in self.resolv_files.values()):
+            return ""
+        line, named = next(iter(self.resolv_files.items()))
+        return f"{why}: resolv-file at {self.files.place(line)}: give {named} instead of this file"
 
     def say_of_resolv_files(self, given):
         """Says whose servers are missing. `given` are the paths of files like resolv.conf."""
@@ -149,26 +121,19 @@ class Dnsmasq:
             elif any(is_at(each, path) for each in given):
                 self.found.pass_over(line, "its servers are those that the file has now")
             else:
-                what = (
-                    f"its servers may change: give {path} as a file, too, to take those that it"
-                    " has now"
-                )
-                self.found.leave(line, what, Row.PROVIDED)
+                what = f"give {path} as a file, too, to take those that it has now"
+                self.found.leave(line, f"its servers may change: {what}", Row.PROVIDED)
         if self.serves and not self.no_resolv_line and not self.resolv_files and not given:
-            what = (
-                "without `no-resolv` dnsmasq asks the servers of /etc/resolv.conf, too: give that"
-                " file as well"
-            )
-            self.found.leave(self.first, what, Row.PROVIDED)
+            what = "without `no-resolv` dnsmasq asks the servers of /etc/resolv.conf, too"
+            self.found.leave(self.first, f"{what}: give that file as well", Row.PROVIDED)
 
     def server(self, value, line):
         """`server=/DOMAIN/ADDRESS#PORT@SOURCE`; each part may be missing."""
         domains, target = domains_of(value)
         server, *sources = target.split("@")
         for source in sources:
-            self.found.leave(
-                line, f"queries do not leave from {source}: let the routing table decide"
-            )
+            self.found.leave(line,
+                             f"queries do not leave from {source}: let the routing table decide")
         if not domains and not server:
             raise Refused("it names neither a domain nor a server")
         for domain in domains or ["#"]:
@@ -193,13 +158,11 @@ class Dnsmasq:
         try:
             if not suffix:
                 raise Refused(
-                    "names without a dot are asked like others: give clients a search domain"
-                )
+                    "names without a dot are asked like others: give clients a search domain")
             call(suffix)
         except Refused as refused:
-            self.found.leave(
-                line, f"{domain}: {refused.what}" if domain else refused.what, refused.row
-            )
+            self.found.leave(line, f"{domain}: {refused.what}" if domain else refused.what,
+                             refused.row)
 
     def address(self, value, line):
         """`address=/DOMAIN/ADDRESS`; without an address the domain does not exist."""
@@ -229,18 +192,15 @@ class Dnsmasq:
     def listen_address(self, value, line):
         """Addresses with commas between."""
         for text in value.split(","):
-            try:
+            with self.found.refusing(line):
                 self.found.listen(ipv4_of(text.strip()), None, line)
-            except Refused as refused:
-                self.found.refuse(line, refused)
 
     def port(self, value, line):
         """The port of all addresses; 0 is for DHCP alone."""
         if value == "0":
             self.serves = self.kept.serves = False
             raise Refused(
-                "with port 0 dnsmasq serves no DNS, so none of its settings of DNS has an effect"
-            )
+                "with port 0 dnsmasq serves no DNS, so none of its settings of DNS has an effect")
         self.found.set_port(value, line)
 
     def cache_size(self, value, line):
@@ -251,9 +211,8 @@ class Dnsmasq:
 
     def stale(self, value, line):
         """Seconds after the end of a record; 0 is for ever."""
-        self.found.limit(
-            "stale_s", "999999" if value == "0" else value or "86400", line, "once all tries failed"
-        )
+        self.found.limit("stale_s", "999999" if value == "0" else value or "86400", line,
+                         "once all tries failed")
 
     def no_resolv(self, _, line):
         self.no_resolv_line = line
@@ -300,16 +259,25 @@ def files_in(folder, endings):
     unwanted = tuple(ending for ending in endings if ending and not ending.startswith("*"))
     paths = []
     for name in sorted(os.listdir(folder)):
-        is_hidden = (
-            name.startswith(".")
-            or name.endswith("~")
-            or (name.startswith("#") and name.endswith("#"))
-        )
+        is_hidden = (name.startswith(".") or name.endswith("~") or
+                     (name.startswith("#") and name.endswith("#")))
         is_chosen = name.endswith(wanted) if wanted else True
         path = os.path.join(folder, name)
         if not is_hidden and is_chosen and not name.endswith(unwanted) and os.path.isfile(path):
             paths.append(path)
     return paths
+
+
+def names_of_record(name, value):
+    """The names of a line of own records, without a final dot."""
+    words = [word.strip().removesuffix(".") for word in value.split(",")]
+    if name in DNSMASQ.without_names:
+        return []
+    if name == "cname":
+        return [word for word in words if not word.isdigit()][:-1]
+    if name == "host-record":
+        return [word for word in words if not re.fullmatch(r"[0-9.]*|.*:.*", word)]
+    return words[:1]
 
 
 def option_of(text):
@@ -328,7 +296,7 @@ def bare(text):
             is_quoted = not is_quoted
         elif character == "\\" and is_quoted:
             said.append(next(characters, (0, ""))[1])
-        elif character == "#" and not is_quoted and not text[place - 1 : place].strip():
+        elif character == "#" and not is_quoted and not text[place - 1:place].strip():
             break
         else:
             said.append(character)

@@ -47,8 +47,7 @@ class Files:
 
     @contextlib.contextmanager
     def lines(self, path, by=None):
-        """The lines of a file, while the file and included files are read. `by` is the including
-        line, if any."""
+        """The lines of a file, while it is read. `by` is the including line, if any."""
         real = os.path.realpath(path)
         if real in self.within:
             raise Refused("the file is being read already: it would include itself")
@@ -64,18 +63,14 @@ class Files:
         """The lines of a file, without their ends."""
         self.count += 1
         if self.count > MOST_FILES or len(self.within) > DEEPEST:
-            raise Unreadable(
-                f"{shown(path)}: is one of more than {MOST_FILES} files, or of {DEEPEST} in one"
-                " another"
-            )
+            most = f"{MOST_FILES} files, or of {DEEPEST} in one another"
+            raise Unreadable(f"{shown(path)}: is one of more than {most}")
         if path not in self.read:
             self.read.append(path)
             self.short = None
         text = octets_of(path).decode("utf-8-sig", "backslashreplace")
-        return [
-            Line(path, number, line.removesuffix("\r"))
-            for number, line in enumerate(text.split("\n"), 1)
-        ]
+        return [Line(path, number, line.removesuffix("\r"))
+                for number, line in enumerate(text.split("\n"), 1)]
 
     def place(self, line):
         """The file and number of a line, once all files are read."""

@@ -1,4 +1,5 @@
 """Content of the files: carried or left."""
+import contextlib
 from dataclasses import dataclass, field
 from typing import NamedTuple
 
@@ -16,14 +17,9 @@ class Limit(NamedTuple):
 
 
 LIMITS = {  # in the order of the text
-    "questions": Limit(1, 4096, 1024),
-    "inquiries": Limit(1, 1024, 256),
-    "cache": Limit(1, 65536, 4096),
-    "tries": Limit(1, 16, 4),
-    "ask_ms": Limit(100, 10000, 1500),
-    "deadline_ms": Limit(500, 30000, 8000),
-    "stale_s": Limit(0, 86400, 0),
-}
+    "questions": Limit(1, 4096, 1024), "inquiries": Limit(1, 1024, 256),
+    "cache": Limit(1, 65536, 4096), "tries": Limit(1, 16, 4), "ask_ms": Limit(100, 10000, 1500),
+    "deadline_ms": Limit(500, 30000, 8000), "stale_s": Limit(0, 86400, 0)}
 
 
 @dataclass
@@ -51,17 +47,9 @@ class Route:
     def lines(self):
         """The lines of the suffix, each once."""
         of_servers = (line for server in self.servers.values() for line in server.lines)
-        return list(
-            dict.fromkeys(
-                [
-                    *self.denied,
-                    *self.named,
-                    *of_servers,
-                    *self.standard,
-                    *(line for line, _ in self.lost),
-                ]
-            )
-        )
+        lost = (line for line, _ in self.lost)
+        every = *self.denied, *self.named, *of_servers, *self.standard, *lost
+        return list(dict.fromkeys(every))
 
 
 @dataclass(frozen=True)
@@ -116,6 +104,14 @@ class Found:
         """Notes a line as not carried for a raised reason."""
         self.leave(line, refused.what, refused.row)
 
+    @contextlib.contextmanager
+    def refusing(self, line):
+        """Notes a line as not carried if the block refuses it."""
+        try:
+            yield
+        except Refused as refused:
+            self.refuse(line, refused)
+
     def record(self, names, line, refused):
         """Notes own records of names, and the advice on their line."""
         self.records.append((names, line, refused))
@@ -151,11 +147,18 @@ class Found:
         route.denied.append(line)
         route.remark = route.remark or remark
 
+    def own_zone(self, text, line):
+        """A zone with own data of the server. Nobody is asked until a route has its servers."""
+        route = self.route(text)
+        what = f"the server has this zone itself: write a route to a server that has {route.suffix}"
+        route.lost.append((line, Refused(what, Row.RECORDS)))
+
     def undo_denial(self, key, line):
         """Takes a denial back, since a later line of the suffix decides."""
         route = self.routes.get(key)
-        if route and line in route.denied:
-            route.denied.remove(line)
+        if route and line in route.lines():
+            route.denied = [each for each in route.denied if each != line]
+            route.lost = [each for each in route.lost if each[0] != line]
             route.remark = ""
             if not route.lines():
                 del self.routes[key]
@@ -171,6 +174,18 @@ class Found:
             self.leave(line, f"`{key}` is {least} to {most}: {value} is written")
         self.supersede(self.limits.get(key))
         self.limits[key] = Value(str(value), [line], remark)
+
+    def stale(self, switch, is_on, window, text, without):
+        """How long an expired record set may be answered, by the lines of a switch and of a window;
+        `text` returns the seconds."""
+        if not is_on:
+            for line in filter(None, (switch, window)):
+                self.pass_over(line, f"without `{without}` nothing expired is answered")
+            return
+        with self.refusing(window or switch):
+            self.limit("stale_s", text(), window or switch, "once all tries failed")
+        if window:
+            self.pass_over(switch, "`stale_s` above 0 says it")
 
     def set_port(self, text, line):
         """The port of all addresses without a port."""

@@ -16,6 +16,7 @@ MOST_LOCAL = 8  # domains without servers: more are a list of unwanted names
 # Options of the kept file besides DHCP and records.
 STAYS = {"listen-address", "interface", "except-interface", "no-dhcp-interface", "domain"}
 STAYS |= {"bind-interfaces", "bind-dynamic", "no-hosts"}
+WITHOUT_LEASES = {"proxy", "ra-only", "ra-stateless"}  # words of a range
 NAME_SERVER, NAME_SERVER_OF_6 = ("option:dns-server", "6"), ("option6:dns-server", "option6:23")
 OF_RECORDS = "write a route to a name server that has these names"
 
@@ -26,6 +27,7 @@ class KeptDnsmasq:
     def __init__(self, found):
         self.found = found
         self.file, self.dhcp = [], []  # lines of the kept file in order, and lines of DHCP
+        self.leases, self.starts = [], []  # lines of ranges, and their first addresses
         self.ranges, self.domains = [], []  # zones and domains of leases, with lines
         self.local = []  # domains without servers, with lines
         self.named = []  # name servers of leases, with lines
@@ -44,9 +46,11 @@ class KeptDnsmasq:
         self.file.append(line)
         self.dhcp.append(line)
         words = [word.strip() for word in value.split(",")]
-        if name == "dhcp-range" and "proxy" not in words:
-            addresses = [address for address in map(ipv4_or_none, words) if address]
-            self.ranges += [(zone_of_range(addresses), line)] if addresses else []
+        if name == "dhcp-range" and ("ra-names" in words or not WITHOUT_LEASES & {*words}):
+            self.leases.append(line)
+            addresses = [each for each in map(address_or_none, words) if each and int(each)]
+            self.starts += map(str, addresses[:1])
+            self.ranges += [(zone_of_range(*addresses), line)] if addresses else []
         if name in ("dhcp-option", "dhcp-option-force"):
             self.option(words, line)
 
@@ -72,12 +76,12 @@ class KeptDnsmasq:
 
     def is_asked(self):
         """Whether leases have names, and the old dnsmasq answered for them."""
-        return bool(self.ranges) and self.serves
+        return bool(self.leases) and self.serves
 
     def settle(self, listen):
         """Routes the zones of leases to the kept dnsmasq, with advice on each line."""
         option = f"`dhcp-option=option:dns-server,{address_of(listen)}`"
-        if not self.ranges:
+        if not self.leases:
             what = "keep a dnsmasq with `port=0` for it"
         elif not self.serves:
             what = f"keep this dnsmasq as it is, with {option}"
@@ -87,10 +91,8 @@ class KeptDnsmasq:
             for route in [self.route(zone, line) for zone, line in zones.items()]:
                 self.found.routes[route.suffix.lower()] = route
             self.found.kept = [*self.head(option), *asked, *self.rest()]
-            what = (
-                f"keep dnsmasq for it, at {self.peer} with {option}: its file is in the printed"
-                " text"
-            )
+            what = (f"keep dnsmasq for it, at {self.peer} with {option}: its file is in the printed"
+                    " text")
         for line in self.dhcp:
             self.found.leave(line, what, Row.DHCP)
         for address, line in self.named:
@@ -106,16 +108,14 @@ class KeptDnsmasq:
         and domains without servers, answered from own data."""
         zones = {}
         for domain, line in self.domains:
-            try:
+            with self.found.refusing(line):
                 if domain == "#":
                     raise Refused("write the domain of /etc/resolv.conf in place of #", Row.DHCP)
                 zones.setdefault(suffix_of(domain).lower(), line)
-            except Refused as refused:
-                self.found.refuse(line, refused)
         if not zones:
             what = "without `domain` leases have names of one label, which are asked like others: "
             what += f"write a domain into dnsmasq's file, and a route from it to {self.peer}"
-            self.found.leave(self.ranges[0][1], what, Row.DHCP)
+            self.found.leave(self.leases[0], what, Row.DHCP)
         local = self.local if len(self.local) <= MOST_LOCAL else []
         for zone, line in [*self.ranges, *local]:
             zones.setdefault(zone.lower(), line)
@@ -149,17 +149,19 @@ class KeptDnsmasq:
         return [shown(line.text, LONGEST_LINE) for line in self.file]
 
 
-def ipv4_or_none(text):
-    """An IPv4 address; none for another word."""
+def address_or_none(text):
+    """An address; none for another word."""
     try:
-        return ipaddress.IPv4Address(text)
+        return ipaddress.ip_address(text)
     except ValueError:
         return None
 
 
-def zone_of_range(addresses):
-    """The smallest zone of whole octets with the range, or with the network of the mask."""
-    start, *rest = addresses
+def zone_of_range(start, *rest):
+    """The smallest zone of whole octets with the range, or with the network of the mask; of IPv6
+    the zone of the link's 64 bits."""
+    if start.version == 6:
+        return reverse_zones(f"{start}/64")[0]
     masks = [each for each in rest if str(each).startswith("255.")]
     if masks:
         length = ipaddress.ip_network(f"{start}/{masks[0]}", strict=False).prefixlen

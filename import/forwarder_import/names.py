@@ -7,28 +7,18 @@ from .rows import Row
 
 # The zones of RFC 6303, section 4: names of private, local and documentation addresses.
 LOCAL_ZONES = (
-    "10.in-addr.arpa",
-    *(f"{octet}.172.in-addr.arpa" for octet in range(16, 32)),
-    "168.192.in-addr.arpa",
-    "0.in-addr.arpa",
-    "127.in-addr.arpa",
-    "254.169.in-addr.arpa",
-    "2.0.192.in-addr.arpa",
-    "100.51.198.in-addr.arpa",
-    "113.0.203.in-addr.arpa",
-    "255.255.255.255.in-addr.arpa",
-    "0." * 32 + "ip6.arpa",
-    "1." + "0." * 31 + "ip6.arpa",
-    "d.f.ip6.arpa",
-    *(f"{digit}.e.f.ip6.arpa" for digit in "89ab"),
-    "8.b.d.0.1.0.0.2.ip6.arpa",
-)
+    "10.in-addr.arpa", *(f"{octet}.172.in-addr.arpa" for octet in range(16, 32)),
+    "168.192.in-addr.arpa", "0.in-addr.arpa", "127.in-addr.arpa", "254.169.in-addr.arpa",
+    "2.0.192.in-addr.arpa", "100.51.198.in-addr.arpa", "113.0.203.in-addr.arpa",
+    "255.255.255.255.in-addr.arpa", "0." * 32 + "ip6.arpa", "1." + "0." * 31 + "ip6.arpa",
+    "d.f.ip6.arpa", *(f"{digit}.e.f.ip6.arpa" for digit in "89ab"), "8.b.d.0.1.0.0.2.ip6.arpa")
 
 # RFC 6598: addresses with 64 zones, as many as a configuration has routes.
 OF_SHARED = "of 100.64.0.0/10 by itself: here they are asked, since they need 64 routes"
 
 PRIVATE_ZONES = LOCAL_ZONES[:18]  # of RFC 1918
 
+LISTEN = "write this machine's in `listen`"
 OVER_TLS = "write a route to a program on this machine that asks it over TLS"
 ENCRYPTED = f"NOT IN PLAIN: queries to it are encrypted there, and would not be here: {OVER_TLS}"
 PORT_OF_TLS = 853  # RFC 7858, section 3.1
@@ -37,8 +27,7 @@ PORT_OF_TLS = 853  # RFC 7858, section 3.1
 def keep(program):
     """The advice on a line of a program without a counterpart."""
     return (
-        f"if you need the line, keep {program} at another address, and write a route to {program}"
-    )
+        f"if you need the line, keep {program} at another address, and write a route to {program}")
 
 
 def port_of(text):
@@ -57,9 +46,8 @@ def ipv4_of(text, row=Row.LISTENING):
             raise Refused(f"{text or 'nothing'} is no address") from None
         raise Refused(f"{text} is no address: write the IPv4 address that it has", row) from None
     if address.version == 6:
-        raise Refused(
-            f"{text} is an address of IPv6: write an IPv4 address of the same machine", Row.IPV6
-        )
+        raise Refused(f"{text} is an address of IPv6: write an IPv4 address of the same machine",
+                      Row.IPV6)
     return str(address)
 
 
@@ -69,16 +57,17 @@ def cut(text, mark):
     return address, port if found else "53"
 
 
-def peer_of(address, port="53"):
+def peer_of(address, port="53", is_encrypted=False):
     """A server, as `ADDRESS:PORT`."""
+    if is_encrypted:
+        raise Refused(ENCRYPTED)
     peer = f"{ipv4_of(address, Row.NAMED)}:{port_of(port)}"
     met = ipaddress.ip_address(address)
     if met.is_unspecified or met.is_multicast or address == "255.255.255.255":
         raise Refused(f"{address} is the address of no server")
     if int(port) == PORT_OF_TLS:
         raise Refused(
-            f"NOT IN PLAIN: port {PORT_OF_TLS} is for encrypted queries alone: {OVER_TLS}"
-        )
+            f"NOT IN PLAIN: port {PORT_OF_TLS} is for encrypted queries alone: {OVER_TLS}")
     return peer
 
 
@@ -105,8 +94,7 @@ def bad_character(character, label):
     """The advice on a character no suffix has."""
     if character == "*":
         return (
-            "a suffix is for whole labels, with all names below it: write it without the asterisk"
-        )
+            "a suffix is for whole labels, with all names below it: write it without the asterisk")
     if not character.isascii():
         return f"the label {label} is not ASCII: write the suffix in its form that begins with xn--"
     return f"a suffix can't have the character '{character}'"
@@ -132,8 +120,7 @@ def reverse_zones(text):
         raise Refused(f"{text or 'nothing'} is no network") from None
     if network.prefixlen == 0:
         raise Refused(
-            "write the suffix in-addr.arpa or ip6.arpa: a network of all addresses has no zone"
-        )
+            "write the suffix in-addr.arpa or ip6.arpa: a network of all addresses has no zone")
     bits = 8 if network.version == 4 else 4
     aligned = -(-network.prefixlen // bits) * bits
     return [zone_of(each, aligned // bits) for each in network.subnets(new_prefix=aligned)]
@@ -142,4 +129,4 @@ def reverse_zones(text):
 def zone_of(network, count):
     """The zone of a network, with `count` labels."""
     labels = network.network_address.reverse_pointer.split(".")
-    return ".".join(labels[-2 - count :])
+    return ".".join(labels[-2 - count:])

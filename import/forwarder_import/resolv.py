@@ -22,10 +22,8 @@ class Resolv:
         self.paths.append(path)
         with self.files.lines(path) as lines:
             for line in lines:
-                try:
+                with self.found.refusing(line):
                     self.take(line)
-                except Refused as refused:
-                    self.found.refuse(line, refused)
 
     def take(self, line):
         """Takes a line."""
@@ -58,18 +56,15 @@ class Resolv:
 
     def server(self, address, line):
         """A server for all names."""
-        remark = (
-            "a program on this machine: name its own servers" if address.startswith("127.") else ""
-        )
+        remark = ("a program on this machine: name its own servers"
+                  if address.startswith("127.") else "")
         self.found.serve(".", lambda: usable(address), line, remark)
 
 
 def usable(address):
     """The peer of an address, unless systemd-resolved on this machine listens there."""
     if address in STUBS:
-        what = (
-            f"{address} is the stub of systemd-resolved: give /run/systemd/resolve/resolv.conf"
-            " instead of this file"
-        )
+        what = (f"{address} is the stub of systemd-resolved: give /run/systemd/resolve/resolv.conf"
+                " instead of this file")
         raise Refused(what, Row.PROVIDED)
     return peer_of(address)

@@ -7,37 +7,24 @@ from .files import Line, Refused
 from .names import ENCRYPTED, cut, ipv4_of, keep, peer_of, port_of
 from .rows import Row
 
-FOLDERS = (
-    "/usr/lib/systemd",
-    "/usr/local/lib/systemd",
-    "/run/systemd",
-    "/etc/systemd",
-)  # the last decides
+# The last decides.
+FOLDERS = ("/usr/lib/systemd", "/usr/local/lib/systemd", "/run/systemd", "/etc/systemd")
 TRUE, FALSE = ("1", "yes", "y", "true", "t", "on"), ("0", "no", "n", "false", "f", "off")
 OF_CLIENTS = {"LLMNR", "MulticastDNS", "ResolveUnicastSingleLabel"}
 LISTS = {"DNS", "FallbackDNS", "Domains", "DNSStubListenerExtra"}
-SAME = {  # a setting, whether on, whether off
-    ("Cache", True, False),
-    ("CacheFromLocalhost", True, False),
-    ("DNSSEC", False, True),
-    ("DNSOverTLS", False, True),
-    ("ReadEtcHosts", False, True),
-    ("DNSStubListener", False, True),
-}
+# Settings with the value for the behaviour of this forwarder, and advice on further values.
+SAME = {"Cache": TRUE, "CacheFromLocalhost": TRUE, "DNSSEC": FALSE, "DNSOverTLS": FALSE,
+        "ReadEtcHosts": FALSE, "DNSStubListener": FALSE}
 LEFT_OUT = {
     "Cache": ("denials are cached like record sets, and 1 is the least", Row.CACHE),
     "CacheFromLocalhost": ("what comes from this machine is cached, too", Row.CACHE),
     "DNSSEC": ("ask servers that validate", Row.DNSSEC),
     "DNSOverTLS": ("queries are never encrypted: see the lines of the servers", None),
-    "ReadEtcHosts": ("write a route to a name server that has these names", Row.RECORDS),
-}
-UNITS = {  # seconds, by the words of a unit
-    **dict.fromkeys(("", "s", "sec", "second", "seconds"), 1),
-    **dict.fromkeys(("m", "min", "minute", "minutes"), 60),
-    **dict.fromkeys(("h", "hr", "hour", "hours"), 3600),
-    **dict.fromkeys(("d", "day", "days"), 86400),
-    **dict.fromkeys(("w", "week", "weeks"), 604800),
-}
+    "ReadEtcHosts": ("write a route to a name server that has these names", Row.RECORDS)}
+UNITS = {unit: seconds  # by the words of a unit
+         for seconds, units in ((1, "s sec second seconds"), (60, "m min minute minutes"),
+                                (3600, "h hr hour hours"), (86400, "d day days"),
+                                (604800, "w week weeks")) for unit in units.split()}
 
 
 class Resolved:
@@ -58,14 +45,13 @@ class Resolved:
 
     def drop_ins(self, path):
         """The drop-ins of a file: in the folder next to the file, or the system's folders."""
-        beside = os.path.abspath(path)[len(self.files.root) :]
-        folders = FOLDERS if os.path.dirname(beside) in FOLDERS else (os.path.dirname(path),)
+        beside = os.path.abspath(path)[len(self.files.root):]
+        folders = FOLDERS if os.path.dirname(beside) in FOLDERS else (os.path.dirname(path), )
         root = self.files.root if folders is FOLDERS else ""
         found = {}
         for folder in folders:
-            for each in glob.glob(
-                os.path.join(glob.escape(root + folder), "resolved.conf.d/*.conf")
-            ):
+            for each in glob.glob(os.path.join(glob.escape(root + folder),
+                                               "resolved.conf.d/*.conf")):
                 found[os.path.basename(each)] = each
         return [found[name] for name in sorted(found)]
 
@@ -80,10 +66,8 @@ class Resolved:
                 if text[0] == "[":
                     section = text
                     continue
-                try:
+                with self.found.refusing(line):
                     self.take(section, text, line)
-                except Refused as refused:
-                    self.found.refuse(line, refused)
 
     def take(self, section, text, line):
         """Takes a setting."""
@@ -113,18 +97,16 @@ class Resolved:
         if self.lists["DNS"]:
             for line in dict.fromkeys(line for _, line in self.lists["FallbackDNS"]):
                 self.found.pass_over(line, "with `DNS=` it has no effect")
-        is_encrypted = self.single.get("DNSOverTLS", ("no",))[0].lower() in TRUE
+        is_encrypted = self.single.get("DNSOverTLS", ("no", ))[0].lower() in TRUE
         if not servers:
             what = (
                 "without `DNS=` the servers are those of /etc/resolv.conf and of each link: write"
-                " them into a route"
-            )
+                " them into a route")
             self.found.leave(self.first, what, Row.PROVIDED)
         if "ReadEtcHosts" not in self.single:
             what = (
                 "systemd-resolved answers from /etc/hosts, too: write a route to a name server that"
-                " has its names"
-            )
+                " has its names")
             self.found.leave(self.first, what, Row.RECORDS)
         suffixes = self.suffixes()
         for word, line in servers:
@@ -133,27 +115,23 @@ class Resolved:
                 self.found.leave(line, f"{word} has no suffix for which it can be asked")
         self.listen()
         for key, (value, line) in self.single.items():
-            try:
+            with self.found.refusing(line):
                 self.setting(key, value.lower(), line)
-            except Refused as refused:
-                self.found.refuse(line, refused)
 
     def server(self, word, line, suffixes, is_encrypted):
         """A server for each suffix."""
         address, port, link, name = parts_of(word)
         if link:
             self.found.leave(
-                line, f"queries do not leave by the link {link}: let the routing table decide"
-            )
+                line, f"queries do not leave by the link {link}: let the routing table decide")
 
         def peer():
             if is_encrypted:
                 raise Refused(f"{word}: {ENCRYPTED}")
             met = peer_of(address, port)
             if name:
-                self.found.pass_over(
-                    line, f"{name} is a name for TLS, and queries are sent in plain"
-                )
+                self.found.pass_over(line,
+                                     f"{name} is a name for TLS, and queries are sent in plain")
             return met
 
         for suffix in suffixes:
@@ -173,10 +151,8 @@ class Resolved:
                 self.found.leave(line, f"{word[1:]}: {refused.what}")
         routed = [(word, line) for word, line in self.lists["Domains"] if word.startswith("~")]
         if routed and "." not in suffixes:
-            what = (
-                "all other names are asked of the servers of each link: write these into a"
-                " route `.`"
-            )
+            what = ("all other names are asked of the servers of each link: write these into a"
+                    " route `.`")
             self.found.leave(routed[0][1], what, Row.PROVIDED)
         return suffixes if routed else ["."]
 
@@ -187,11 +163,9 @@ class Resolved:
             if word[3:4] != ":" or transport not in ("udp", "tcp"):
                 transport, rest = "", word
             address, port, _, _ = parts_of(rest)
-            try:
+            with self.found.refusing(line):
                 remark = "here by UDP and TCP" if transport else ""
                 self.found.listen(ipv4_of(address), port_of(port), line, remark)
-            except Refused as refused:
-                self.found.refuse(line, refused)
 
     def setting(self, key, value, line):
         """A setting with a single value."""
@@ -199,20 +173,18 @@ class Resolved:
             self.found.limit("stale_s", str(seconds_of(value)), line, "once all tries failed")
         elif key in OF_CLIENTS:
             self.found.pass_over(line, "it is of this machine as a client: it stays there")
-        elif (key, value in TRUE, value in FALSE) in SAME:
+        elif value in SAME.get(key, ()):
             self.found.pass_over(line, "so it is here")
         elif key == "DNSStubListener" and value not in FALSE:
-            self.found.pass_over(
-                line, "its stub has 127.0.0.53, so `listen` may have another address"
-            )
+            self.found.pass_over(line,
+                                 "its stub has 127.0.0.53, so `listen` may have another address")
         elif (key, value) == ("DNSOverTLS", "opportunistic"):
             raise Refused("queries are sent in plain, also to servers that take encrypted ones")
         elif key in LEFT_OUT:
             raise Refused(*LEFT_OUT[key])
         else:
             raise Refused(
-                f"it is no setting of resolved.conf that is known here: {keep('systemd-resolved')}"
-            )
+                f"it is no setting of resolved.conf that is known here: {keep('systemd-resolved')}")
 
 
 def joined(lines):
@@ -247,10 +219,8 @@ def parts_of(word):
 def seconds_of(text):
     """A time span, as 600, 10min or 1d 6h."""
     pieces = re.findall(r"([0-9]+)\s*([a-z]*)\s*", text)
-    if not pieces or "".join(f"{number}{unit}" for number, unit in pieces) != re.sub(
-        r"\s", "", text
-    ):
+    if not pieces or "".join(map("".join, pieces)) != re.sub(r"\s", "", text):
         raise Refused(f"{text or 'nothing'} is no time")
-    if any(unit not in UNITS for _, unit in pieces):
+    if any((unit or "s") not in UNITS for _, unit in pieces):
         raise Refused(f"{text} has a unit that is not known here: write it in seconds")
-    return sum(int(number[:9]) * UNITS[unit] for number, unit in pieces)
+    return sum(int(number[:9]) * UNITS[unit or "s"] for number, unit in pieces)

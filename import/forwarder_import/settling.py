@@ -39,18 +39,17 @@ def listen_of(found):
     """The first address within reach of machines, otherwise the first; others are left."""
     port = found.port or Value("53", [])
     if not found.addresses:
-        return Value(
-            f"{HERE}:{port.text}", port.lines, "" if port.lines else "no line has an address"
-        )
-    chosen = next(
-        (each for each in found.addresses if not each[0].startswith("127.")), found.addresses[0]
-    )
+        return Value(f"{HERE}:{port.text}", port.lines,
+                     "" if port.lines else "no line has an address")
+    chosen = next((each for each in found.addresses if not each[0].startswith("127.")),
+                  found.addresses[0])
     address, own, line, remark = chosen
     for each in found.addresses:
-        if each is not chosen:
-            found.leave(
-                each[2], "a second address: give it a service and a file of its own", Row.LISTENING
-            )
+        if each is not chosen and each[:2] == chosen[:2]:
+            found.pass_over(each[2], "`listen` has the address")
+        elif each is not chosen:
+            found.leave(each[2], "a second address: give it a service and a file of its own",
+                        Row.LISTENING)
     for other in port.lines if own else ():
         found.pass_over(other, "the address has a port of its own")
     if address == ALL:
@@ -91,11 +90,8 @@ def lose(route, text, why):
 def local(found):
     """Denies local zones, unless their names are below a suffix with servers."""
     for own in found.local:
-        near = [
-            found.routes[key]
-            for key in (own.zone, *keys_above(own.zone))
-            if key != "." and key in found.routes
-        ]
+        near = [found.routes[key] for key in (own.zone, *keys_above(own.zone))
+                if key != "." and key in found.routes]
         if not any(route.servers or route.lost for route in near):
             found.deny(own.zone, own.line, own.of_denial)
         for server in near[0].servers.values() if near else ():
@@ -133,15 +129,16 @@ def ordered(found):
     lines = {route.suffix: route.lines() for route in found.routes.values()}
     counts = collections.Counter(line for each in lines.values() for line in each)
 
-    def place(route):
-        return (
-            route.suffix != ".",
-            min((counts[line] for line in lines[route.suffix]), default=0) > MANY_ROUTES,
-        )
+    def is_of_many(route):
+        return min((counts[line] for line in lines[route.suffix]), default=0) > MANY_ROUTES
 
-    ranked = sorted(
-        found.routes.values(), key=lambda route: (route.suffix != ".", rank(route), place(route))
-    )
+    def place(route):
+        return route.suffix != ".", is_of_many(route)
+
+    def importance(route):
+        return route.suffix != ".", rank(route), is_of_many(route)
+
+    ranked = sorted(found.routes.values(), key=importance)
     leave_past({route.suffix: lines[route.suffix] for route in ranked[MOST_ROUTES:]}, counts, found)
     kept = {route.suffix for route in ranked[:MOST_ROUTES]}
     routes = sorted((route for route in found.routes.values() if route.suffix in kept), key=place)
@@ -153,14 +150,15 @@ def ordered(found):
 
 
 def many_of(routes, found, listen):
-    """The local zones of a line with many. The zone of the office's own private network becomes
-    the first."""
+    """The local zones of a line with many, that of the office's private network first."""
     many = []
     for line in dict.fromkeys(own.line for own in found.local):
         group = [route for route in routes if route.lines() == [line]]
         if len(group) <= MANY_ROUTES:
             continue
-        zone, network = private_zone([listen.text, *(each for r in routes for each in r.servers)])
+        starts = found.kept_dnsmasq.starts if found.kept_dnsmasq else []
+        servers = (each for route in routes for each in route.servers)
+        zone, network = private_zone([*starts, listen.text, *servers])
         own = next((route for route in group if route.suffix == zone), None)
         if own:
             routes.remove(own)
@@ -211,8 +209,6 @@ def leave_past(suffixes, counts, found):
         for line in lines:
             all_alike = "the suffix" if counts[line] == 1 else "each suffix"
             which = all_alike if past[line] == counts[line] else suffix
-            what = (
-                f"{which} is past the {MOST_ROUTES} routes of a configuration: join some at a"
-                " shorter suffix"
-            )
+            what = (f"{which} is past the {MOST_ROUTES} routes of a configuration: join some at a"
+                    " shorter suffix")
             found.leave(line, what)

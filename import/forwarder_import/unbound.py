@@ -5,24 +5,14 @@ from dataclasses import dataclass, field
 
 from .files import Line, Refused
 from .names import (
-    ENCRYPTED,
-    LOCAL_ZONES,
-    OF_SHARED,
-    cut,
-    ipv4_of,
-    keep,
-    key_of,
-    peer_of,
-    port_of,
-    suffix_of,
-)
+    LOCAL_ZONES, OF_SHARED, cut, ipv4_of, keep, key_of, peer_of, port_of, suffix_of)
 from .rows import Row
+from .tables import options
 from .unbound_local import WITH_LAN, Local, LocalZones
-from .unbound_options import CLAUSES, DENYING, OF_THE_UNIT, SAME, TRANSPARENT, left_out
 
+UNBOUND = options("unbound", "unbound")
 TOKEN = re.compile(
-    r"""\s*(?:"(?P<double>[^"]*)"|'(?P<single>[^']*)'|(?P<open>["'])|(?!\#)(?P<word>[^\s"']+))"""
-)
+    r"""\s*(?:"(?P<double>[^"]*)"|'(?P<single>[^']*)'|(?P<open>["'])|(?!\#)(?P<word>[^\s"']+))""")
 KEY = re.compile(r"([a-z][a-z0-9-]*):(.*)", re.S)
 TLS = {"forward-tls-upstream", "forward-ssl-upstream", "stub-tls-upstream", "stub-ssl-upstream"}
 TLS_OF_ALL = {"tls-upstream", "ssl-upstream"}
@@ -68,27 +58,23 @@ class Unbound:
         """Gathers the statements of a file and of included files, in order."""
         with self.files.lines(path, by) as lines:
             for line in lines:
-                try:
+                with self.found.refusing(line):
                     for token, is_quoted in tokens_of(line.text):
                         self.take(token, is_quoted, line)
-                except Refused as refused:
-                    self.found.refuse(line, refused)
 
     def take(self, token, is_quoted, line):
         """Takes a word: a key, or a value of the key before."""
         last = self.statements[-1] if self.statements else None
-        wants_value = last is not None and not last.values and last.key not in CLAUSES
+        wants_value = last is not None and not last.values and last.key not in UNBOUND.clauses
         key = None if is_quoted or wants_value else KEY.fullmatch(token)
         if key:
             self.statements.append(Statement(key[1], line, [key[2]] if key[2] else []))
-        elif last is None or last.key in CLAUSES:
+        elif last is None or last.key in UNBOUND.clauses:
             raise Refused(f"{token} has no key before it")
         else:
             last.values.append(token)
-        if (
-            self.statements[-1].key in ("include", "include-toplevel")
-            and self.statements[-1].values
-        ):
+        if (self.statements[-1].key in ("include", "include-toplevel") and
+                self.statements[-1].values):
             self.include(self.statements.pop())
 
     def include(self, statement):
@@ -96,17 +82,15 @@ class Unbound:
         if statement.key == "include-toplevel":
             self.statements.append(Statement("server", statement.line))
         for path in self.files.paths(statement.value(), statement.line):
-            try:
+            with self.found.refusing(statement.shown()):
                 self.gather(path, statement.line)
-            except Refused as refused:
-                self.found.refuse(statement.shown(), refused)
 
     def end(self, _):
         """Carries all statements, clause by clause."""
         is_encrypted = any(each.key in TLS_OF_ALL and is_yes(each) for each in self.statements)
         clause, zone = None, []
         for statement in [*self.statements, Statement("server", self.first)]:
-            if statement.key not in CLAUSES:
+            if statement.key not in UNBOUND.clauses:
                 zone.append(statement)
                 continue
             self.clause(clause, zone, is_encrypted)
@@ -127,15 +111,15 @@ class Unbound:
                     self.found.refuse(each.shown(), refused)
             return
         for statement in statements:
-            try:
+            with self.found.refusing(statement.shown()):
                 if kind == "server":
                     self.setting(statement)
                 elif (kind, statement.key) == ("auth-zone", "name"):
-                    self.own_zone(statement)
+                    self.found.own_zone(statement.value(), statement.shown())
+                elif (kind, statement.key) == ("view", "local-zone"):
+                    self.of_view(statement)
                 else:
                     raise of_clause(kind)
-            except Refused as refused:
-                self.found.refuse(statement.shown(), refused)
 
     def setting(self, statement):
         """Carries a statement of the clause `server`."""
@@ -152,24 +136,23 @@ class Unbound:
                 self.found.pass_over(self.stale[key].shown(), "a later line decides")
             self.stale[key] = statement
         elif key in ("local-data", "local-data-ptr"):
-            self.found.record(names_of_data(statement), line, left_out(key))
+            self.found.record(names_of_data(statement), line, UNBOUND.left_out(key))
         elif key == "unblock-lan-zones":
             self.found.pass_over(line, "the routes of private addresses say it")
-        elif key in OF_THE_UNIT:
+        elif key in UNBOUND.of_the_unit:
             self.found.pass_over(line, "the unit of systemd has its own")
-        elif SAME.get(key) == " ".join(statement.values).lower():
+        elif UNBOUND.same.get(key) == " ".join(statement.values).lower():
             self.found.pass_over(line, "so it is here")
         else:
-            raise left_out(key)
+            raise UNBOUND.left_out(key)
 
-    def own_zone(self, statement):
-        """A zone with own data of unbound. Nobody is asked until a route has its servers."""
-        route = self.found.route(statement.value())
-        refused = Refused(
-            f"the server has this zone itself: write a route to a server that has {route.suffix}",
-            Row.RECORDS,
-        )
-        route.lost.append((statement.shown(), refused))
+    def of_view(self, statement):
+        """A local zone of a view. Nobody is asked for its names until the view has a service."""
+        if len(statement.values) == 2 and statement.values[1] not in UNBOUND.transparent:
+            route = self.found.route(statement.values[0])
+            route.lost.append((statement.shown(), of_clause("view")))
+        else:
+            raise of_clause("view")
 
     def local_zone(self, statement, line):
         """A zone nobody is asked about, or an exception."""
@@ -181,34 +164,28 @@ class Unbound:
             self.nodefault.add(key_of(suffix_of(zone)))
             return
         suffix = suffix_of(zone)
-        self.local.add(key_of(suffix), Local(suffix, line, kind in DENYING, kind in TRANSPARENT))
-        if kind in DENYING:
-            self.found.deny(zone, line, DENYING[kind])
-        elif kind not in TRANSPARENT:
+        denies = kind in UNBOUND.denying or kind in UNBOUND.redirecting
+        self.local.add(key_of(suffix), Local(suffix, line, denies, kind in UNBOUND.transparent))
+        if kind in UNBOUND.denying:
+            self.found.deny(zone, line, UNBOUND.denying[kind])
+        elif kind in UNBOUND.redirecting:
+            what = "write a route to a name server that has its names"
+            self.found.route(zone).lost.append((line, Refused(what, Row.RECORDS)))
+        elif kind not in UNBOUND.transparent:
             raise Refused(
                 "write a route that denies it, or one to a name server that has its names",
-                Row.RECORDS,
-            )
+                Row.RECORDS)
 
     def stale_answers(self):
-        """Carries how long an expired record set may be answered."""
+        """Carries how long an expired record set may be answered: 0 is for ever."""
         switch, window = self.stale.get("serve-expired"), self.stale.get("serve-expired-ttl")
-        if switch is None or not is_yes(switch):
-            for each in filter(None, (switch, window)):
-                self.found.pass_over(
-                    each.shown(), "without `serve-expired: yes` nothing expired is answered"
-                )
-            return
-        line = (window or switch).shown()
-        try:
-            text = window.value() if window else "0"
-            self.found.limit(
-                "stale_s", "999999" if text == "0" else text, line, "once all tries failed"
-            )
-        except Refused as refused:
-            self.found.refuse(line, refused)
-        if window:
-            self.found.pass_over(switch.shown(), "`stale_s` above 0 says it")
+
+        def text():
+            seconds = window.value() if window else "0"
+            return "999999" if seconds == "0" else seconds
+
+        self.found.stale(switch and switch.shown(), bool(switch) and is_yes(switch),
+                         window and window.shown(), text, "serve-expired: yes")
 
     def without_a_line(self):
         """Notes what unbound does without a line."""
@@ -221,8 +198,7 @@ class Unbound:
         of_lan = [each for each in self.statements if each.key == "unblock-lan-zones"]
         is_open = bool(of_lan) and is_yes(of_lan[-1])
         self.local.add_defaults(
-            self.first, self.nodefault | (set(LOCAL_ZONES) - WITH_LAN if is_open else set())
-        )
+            self.first, self.nodefault | (set(LOCAL_ZONES) - WITH_LAN if is_open else set()))
         if not is_open:
             self.found.leave(self.first, f"unbound denies names {OF_SHARED}", Row.SPECIAL)
 
@@ -244,19 +220,15 @@ class Zone:
         if key_of(suffix.rstrip(".") or ".") in self.reader.zones:
             raise Refused(
                 f"the zone {suffix} is there already, and only the first counts: write all servers"
-                " into it"
-            )
+                " into it")
         route = self.found.route(suffix)
         route.named.append(names[0].shown())
         self.reader.zones.add(key_of(route.suffix))
-        is_encrypted = is_encrypted or any(
-            each.key in TLS and is_yes(each) for each in self.statements
-        )
+        is_encrypted = is_encrypted or any(each.key in TLS and is_yes(each)
+                                           for each in self.statements)
         for statement in self.statements:
-            try:
+            with self.found.refusing(statement.shown()):
                 self.take(statement, route, is_encrypted)
-            except Refused as refused:
-                self.found.refuse(statement.shown(), refused)
         if not route.servers and not route.lost:
             route.lost.append((self.clause.shown(), Refused(f"the zone {suffix} has no server")))
 
@@ -267,11 +239,10 @@ class Zone:
             remark = "a referral is no answer" if self.kind == "stub" else ""
 
             def peer():
-                met = server_of(statement, is_encrypted)
+                met = peer_of(*cut(statement.value().partition("#")[0], "@"), is_encrypted)
                 if "#" in statement.value():
-                    self.found.pass_over(
-                        line, "what follows # is a name for TLS, which is off there"
-                    )
+                    self.found.pass_over(line,
+                                         "what follows # is a name for TLS, which is off there")
                 return met
 
             self.found.serve(route.suffix, peer, line, remark)
@@ -283,26 +254,15 @@ class Zone:
             raise Refused(*ZONE_SETTINGS[part])
         elif statement.key != "name":
             raise Refused(
-                f"it is no setting of a {self.clause.key} that is known here: {keep('unbound')}"
-            )
+                f"it is no setting of a {self.clause.key} that is known here: {keep('unbound')}")
 
 
 ZONE_SETTINGS = {
-    "tls-upstream": ("", None),
-    "ssl-upstream": ("", None),
+    "tls-upstream": ("", None), "ssl-upstream": ("", None),
     "first": ("it is not resolved from the root if its servers fail", Row.ITERATING),
     "prime": ("its servers are those that are written", Row.ITERATING),
     "no-cache": ("its answers are cached, too", Row.TTL),
-    "tcp-upstream": ("servers are asked by UDP first: let UDP through", None),
-}
-
-
-def server_of(statement, is_encrypted):
-    """The peer of `ADDRESS@PORT#NAME`."""
-    text, _, _ = statement.value().partition("#")
-    if is_encrypted:
-        raise Refused(ENCRYPTED)
-    return peer_of(*cut(text, "@"))
+    "tcp-upstream": ("servers are asked by UDP first: let UDP through", None)}
 
 
 def names_of_data(statement):
@@ -320,7 +280,7 @@ def of_clause(kind):
     """Why a statement of a clause is left out; `kind` is None before the first clause."""
     if kind is None:
         return Refused("it is of no clause: write it below the line of its clause")
-    row = CLAUSES[kind]
+    row = Row[UNBOUND.clauses[kind]] if UNBOUND.clauses[kind] else None
     return Refused(f"it is of the clause {kind}" + ("" if row else f": {keep('unbound')}"), row)
 
 

@@ -6,7 +6,6 @@ from .found import LocalZone, Value
 from .names import LOCAL_ZONES, keys_above
 from .rows import Row
 
-
 BY_ITSELF = "unbound denies it by itself"
 SPECIAL = ("localhost", "invalid", "test", "onion", "home.arpa")  # RFC 6761, 7686, 8375
 WITH_LAN = {"127.in-addr.arpa", "1." + "0." * 31 + "ip6.arpa"}  # of the addresses, also unblocked
@@ -57,8 +56,7 @@ class LocalZones:
                 self.found.deny(key, local.line)
                 because = (
                     f", since unbound's local zone {local.suffix} at {place(local.line)} decides"
-                    " first"
-                )
+                    " first")
                 self.found.routes[key].because = because
 
     def nearest(self, key):
@@ -73,9 +71,8 @@ class LocalZones:
             self.found.pass_over(local.line, "its names are asked like others")
             return
         route = self.found.route(local.suffix)
-        source = next(
-            (self.found.routes[each] for each in keys_above(key) if each in self.zones), None
-        )
+        source = next((self.found.routes[each] for each in keys_above(key) if each in self.zones),
+                      None)
         for text, server in source.servers.items() if source else ():
             route.servers[text] = Value("", [local.line], server.remark)
         if not route.servers:

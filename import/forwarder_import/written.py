@@ -42,48 +42,35 @@ class Writer:
         """The whole text."""
         lines = [f"# Made by forwarder-import from {', '.join(map(shown, self.paths))}."]
         lines.append("# Read it, mend it, and have it checked: forwarder check FILE.")
-        version = (
-            2 if "stale_s" in self.found.limits or any(not route.servers for route in routes) else 1
-        )
+        denies = any(not route.servers for route in routes)
+        version = 2 if "stale_s" in self.found.limits or denies else 1
         lines += [f"version = {version}", "", f'listen = "{listen.text}"{self.origin(listen)}']
         limits = [key for key in LIMITS if key in self.found.limits]
         if limits:
             lines += ["", "[limits]"]
-            lines += [
-                f"{key} = {self.found.limits[key].text}{self.origin(self.found.limits[key])}"
-                for key in limits
-            ]
+            values = ((key, self.found.limits[key]) for key in limits)
+            lines += [f"{key} = {value.text}{self.origin(value)}" for key, value in values]
         for route in routes:
             many = next((each for each in self.found.many if each.suffix == route.suffix), None)
             lines += ["", *(self.many(many) if many else ()), *self.route(route)]
         lines += self.kept()
         text = "\n".join(lines) + "\n"
         self.advice = advised(configuration_of(text, "the text"), Unit())
-        return text + "".join(
-            within(LARGEST - len(text.encode()), [*self.left(), *self.needless(), *self.advised()])
-        )
+        comments = [*self.left(), *self.needless(), *self.advised()]
+        return text + "".join(within(LARGEST - len(text.encode()), comments))
 
     def route(self, route):
         """The lines of a route."""
         if self.found.placeholder:
-            yield (
-                "# No line names a server that can be asked, and there has to be a route. Names"
-                " below `invalid`"
-            )
+            yield ("# No line names a server that can be asked, and there has to be a route. Names"
+                   " below `invalid`")
             yield "# do not exist (RFC 6761); all others are refused until a route has servers."
         yield "[[route]]"
         yield f'suffix = "{route.suffix}"' + self.origin(Value("", route.lines()[:1]))
         if not route.servers:
             yield "deny = true" + self.origin(Value("", route.denied, route.remark))
-        elif (
-            len(
-                {
-                    (*map(self.place, server.lines), server.remark)
-                    for server in route.servers.values()
-                }
-            )
-            == 1
-        ):
+        elif len({(*map(self.place, server.lines), server.remark)
+                  for server in route.servers.values()}) == 1:
             said = ", ".join(f'"{text}"' for text in route.servers)
             yield f"servers = [{said}]{self.origin(next(iter(route.servers.values())))}"
         else:
@@ -94,26 +81,20 @@ class Writer:
 
     def many(self, many):
         """A comment on many routes of a line."""
-        yield (
-            f"# {many.count} of at most {MOST_ROUTES} routes are of {self.place(many.line)}, from"
-            " here on:"
-        )
+        place = self.place(many.line)
+        yield f"# {many.count} of at most {MOST_ROUTES} routes are of {place}, from here on:"
         yield "# names of private addresses and the like, asked of nobody."
         if many.network:
-            yield (
-                f"# If the office has addresses of {many.network} alone, the next route is"
-                " enough for"
-            )
+            alone = f"addresses of {many.network} alone"
+            yield f"# If the office has {alone}, the next route is enough for"
             yield "# addresses: drop the further ones."
 
     def kept(self):
         """The file of the kept dnsmasq."""
         if not self.found.kept:
             return
-        yield from (
-            "",
-            "# dnsmasq is kept for DHCP. This is all of its configuration, taken out by",
-        )
+        head = "# dnsmasq is kept for DHCP. This is all of its configuration, taken out by"
+        yield from ("", head)
         yield "#     sed -n 's/^#: //p' forwarder.toml"
         yield from (f"#: {line}" for line in self.found.kept)
 
@@ -146,18 +127,17 @@ class Writer:
 
     def sorted(self, lefts):
         """The left lines, in the order of files and lines."""
-        return sorted(
-            dict.fromkeys(lefts), key=lambda left: (self.order[left.line.path], left.line.number)
-        )
+        def place(left):
+            return self.order[left.line.path], left.line.number
+
+        return sorted(dict.fromkeys(lefts), key=place)
 
     def named(self, lefts):
         """Place and text of each line, or of each range by first and last line."""
         for run in runs(dict.fromkeys(left.line for left in lefts)):
             first, last = run[0], run[-1]
-            text = shown(first.text)
-            yield self.place(first, last), (
-                f"{text} to {shown(last.text)}" if first != last else text
-            )
+            until = f" to {shown(last.text)}" if first != last else ""
+            yield self.place(first, last), shown(first.text) + until
 
     def notes(self):
         """A line for each left line or range, and advice, for standard error."""

@@ -2,15 +2,14 @@
 
 Two network namespaces are an office: the machine of the forwarder and of the kept dnsmasq, and a
 client. udhcpc gets an address; names are asked at the name server of the lease."""
-import contextlib
 import os
 import pathlib
-import shutil
 import subprocess
 import tempfile
-import time
 
-TURNS = str(2**64 - 1)  # the service takes as many, for ever
+from running import programs
+from running.waiting import until
+
 NEEDED = ("ip", "sed", "dnsmasq", "udhcpc", "dig")
 SCRIPT = """#!/bin/sh
 if [ "$1" = bound ]; then
@@ -22,8 +21,7 @@ fi
 
 def missing():
     """The missing things for a lease; empty if none is missing."""
-    names = [name for name in NEEDED if not shutil.which(name)]
-    return ", ".join([*(["root"] if os.geteuid() else []), *names])
+    return ", ".join([*(["root"] if os.geteuid() else []), *programs.missing(*NEEDED)])
 
 
 class Office:
@@ -35,22 +33,18 @@ class Office:
 
     def __enter__(self):
         for name in (self.server, self.client):
-            self.ip("netns", "add", name)
+            programs.output("ip", "netns", "add", name)
         link = ("link", "add", "eth0", "netns", self.server, "type", "veth")
-        self.ip(*link, "peer", "name", "eth0", "netns", self.client)
+        programs.output("ip", *link, "peer", "name", "eth0", "netns", self.client)
         for name in (self.server, self.client):
-            self.run(name, "ip", "link", "set", "lo", "up")
-            self.run(name, "ip", "link", "set", "eth0", "up")
+            for each in ("lo", "eth0"):
+                self.run(name, "ip", "link", "set", each, "up")
         self.run(self.server, "ip", "address", "add", "10.0.0.53/24", "dev", "eth0")
         return self
 
     def __exit__(self, *_):
         for name in (self.server, self.client):
-            self.ip("netns", "del", name)
-
-    def ip(self, *words):
-        """Runs `ip`."""
-        subprocess.run(["ip", *words], check=True)
+            programs.output("ip", "netns", "del", name)
 
     def run(self, name, *words, wanted=(0,)):
         """Runs a command in a namespace. Returns standard output."""
@@ -60,16 +54,10 @@ class Office:
             raise AssertionError(f"{' '.join(words)}: {ran.stdout}{ran.stderr}")
         return ran.stdout
 
-    @contextlib.contextmanager
     def served(self, *words):
         """A server in the namespace of servers, until the end of the block."""
-        log = open(self.folder / "log", "a")
         command = ["ip", "netns", "exec", self.server, *words]
-        with log, subprocess.Popen(command, stdout=log, stderr=log) as process:
-            try:
-                yield
-            finally:
-                process.terminate()
+        return programs.Program(command, log=self.folder / "log")
 
     def lease(self):
         """Address and name servers of a lease for the host `desk`."""
@@ -82,14 +70,15 @@ class Office:
 
     def asked(self, server, *words):
         """Status and data of an answer, once the server is there."""
-        for _ in range(20):
-            command = ("dig", f"@{server}", "+time=3", "+tries=1", *words)
-            text = self.run(self.client, *command, wanted=(0, 9))  # 9: no reply
-            if "status: " in text:
-                break
-            time.sleep(0.25)
-        answer = text.partition("ANSWER SECTION:\n")[2].partition("\n\n")[0]
-        return text.partition("status: ")[2].partition(",")[0], answer.split()[-1:]
+        command = ("dig", f"@{server}", "+time=3", "+tries=1", *words)
+
+        def text():
+            met = self.run(self.client, *command, wanted=(0, 9))  # 9: no reply
+            return "status: " in met and met
+
+        met = until(text, 10, f"no answer from {server}", 0.25)
+        answer = met.partition("ANSWER SECTION:\n")[2].partition("\n\n")[0]
+        return met.partition("status: ")[2].partition(",")[0], answer.split()[-1:]
 
 
 def leased(program, text):
@@ -100,10 +89,9 @@ def leased(program, text):
         kept.write_bytes(subprocess.check_output(["sed", "-n", "s/^#: //p", path]))
         options = ["--keep-in-foreground", "--user=root", "--pid-file=", f"--conf-file={kept}"]
         options.append(f"--dhcp-leasefile={office.folder / 'leases'}")
-        with office.served("dnsmasq", *options), office.served(program, "serve", path, TURNS):
+        serve = [program, "serve", path, programs.WHOLE_LIFE]
+        with office.served("dnsmasq", *options), office.served(*serve):
             address, *servers = office.lease()
-            answers = {
-                question: office.asked(*servers[:1], *question.split())
-                for question in ("desk.lan", "nobody.lan", "printer.lan", f"-x {address}")
-            }
+            answers = {question: office.asked(*servers[:1], *question.split())
+                       for question in ("desk.lan", "nobody.lan", "printer.lan", f"-x {address}")}
             return address, servers, answers

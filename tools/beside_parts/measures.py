@@ -2,7 +2,6 @@
 import contextlib
 import dataclasses
 import functools
-import os
 import pathlib
 import re
 import statistics
@@ -10,6 +9,7 @@ import subprocess
 
 from beside_parts import programs
 from beside_parts.programs import ASKS_ON, SERVED, Bare, Failed
+from running import processes
 from running.processes import TICKS, fields, tree
 from running.programs import on, output
 
@@ -17,7 +17,6 @@ OUTSTANDING, SLOW, FEW = 64, 1000, 10
 TRIES = 3
 # Ten connections, each for a hundred questions: dnsmasq ends one after a hundred.
 OVER_TCP = ["-m", "tcp", "-c", "10", "-O", "num-queries-per-conn=100"]
-PAGE = os.sysconf("SC_PAGE_SIZE")
 # More than any of them asks for in a second or two.
 DIFFERENT = 400_000
 
@@ -55,11 +54,11 @@ def spent(pid):
 
 def resident(pid):
     """MiB of resident memory, shared libraries included; a child may end meanwhile."""
-    pages = 0
+    octets = 0
     for each in tree(pid):
         with contextlib.suppress(OSError):
-            pages += int(fields(each)[21])
-    return pages * PAGE / 2**20
+            octets += processes.resident(each)
+    return octets / 2**20
 
 
 def dnsperf(file, *more):

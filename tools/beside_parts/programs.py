@@ -6,7 +6,7 @@ import shutil
 import subprocess
 
 from repository.packing import query
-from running import programs
+from running import foreign, programs
 from running.forwarder import configuration
 from running.programs import WHOLE_LIFE, on, output
 
@@ -16,17 +16,7 @@ NAMES = 10_000
 ASKED_ON, MEASURED_ON, ASKS_ON = "1", "2", "0,3"
 QUESTION = query("ready.example")
 
-UNBOUND = f"""server:
-  num-threads: 1
-  interface: 127.0.0.1@{SERVED}
-  do-ip6: no
-  do-daemonize: no
-  use-syslog: no
-  chroot: ""
-  username: ""
-  directory: "{{folder}}"
-  pidfile: ""
-  module-config: "iterator"
+UNBOUND = foreign.UNBOUND + """  num-threads: 1
   do-not-query-localhost: no
   outgoing-range: 4096
   num-queries-per-thread: 2048
@@ -36,25 +26,25 @@ remote-control:
   control-enable: no
 forward-zone:
   name: "."
-  forward-addr: 127.0.0.1@{SERVER}
+  forward-addr: {address}@{server}
 """
 
-KRESD = f"""net.listen('127.0.0.1', {SERVED}, {{{{ kind = 'dns' }}}})
-for _, each in ipairs({{{{'ta_update', 'ta_signal_query', 'priming', 'detect_time_skew',
-    'detect_time_jump'}}}}) do
+KRESD = """net.listen('{address}', {port}, {{ kind = 'dns' }})
+for _, each in ipairs({{'ta_update', 'ta_signal_query', 'priming', 'detect_time_skew',
+    'detect_time_jump'}}) do
   modules.unload(each)
 end
 trust_anchors.remove('.')
-cache.open(100 * MB, 'lmdb://{{folder}}/cache')
-policy.add(policy.all(policy.STUB('127.0.0.1@{SERVER}')))
+cache.open(100 * MB, 'lmdb://{folder}/cache')
+policy.add(policy.all(policy.STUB('{address}@{server}')))
 """
 
-DNSDIST = f"""setLocal("127.0.0.1:{SERVED}")
+DNSDIST = """setLocal("{address}:{port}")
 setACL("127.0.0.0/8")
 setSecurityPollSuffix("")
-newServer{{{{address="127.0.0.1:{SERVER}"}}}}
+newServer{{address="{address}:{server}"}}
 getServer(0):setUp()
-getPool(""):setCache(newPacketCache({2 * NAMES}))
+getPool(""):setCache(newPacketCache({room}))
 """
 
 
@@ -79,7 +69,8 @@ class Peer:
 
     def words(self, folder):
         """The command line, once the configuration is written into the folder."""
-        (folder / "conf").write_text(self.config.format(folder=folder))
+        (folder / "conf").write_text(self.config.format(
+            folder=folder, address="127.0.0.1", port=SERVED, server=SERVER, room=2 * NAMES))
         options = self.options.format(folder=folder).split()
         return [programs.path(self.command), *options]
 
@@ -138,8 +129,7 @@ class Failed(Exception):
 
 @contextlib.contextmanager
 def running(program, folder):
-    """Runs the program with a folder of its own until the block ends; gives its process
-    identifier."""
+    """Runs the program with a folder of its own until the block ends; gives its number."""
     own = folder / f"run-{program.key}"
     shutil.rmtree(own, ignore_errors=True)
     own.mkdir()

@@ -64,8 +64,7 @@ def parts_of(trace):
 
 
 def kinds_of(parts, count):
-    """The parts of an answer, by their calls, in the order of their first coming: those of many
-    questions."""
+    """The parts of an answer, by their calls, in order: those of many questions."""
     kinds = {}
     for part in parts:
         if "sendto" in part.calls and ROUND not in part.calls:
@@ -104,8 +103,7 @@ def footprint(program, case, count):
 
 
 def frames(program, touched):
-    """The functions of the program that an answer passes, with the octets of their frames, the
-    largest first."""
+    """The functions that an answer passes, with octets of their frames, the largest first."""
     listing = output("objdump", "-d", "-C", "--no-show-raw-insn", program)
     is_fixed = "EXEC" in output("readelf", "-h", program)
     base, found, name, is_passed = 0 if is_fixed else BASE, {}, None, False

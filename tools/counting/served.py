@@ -19,14 +19,6 @@ class Unexpected(Exception):
     """An answer that is not a case's."""
 
 
-def accepts(program, config):
-    """Whether the program accepts this configuration."""
-    with tempfile.NamedTemporaryFile("w") as file:
-        file.write(config)
-        file.flush()
-        return subprocess.run([program, "check", file.name], capture_output=True).returncode == 0
-
-
 def ask(client, questions, wanted):
     """Sends these questions at once, and reads a reply to each."""
     for asked in questions:

@@ -119,8 +119,7 @@ def not_served(place):
 
 
 def stopped_and_started(place):
-    """Without a server cached names are answered, and all else fails; with the server again all is
-    answered."""
+    """Without a server cached names are answered alone; with the server again all names are."""
     ask = askers.Dig().ask
     ask(place.forwarder, "n1.example", "A")
     place.server.stop()
@@ -171,8 +170,7 @@ def getent_can_ask():
 
 
 def getent(folder, serve):
-    """The C library's resolver finds both addresses of a name, an alias's target, and no address of
-    a missing name."""
+    """The C library finds addresses of a name and of an alias, and none of a missing name."""
     (folder / "resolv.conf").write_text("nameserver 127.0.0.153\noptions timeout:8 attempts:1\n")
     bound = f"mount --bind {folder}/resolv.conf /etc/resolv.conf"
     asking = ["unshare", "--mount", "--propagation", "private", "sh", "-c",

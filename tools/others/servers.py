@@ -2,15 +2,8 @@
 from others import zone
 from repository.packing import query
 from running import programs
+from running.foreign import NAMED, UNBOUND
 from running.programs import Program, answers
-
-NAMED = """options {{
-  directory "{folder}"; pid-file none; session-keyfile none;
-  listen-on port {port} {{ {address}; }}; listen-on-v6 {{ none; }};
-  recursion no; dnssec-validation no; minimal-responses no; notify no;
-}};
-controls {{ }};
-"""
 
 NSD = """server:
   ip-address: {address}@{port}
@@ -27,26 +20,12 @@ remote-control:
   control-enable: no
 """
 
-UNBOUND = """server:
-  interface: {address}@{port}
-  do-daemonize: no
-  use-syslog: no
-  chroot: ""
-  username: ""
-  directory: "{folder}"
-  pidfile: "{folder}/pid"
-  access-control: 127.0.0.0/8 allow
-  module-config: "iterator"
-  local-zone: "example." static
-  local-zone: "test." static
-"""
-
 
 class Server:
     """A name server, to be stopped and started again. `without`: types that the program can't hold;
-    `head`: the beginning of the configuration."""
+    `head`: the beginning of the configuration, with `more` in it."""
 
-    command = head = ""
+    command = head = more = ""
     without = ()
 
     def __init__(self, folder, port, address="127.0.0.1", zones=None):
@@ -73,7 +52,7 @@ class Server:
     def configured(self):
         """Writes the configuration; returns the path."""
         file = self.folder / "conf"
-        head = self.head.format(**vars(self))
+        head = self.head.format(**vars(self), more=self.more)
         file.write_text(head + "".join(map(self.zone, self.zones)))
         return file
 
@@ -93,6 +72,7 @@ class Server:
 
 class Named(Server):
     command, head = "named", NAMED
+    more = "recursion no; minimal-responses no; notify no;"
 
     def words(self):
         return ["-g", "-n", "1", "-c", self.configured()]
@@ -112,7 +92,8 @@ class Nsd(Server):
 
 
 class Unbound(Server):
-    command, head = "unbound", UNBOUND
+    command, head = "unbound", UNBOUND + "".join(
+        f'  local-zone: "{each}." static\n' for each in zone.ZONES)
 
     def words(self):
         return ["-d", "-c", self.configured()]

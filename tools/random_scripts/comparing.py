@@ -65,8 +65,7 @@ def shortest(octets, differ):
 
 
 def report(octets, first, second):
-    """A script and what each of two printed of it: lines of the first alone have -, of the second
-    alone +."""
+    """A script and its printed lines: those of the first alone have -, of the second +."""
     one, other = first(octets).lines(), second(octets).lines()
     shown = [f"- {line}" if line not in other else f"  {line}" for line in one]
     shown += [f"+ {line}" for line in other if line not in one]

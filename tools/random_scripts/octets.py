@@ -31,7 +31,7 @@ class Writer:
         self.out += struct.pack("!6H", number, flags, *counts)
 
     def name(self, name):
-        """A name; its suffix that was written before may be a pointer, at times a strange one."""
+        """A name; a suffix written before may be a pointer, at times a strange pointer."""
         name = other_case(self.random, name) if self.random.random() < self.cases else name
         start = len(self.out)
         for first, label in enumerate(name):

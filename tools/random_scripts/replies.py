@@ -1,4 +1,4 @@
-"""Random replies to a query: what it asks for, a part of it, something else, or nothing."""
+"""Random replies to a query: the wanted data, a part, something else, or nothing."""
 from .octets import DATA, NAME, STRING, Writer, broken, other_case
 
 TTLS = (0, 1, 30, 30, 300, 300, 300, 604_800, 604_801, 2**31 - 1, 2**31, 2**32 - 1)

@@ -1,12 +1,10 @@
-"""Random scripts: a forwarder that reads along tells which queries are open, and what is due.
-
-So most replies match a query, and the moments are those at which something ends.
-"""
+"""Random scripts, made next to a forwarder that reads along: so the open queries are known, and the
+due moments. Most replies match a query, and at most moments something ends."""
 import dataclasses
 import random as randomness
 
 from reading import script
-from reading.configuration import Refused, read_configuration
+from reading.configuration import read_configuration
 from reading.step import Forwarder
 
 from . import configurations
@@ -64,7 +62,7 @@ class Maker:
         return self.random.random() < chance
 
     def make_kinds(self):
-        """The types that are asked for: often one alone, so that questions meet."""
+        """The asked types: often a single type, so that questions meet."""
         every = list(DATA)
         several = ([1, 5], [1, 2, 5, 6], self.random.sample(every, 3), every)
         kinds = self.random.choice(([1], [1], [1], [self.random.choice(every)], *several))
@@ -92,7 +90,7 @@ class Maker:
         return names
 
     def name(self):
-        """One of the names, or a name below it; at times one of which something is kept."""
+        """A name of the script, or a name below; at times with something kept."""
         kept = self.forwarder.cache.entries
         kept = kept if self.chance(0.6 if self.theme == "aged" else 0.15) else []
         name = self.random.choice([entry.piece.owner for entry in kept] or self.names)
@@ -130,7 +128,7 @@ class Maker:
     # Lines.
 
     def question(self):
-        """What a client asks: at times what is asked already, or what is kept."""
+        """A client's question: at times asked already, or kept."""
         waiting, entries = self.forwarder.waiting, self.forwarder.cache.entries
         if waiting and self.chance(0.15):
             one = self.random.choice(waiting)
@@ -178,7 +176,7 @@ class Maker:
         return f"{self.now} client {self.random.choice(clients)} {octets.hex() or '-'}"
 
     def reply(self, ask=None):
-        """A reply to one of the open queries, at times with one thing of it forged."""
+        """A reply to an open query, at times with a forged part."""
         ask = ask or self.random.choice(self.forwarder.asks)
         path, number, peer, question = list(ask.path), ask.id, ask.peer, ask.question
         if self.chance(0.08 * (1.05 - self.calm)):

@@ -41,7 +41,7 @@ def aged(chain, now):
 
 
 def stale(chain, now):
-    """Each piece with the seconds that it has left, thirty if it has ended (RFC 8767 4)."""
+    """Each piece with the seconds left, or thirty after the end (RFC 8767 4)."""
     return [(entry.piece, entry.ttl(now) if entry.is_alive(now) else STALE_TTL) for entry in chain]
 
 

@@ -1,4 +1,4 @@
-"""What a configuration says, and which of its faults is reported: the first in the order below."""
+"""The content of a configuration, or the reported fault: the first in the order below."""
 import re
 import tomllib
 from dataclasses import dataclass

@@ -83,7 +83,7 @@ def key(name):
 
 
 def is_under(name, upper):
-    """A name is under those that its last labels spell: itself, and the root, are two of them."""
+    """A name is under each name of its last labels: also under the root, and under itself."""
     return key(name[len(name) - len(upper):]) == key(upper) if len(upper) <= len(name) else False
 
 
@@ -176,7 +176,7 @@ def read_record(octets, place):
 
 
 def first_question(octets):
-    """The question of a message that has just one; what comes after it is not looked at."""
+    """The question of a message with a single one; later octets are not looked at."""
     if read_header(octets).counts[0] != 1:
         raise Unreadable
     return read_question(octets, 12)[0]

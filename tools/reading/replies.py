@@ -32,7 +32,7 @@ class Piece:
     rank: int = 1
 
     def slot(self):
-        """What at most one kept piece has: a set and a NODATA answer of one type share it."""
+        """The key of at most one kept piece: a set and a NODATA answer of a type share the key."""
         return key(self.owner), self.kind, self.class_
 
     def target(self):

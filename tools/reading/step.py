@@ -20,7 +20,7 @@ ANY_CLASS = 255
 
 @dataclass(eq=False)
 class Waiting:
-    """A question that waits: its aliases so far, the question now wanted, when it was taken."""
+    """A waiting question: the aliases so far, the question now wanted, the moment of taking."""
     request: Request
     held: list
     wanted: Question
@@ -29,7 +29,7 @@ class Waiting:
 
 @dataclass(frozen=True)
 class Ask:
-    """A query on its way: to which server of which route, and the how many-th try it is."""
+    """A query on the way: the server and route, and the number of the try."""
     question: Question
     route: int
     server: int

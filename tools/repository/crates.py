@@ -1,4 +1,4 @@
-"""The crates of crates.txt, by layer: what each is for, what it uses, and what it passes on."""
+"""The crates of crates.txt, by layer: purpose, used crates, and crates passed on."""
 import functools
 import pathlib
 import re

@@ -27,7 +27,7 @@ def passed_on(crate, side):
 
 
 def place(crate, side, path):
-    """The crate and the path in it to which a path leads, through what crates pass on."""
+    """The crate, and the path there, at the end of a path through passed-on modules."""
     seen = set()
     while (crate, path) not in seen:
         seen.add((crate, path))

@@ -54,8 +54,7 @@ def below(names):
 
 
 def place(name, top):
-    """Leaves in the copy at `top` the crates below a program, without wrong bodies, and adds the
-    program."""
+    """Leaves in the copy at `top` the crates below a program alone, and adds the program."""
     kept = below(uses()[name])
     for folder in (top / "crates").iterdir():
         if folder.is_dir() and folder.name not in kept:

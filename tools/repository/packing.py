@@ -34,14 +34,9 @@ def address(seconds, *numbers, owner=OF_QUESTION):
     return record(owner, A, seconds, bytes(numbers))
 
 
-def counts(answers, authority):
-    """The four counts of a message with one question."""
-    return struct.pack(">4H", 1, len(answers), len(authority), 0)
-
-
 def message(identifier, flags, asked, answers=(), authority=()):
     """A message with one question; questions and records are octets."""
-    head = struct.pack(">2H", identifier, flags) + counts(answers, authority)
+    head = struct.pack(">6H", identifier, flags, 1, len(answers), len(authority), 0)
     return head + asked + b"".join(answers) + b"".join(authority)
 
 
@@ -52,8 +47,8 @@ def query(text="a.example", kind=A, identifier=0x1234):
 
 def reply(query, flags, answers=(), authority=()):
     """A message with the identifier and the question of a query."""
-    head = query[:2] + struct.pack(">H", flags) + counts(answers, authority)
-    return head + query[12:] + b"".join(answers) + b"".join(authority)
+    asked = query[12:name_end(query, 12) + 4]
+    return message(struct.unpack(">H", query[:2])[0], flags, asked, answers, authority)
 
 
 def code(octets):
@@ -67,7 +62,7 @@ def framed(octets):
 
 
 def exactly(stream, count):
-    """So many octets of a connection."""
+    """The next `count` octets of a connection."""
     octets = b""
     while len(octets) < count:
         more = stream.recv(count - len(octets))

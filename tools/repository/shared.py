@@ -24,8 +24,7 @@ def of_laws():
 
 
 def common(specs):
-    """The definitions that the contracts of the code or the table reach, but not by claims or laws
-    alone."""
+    """The definitions that contracts of code or table reach, not by claims or laws alone."""
     cited = {key for key in specs.bodies if key[0] == TABLE}
     for crate in uses():
         for text in sources(crate) if crate not in of_laws() else ():

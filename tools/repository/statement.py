@@ -12,7 +12,7 @@ HEADLINE = "ServesTruly"
 
 
 class Statement:
-    """The headline, all that it reaches, their files in order, and which code or table share."""
+    """The headline, all reached definitions, the files in order, and the shared definitions."""
 
     def __init__(self, specs):
         self.specs = specs
@@ -87,7 +87,7 @@ class Statement:
         return {name: keys for name, keys in found.items() if len(keys) > 1}
 
     def other_names(self, key):
-        """The names that the definition's file gives to others' words, each with the word itself."""
+        """The names that the definition's file gives to words of others, each with the word."""
         words = words_of(self.specs.bodies[key])
         for crate, path, names, short in imports(self.specs.texts[key[:2]]):
             for name, other in re.findall(r"(\S+) as (\w+)", names):

@@ -147,8 +147,9 @@ def head(statement):
 def foot(statement):
     """The types of the code, and the words of the library."""
     yield "## Types of the code"
-    yield wrapped("The definitions above name these types of the program. There a number is a "
-                  "natural number, octets are a list of numbers, and a name is the list of its labels.")
+    yield wrapped(
+        "The definitions above name these types of the program. There a number is a natural "
+        "number, octets are a list of numbers, and a name is the list of its labels.")
     for each in statement.types_of_code():
         at, shown = declaration(*each)
         yield f"### {at}\n\n```rust\n{shown}\n```"
@@ -158,7 +159,7 @@ def foot(statement):
 
 
 def unread(statement):
-    """The library's words that the page on reading lacks, and its lines that no file has."""
+    """The library's words without a place in the page on reading, and the page's invented lines."""
     page = (TOP / "docs" / READING).read_text(encoding="utf-8").replace("\\|", "|")
     text = " ".join(re.findall(r"`([^`\n]+)`", page))
     known = words_of(text) | set(text.split())

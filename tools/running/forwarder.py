@@ -1,4 +1,7 @@
 """The forwarder of this repository: its configuration and its process."""
+import subprocess
+import tempfile
+
 from running.programs import WHOLE_LIFE, Program
 
 
@@ -16,6 +19,15 @@ def configuration(listen, routes, limits=None, version=1):
         listed = f"servers = [{', '.join(map(peer, servers))}]" if servers else "deny = true"
         lines += ["[[route]]", f'suffix = "{suffix}"', listed]
     return "\n".join(lines) + "\n"
+
+
+def checked(program, text):
+    """Output, standard error and status of `check` of a configuration, a text or octets."""
+    with tempfile.NamedTemporaryFile(suffix=".toml") as file:
+        file.write(text.encode() if isinstance(text, str) else text)
+        file.flush()
+        ran = subprocess.run([program, "check", file.name], capture_output=True, text=True)
+    return ran.stdout, ran.stderr, ran.returncode
 
 
 class Service(Program):

@@ -1,4 +1,5 @@
 """Name servers of a test, in threads, on free ports."""
+import contextlib
 import socket
 import threading
 
@@ -27,7 +28,7 @@ class NameServer:
     `by_udp` returns the reply to a query, or None; `over_tcp` gets a connection and its query."""
 
     def __init__(self, by_udp, over_tcp=None, port=None, address="127.0.0.1"):
-        self.by_udp, self.over_tcp = by_udp, over_tcp or self.send_frame
+        self.by_udp, self.over_tcp = by_udp, over_tcp or self.framing(by_udp)
         self.asked, self.asked_from = [], []
         self.port = port or free_port()
         self.tcp = socket.create_server((address, self.port), backlog=64)
@@ -36,14 +37,25 @@ class NameServer:
         for serve in (self.serve_udp, self.serve_tcp):
             threading.Thread(target=serve, daemon=True).start()
 
-    def send_frame(self, stream, query):
-        stream.sendall(framed(self.by_udp(query)))
+    @staticmethod
+    def framing(reply_to):
+        """Sends the reply of this function over a connection."""
+        return lambda stream, query: stream.sendall(framed(reply_to(query)))
+
+    def stop(self, *sockets):
+        """Closes these sockets, or both. A shutdown wakes a waiting thread."""
+        for each in sockets or (self.udp, self.tcp):
+            with contextlib.suppress(OSError):
+                each.shutdown(socket.SHUT_RDWR)
+            each.close()
 
     def serve_udp(self):
         while True:
             try:
                 query, client = self.udp.recvfrom(65535)
             except OSError:
+                return
+            if not query:  # the end of a stopped server
                 return
             self.asked.append(query)
             self.asked_from.append(client[1])

@@ -16,6 +16,7 @@ from repository.packing import code, framed, take_frame
 from running.forwarder import Service, configuration
 from running.nameserver import NameServer, free_port
 from running.programs import WHOLE_LIFE, listens
+from running.trying import NotHere
 from running.waiting import until
 
 from .messages import SERVFAIL, expect, is_answer, question, reply_to
@@ -40,19 +41,11 @@ def not_held(why):
     return marked
 
 
-class NotHere(Exception):
-    """A case that can't run on this machine or for this user; why."""
-
-
 class Server(NameServer):
     """A name server, by default with an address for each name."""
 
     def __init__(self, by_udp=reply_to, over_tcp=None, **more):
-        super().__init__(by_udp, over_tcp or self.answer_frame, **more)
-
-    @staticmethod
-    def answer_frame(stream, query):
-        stream.sendall(framed(reply_to(query)))
+        super().__init__(by_udp, over_tcp or self.framing(reply_to), **more)
 
 
 class Forwarder(Service):
@@ -192,8 +185,7 @@ def written(octets):
 
 def run_of(program, *words, given=b"", out=subprocess.PIPE, errors=subprocess.PIPE, closed=None,
            memory=None):
-    """A run's output and standard error, and its status. The descriptor `closed` is closed
-    before."""
+    """Output, standard error and status of a run. The descriptor `closed` is closed before."""
     def bound():
         if memory:
             resource.setrlimit(resource.RLIMIT_AS, (memory, memory))

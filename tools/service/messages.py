@@ -68,8 +68,7 @@ def expect(met, wanted):
 
 
 def is_answer(message, asked):
-    """The reply has the client's identifier, flags of an answer, the question as asked, and the
-    address."""
+    """The client's identifier, flags of an answer, the question as asked, the address."""
     expect(message, head(asked, 0x8180, 1) + reply_to(asked)[12:])
 
 

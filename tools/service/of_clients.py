@@ -43,8 +43,7 @@ def is_silent(kind, place):
 
 @case
 def nobody_is_answered_elsewhere(program):
-    """The service answers at the address `listen`, and nowhere else on this machine, by UDP and
-    over TCP."""
+    """The service answers at the address `listen` alone, by UDP and over TCP."""
     for here, elsewhere in (("127.0.0.1", "127.0.0.2"), ("127.0.0.2", "127.0.0.1")):
         with Forwarder(program, [Server()], address=here) as forwarder:
             forwarder.is_well()
@@ -242,8 +241,7 @@ def silent_clients_are_closed(program):
 
 @case
 def a_client_that_resets_while_others_wait(program):
-    """Of five clients with a question in common the second resets before the answer; four get
-    it."""
+    """Of five clients with one question the second resets before the answer; four get it."""
     server = Server(lambda query: time.sleep(0.5) or reply_to(query))
     with Forwarder(program, [server]) as forwarder:
         clients = [forwarder.tcp() for _ in range(5)]

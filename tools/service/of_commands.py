@@ -5,7 +5,9 @@ import re
 import signal
 import subprocess
 import tempfile
+import tomllib
 
+from running.forwarder import checked
 from running.programs import MAIN, TOP
 
 from .cases import Forwarder, NotHere, Server, case, free_port, need, run_of, written
@@ -19,6 +21,8 @@ USAGE = b"usage: forwarder check FILE, replay, or serve FILE TURNS\n", 1
 TOO_MANY_TRIES = "version = 1\nlimits = { tries = 17 }\n"
 # Why the reader of TOML stops where there is no value.
 NO_VALUE = ("invalid value, expected a string, number, boolean, date-time, array or inline table")
+REFUSED = tomllib.loads((TOP / "tools" / "service" / "refused.toml").read_text())
+LEAST_REFUSED = 32  # lines of the page and of that file
 
 
 def failed(what, reason):
@@ -79,8 +83,7 @@ def statuses_of_check(program):
 
 @case
 def examples_are_accepted(program):
-    """Each example, and the configuration of the package, is accepted with as many routes as it has
-    headers."""
+    """Each example, and the package's, is accepted with as many routes as headers."""
     examples = sorted((TOP / "examples").glob("*.toml"))
     if len(examples) < 5:
         raise AssertionError(f"there are only {len(examples)} examples")
@@ -91,8 +94,7 @@ def examples_are_accepted(program):
 
 @case
 def what_is_said_where_the_system_refuses(program):
-    """A folder, a file with one octet too many, and an address of another machine are named with
-    the reason."""
+    """A folder, a large file and a foreign address are named with the reason."""
     with tempfile.TemporaryDirectory() as folder:
         said = failed(folder, "Is a directory (os error 21)")
         expect(run_of(program, "check", folder), said)
@@ -107,11 +109,10 @@ def what_is_said_where_the_system_refuses(program):
         expect(run_of(program, "serve", elsewhere.name, "1"), said)
 
 
-def checked(program, octets):
-    """The lines that `check` prints of a configuration, also on standard error, and its status."""
-    with written(octets) as file:
-        printed, errors, status = run_of(program, "check", file.name)
-        return (printed + errors).decode().splitlines(), status
+def lines_of(program, octets):
+    """The lines of `check` of a configuration, also on standard error, and the status."""
+    printed, errors, status = checked(program, octets)
+    return (printed + errors).splitlines(), status
 
 
 def with_line(text, line):
@@ -125,7 +126,7 @@ def with_line(text, line):
 
 def is_refused(program, line, said, number):
     """The smallest configuration with this line is refused by this text and number."""
-    met = checked(program, with_line(SMALLEST, line))
+    met = lines_of(program, with_line(SMALLEST, line))
     expect((line, met), (line, ([said, f"fault {number}"], 2)))
 
 
@@ -143,120 +144,33 @@ def what_the_page_for_administrators_shows(program):
     for indent, text, said in blocks:
         text = "".join(line[len(indent):] for line in text.splitlines(keepends=True))
         wanted = (said.splitlines(), 2) if said else ([f"ok {text.count('[[route]]')}"], 0)
-        expect(checked(program, text), wanted)
+        expect(lines_of(program, text), wanted)
     utf_16 = ["the text is no TOML: see line 1, column 1: invalid UTF-8", "fault 1"]
-    met = checked(program, SMALLEST.encode("utf-16"))
+    met = lines_of(program, SMALLEST.encode("utf-16"))
     expect((met, utf_16[0] in page), ((utf_16, 2), True))
     marked = b"\xef\xbb\xbf" + SMALLEST.replace("\n", "\r\n").encode()
-    expect(checked(program, marked), (["ok 1"], 0))
+    expect(lines_of(program, marked), (["ok 1"], 0))
     # Two lines of the table are its head.
     expect((len(rows), len(blocks)), (table.count("\n|") - 2, page.count("```toml\n")))
-    if len(rows) + len(REFUSED_LINES) < LEAST_REFUSED:
-        tried = f"{len(rows)} lines of the page and {len(REFUSED_LINES)} others"
+    if len(rows) + len(REFUSED["line"]) < LEAST_REFUSED:
+        tried = f"{len(rows)} lines of the page and {len(REFUSED['line'])} others"
         raise AssertionError(f"only {tried} were tried")
-
-
-# The form of a server, in the program's words.
-PEER = ("and has to be four numbers from 0 to 255 with dots between, a colon, and a port from 1 to "
-        "65535")
-NO_NAME = "which is no name: a character is no letter, digit, hyphen, underscore or dot"
-DIGITS = "digits alone, without quotation marks: it counts record sets, not octets"
-DOCUMENT = "which is none of `version`, `listen`, `limits`, `route`"
-PORT_AFTER_COLON = "the port follows a colon"
-# Servers and addresses, each with the end of the refusing line.
-REFUSED_SERVERS = {
-    "192.0.2.53@53": f"{PORT_AFTER_COLON}, as in `192.0.2.1:53`",
-    "192.0.2.53:53%eth0": "no interface can be given",
-    "192.0.2.53:53 192.0.2.54:53": "each server is a string of its own",
-    "[2001:db8::1]:53": "only addresses of IPv4 can be given",
-    "192.0.2.53@853#dns.example": f"{PORT_AFTER_COLON}, and nothing is encrypted",
-}
-REFUSED_PLACES = {
-    "localhost:53": "an address is wanted, no name",
-    "*:53": "all addresses are `0.0.0.0`, as in `0.0.0.0:53`",
-}
-# Suffixes with the end of their line.
-REFUSED_SUFFIXES = {
-    "b\u00fcro.example": f"{NO_NAME}: '\u00fc' is not ASCII: write the label in its form that "
-                        "begins with `xn--`",
-    "c\u043erp.example": f"{NO_NAME}: '\u043e' (U+043E) is Cyrillic among Latin letters: type the "
-                        "name again",
-    ".corp.example": "which is no name: a label is empty: a suffix is for all names below it: "
-                     "leave out what is before its first label",
-    "/corp.example/10.0.0.10": f"{NO_NAME}: a domain is the `suffix` of a route, its servers are "
-                               "in `servers`",
-    "": "which is no name: a label is empty",
-}
-# Lines of a configuration, with the number of their fault and the printed text. A line that the
-# page drops is put here: so many are tried at least, of both.
-LEAST_REFUSED = 32
-REFUSED_LINES = [
-    *((f'servers = ["{each}"]', 6, f'server 1 of route 1 is "{each}", {PEER}: {why}')
-      for each, why in REFUSED_SERVERS.items()),
-    *((f'listen = "{each}"', 6, f'`listen` is "{each}", {PEER}: {why}')
-      for each, why in REFUSED_PLACES.items()),
-    *((f'suffix = "{each}"', 5, f'`suffix` of route 1 is "{each}", {why}')
-      for each, why in REFUSED_SUFFIXES.items()),
-    ("servers = [192.0.2.53:53]", 1,
-     f"the text is no TOML: see line 6, column 12: {NO_VALUE}; a string is between quotation "
-     "marks"),
-    ("servers = []", 10, "`servers` of route 1 is empty, and has to have 1 to 8"),
-    ('listen = ["127.0.0.1:53", "10.0.0.53:53"]', 4,
-     "`listen` is an array, and has to be a string"),
-    ("[[routes]]", 11,
-     f'the document has the key "routes", {DOCUMENT}: did you mean `route`?'),
-    ("version = 3", 2, "`version` is 3, and has to be 1 or 2"),
-    ('version = "1"', 4,
-     "`version` is a string, and has to be the integer 1 or 2: it is written without quotation "
-     "marks"),
-    ('limits = { cache = "64m" }', 4,
-     f"`cache` in `limits` is a string, and has to be an integer: {DIGITS}"),
-    ("cache-size = 1000", 11,
-     f'the document has the key "cache-size", {DOCUMENT}: `cache` is a key of `[limits]`'),
-    ("limits = { ask_ms = 1.5 }", 4,
-     "`ask_ms` in `limits` is a float, and has to be an integer"),
-    ("limits = { cache_size = 1000 }", 11,
-     '`limits` has the key "cache_size", which is none of `questions`, `inquiries`, `cache`, '
-     "`tries`, `ask_ms`, `deadline_ms`: did you mean `cache`?"),
-]
 
 
 @case
 def further_lines_that_are_refused(program):
     """Lines that docs/ADMIN.md leaves out."""
-    for line, number, said in REFUSED_LINES:
-        is_refused(program, line, said, number)
-
-
-MISSING = "`version` is missing, and has to be the integer 1 or 2"
-BELOW = MISSING + ': the one below "{}" is a key of that table'
-# Texts without TOML or `version`, each with its first line and its number.
-NO_CONFIGURATIONS = [
-    ("version = 1\nversion = 1\n",
-     "the text is no TOML: see line 2, column 1: duplicate key", 1),
-    ('version = 1\nlisten = "127.0.0.1:53\n',
-     "the text is no TOML: see line 2, column 23: invalid string; what line 2, column 10 opens is "
-     "not closed", 1),
-    ("version = 1\n[limits]\ncache = 64m\n",
-     f"the text is no TOML: see line 3, column 9: {NO_VALUE}; {DIGITS}", 1),
-    ("Version = 1\n",
-     f'{MISSING}: there is "Version"; keys are in small letters: `version`', 3),
-    ("verison = 1\n", f'{MISSING}: there is "verison"; did you mean `version`?', 3),
-    ("colour = 1\n", MISSING, 3),
-    ("limits = { version = 1 }\n", BELOW.format("limits"), 3),
-    ('[[route]]\nsuffix = "."\n[[route]]\nversion = 1\n', BELOW.format("route"), 3),
-    ("[colour]\nversion = 1\n", BELOW.format("colour"), 3),
-    ('[limits]\ncache = 8192\n\nversion = 1\n\n[[route]]\nsuffix = "."\n'
-     'servers = ["192.0.2.53:53"]\n', BELOW.format("limits"), 3),
-]
+    for each in REFUSED["line"]:
+        is_refused(program, each["line"], each["said"], each["fault"])
 
 
 @case
 def why_a_text_is_no_configuration(program):
     """A text without TOML is refused by place and reason, with a hint; a missing `version` with the
     key that may be meant."""
-    for text, said, number in NO_CONFIGURATIONS:
-        expect((text, checked(program, text)), (text, ([said, f"fault {number}"], 2)))
+    for each in REFUSED["text"]:
+        wanted = [each["said"], f"fault {each['fault']}"], 2
+        expect((each["text"], lines_of(program, each["text"])), (each["text"], wanted))
 
 
 def are_not_there(program, name, run):

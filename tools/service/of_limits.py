@@ -57,8 +57,7 @@ def more_clients_than_may_be(program):
 
 @case
 def no_descriptor_is_left(program):
-    """Connections without question for a second give way to a query, and new connections do
-    not."""
+    """Connections without question for a second give way to queries, new ones do not."""
     with Forwarder(program, [Server()], bounds=descriptors_at_most(40)) as forwarder:
         clients = [forwarder.tcp() for _ in range(40)]
         time.sleep(0.1)
@@ -164,8 +163,7 @@ def stays_while_a_server_is_away(program, away):
 
 @case
 def a_client_that_rests_while_a_server_cannot_be_reached(program):
-    """The client stays, since descriptors are left. Sending to a broadcast address is not permitted
-    (EACCES)."""
+    """The client stays, since descriptors are left. A broadcast address gives EACCES."""
     stays_while_a_server_is_away(program, "255.255.255.255:53")
 
 
@@ -205,8 +203,7 @@ def a_client_that_rests_while_drawn_ports_are_taken(program):
 
 @case
 def a_client_comes_where_no_descriptor_is_left(program):
-    """Connections without question for a second give way to the client, and to clients that wait to
-    be accepted."""
+    """Connections without question for a second give way to the client, and to waiting ones."""
     with Forwarder(program, [Server()], bounds=descriptors_at_most(64)) as forwarder:
         clients = [forwarder.tcp() for _ in range(100)]
         time.sleep(1.2)
@@ -363,8 +360,7 @@ def events_that_find_no_memory_are_counted(program):
 
 @case
 def a_stream_that_finds_no_memory_ends_the_service(program):
-    """Clients that begin messages of 65,535 octets use up the left memory: the service ends with
-    status 4."""
+    """Messages of 65,535 octets use up the left memory: the service ends with status 4."""
     with Forwarder(program, [Server()], bounds=descriptors_at_most(4096)) as forwarder:
         forwarder.is_well()
         bound_memory(forwarder)

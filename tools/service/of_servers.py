@@ -125,8 +125,7 @@ def many_asks_at_once(program):
 
 @case
 def long_replies_by_udp(program):
-    """A reply by UDP has up to 65,507 octets: over TCP the client gets the whole, by UDP a cut
-    reply."""
+    """A reply of up to 65,507 octets comes whole over TCP, by UDP a cut reply."""
     for octets in (6000, 60000):
         server = Server(lambda query: long_reply_to(query, octets))
         with Forwarder(program, [server]) as forwarder:
@@ -154,8 +153,7 @@ def runs_draw_other_identifiers_and_ports(program):
 
 
 def are_drawn_everywhere(drawn, first, end):
-    """Each quarter of the range has at least 80 of 600 random values: 150 are expected, with a
-    deviation of 11."""
+    """Each quarter has 80 of 600 random values at least: 150 are expected, +-11."""
     size = (end - first) // 4
     quarters = [(value - first) // size for value in drawn]
     counts = [quarters.count(quarter) for quarter in range(4)]
@@ -165,8 +163,7 @@ def are_drawn_everywhere(drawn, first, end):
 
 @case
 def ports_and_identifiers_are_drawn_from_all_that_there_are(program):
-    """600 queries leave from ports of 1,024 to 65,535, and their identifiers use all 16 bits (RFC
-    5452 9.2)."""
+    """600 queries: ports of 1,024 to 65,535, identifiers of 16 bits (RFC 5452 9.2)."""
     server = Server()
     with Forwarder(program, [server]) as forwarder:
         for n in range(600):

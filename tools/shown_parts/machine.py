@@ -13,46 +13,6 @@ from .pages import TOP
 ADDRESSES = ("10.0.0.53", "10.0.0.54", *names.OUTSIDE, *names.COMPANY)
 SUDO = '#!/bin/sh\nexec "$@"\n'
 SUDOEDIT = '#!/bin/sh\ntest -f "$1"\n'
-SYSTEMCTL = r"""#!/bin/bash
-# Starts, stops and names what a unit's ExecStart names. No systemd runs here.
-words=()
-for word; do [[ $word == -* ]] || words+=("$word"); done
-unit=${words[1]%.service} folder=/usr/lib/systemd/system name=$unit
-[[ $unit == *@* ]] && name=${unit%@*}@
-state=/run/systemctl.$unit
-stop() {
-    for file in "$state" "$(sed -n 's/^PIDFile=//p' "$folder/$name.service")"; do
-        [ ! -f "$file" ] || kill "$(cat "$file")" 2> /dev/null
-    done
-    rm -f "$state"
-    sleep 0.2
-}
-active() { [ -f "$state" ] && kill -0 "$(cat "$state")" 2> /dev/null; }
-start() {
-    active && return
-    line=$(sed -n 's/^ExecStart=//p' "$folder/$name.service" | sed "s/%i/${unit#*@}/g")
-    [ -n "$line" ] || { echo "Unit $unit.service not found." >&2; exit 5; }
-    setsid $line > "/run/log.$unit" 2>&1 < /dev/null &
-    echo $! > "$state"
-    for _ in {1..50}; do
-        sleep 0.1
-        kill -0 $! 2> /dev/null && ! ss -lnup | grep -q "pid=$!," || break
-    done
-}
-case ${words[0]} in
-    start) start ;;
-    enable) [[ " $* " != *" --now "* ]] || start ;;
-    restart) stop; start ;;
-    stop) stop ;;
-    disable) [[ " $* " != *" --now "* ]] || stop ;;
-    is-active)
-        active || { echo inactive; exit 3; }
-        echo active ;;
-    cat) cat "$folder/$name.service" ;;
-    daemon-reload) ;;
-    *) echo "not known: $*" >&2; exit 1 ;;
-esac
-"""
 
 
 def run(*words):
@@ -87,7 +47,8 @@ def enter(folder, package):
     root = mounted(pathlib.Path(folder))
     (root / "tmp" / package.name).write_bytes(package.read_bytes())
     run("dpkg-deb", "-x", package, root)
-    for name, text in (("sudo", SUDO), ("systemctl", SYSTEMCTL), ("sudoedit", SUDOEDIT)):
+    systemctl = (pathlib.Path(__file__).parent / "systemctl").read_text(encoding="utf-8")
+    for name, text in (("sudo", SUDO), ("systemctl", systemctl), ("sudoedit", SUDOEDIT)):
         file = root / "usr" / "local" / "bin" / name
         file.write_text(text)
         file.chmod(0o755)
@@ -111,7 +72,7 @@ class Office:
     def start(self, addresses, silent=False):
         for address in addresses:
             if address not in self.open:
-                self.open[address] = names.Server(address, silent)
+                self.open[address] = names.server(address, silent)
 
     def stop(self, addresses):
         for address in addresses:

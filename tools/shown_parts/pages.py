@@ -30,7 +30,7 @@ class Step:
 
 
 def commands(lines):
-    """Each command, without its comment, with its first line's number; continued lines are one."""
+    """Each command without comment, with the first line's number; continued lines are joined."""
     at, begun = 0, []
     for number, line in enumerate(lines):
         at = at if begun else number

@@ -1,5 +1,5 @@
-"""What a shown command needs in order to run, or why it is not run. A command without a rule runs
-as it is shown, and soon ends with status 0."""
+"""The needs of a shown command, or why the command is not run. A command without a rule runs as
+shown, and soon ends with status 0."""
 import dataclasses
 import re
 import tomllib
@@ -11,8 +11,8 @@ PROGRAM = "crates/forwarder_main/out/forwarder_main"
 
 @dataclasses.dataclass
 class Rule:
-    """Why a command is not run, and its `heir`: the tool that runs it. Otherwise the `scene` before
-    it, its status, and the seconds after which it is interrupted."""
+    """Why a command is not run, and the `heir`: the tool that runs the command. Otherwise the
+    `scene` before the command, the status, and the seconds until an interrupt."""
 
     of: str
     why: str = ""

@@ -60,8 +60,7 @@ class Conversation:
         self.socket.send(framed(self.octets) if self.over_tcp else self.octets)
 
     def take(self):
-        """The answer, or None if more has to come. An empty answer is the end of the
-        connection."""
+        """The answer, or None if more has to come. Empty is the end of the connection."""
         octets = self.socket.recv(LONGEST)
         if not self.over_tcp:
             return octets
@@ -153,8 +152,7 @@ class Clients:
 
 
 def ask_all(clock, office, visits, days, file_of):
-    """Asks all questions of some days; `file_of` returns the path for a day. SIGTERM comes
-    early."""
+    """Asks all questions of some days; `file_of` gives a day's path. SIGTERM comes early."""
     signal.signal(signal.SIGINT, signal.SIG_IGN)
     signal.signal(signal.SIGTERM, lambda *_: sys.exit(0))
     clients = Clients(clock)

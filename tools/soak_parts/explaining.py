@@ -9,12 +9,14 @@ from collections import Counter
 
 EXPLAIN = pathlib.Path(__file__).resolve().parent.parent.parent / "explain" / "forwarder-explain"
 TIMES = pathlib.Path(__file__).resolve().parent / "times.py"
-MOST_OPEN = 50  # answers of which one may be open: the capture has all from the beginning of each life
+# Answers of which one may be open: the capture has all from the beginning of each life.
+MOST_OPEN = 50
 
 
 def aside():
-    """What has a command run beside all else: on one processor, when that has nothing else to do."""
-    return ["chrt", "--other", "0", "nice", "-n", "19", "taskset", "-c", str(max(os.sched_getaffinity(0)))]
+    """The words that run a command on one processor, while idle."""
+    last = str(max(os.sched_getaffinity(0)))
+    return ["chrt", "--other", "0", "nice", "-n", "19", "taskset", "-c", last]
 
 
 class Explanation(threading.Thread):
@@ -23,14 +25,15 @@ class Explanation(threading.Thread):
     def __init__(self, program, config, file):
         super().__init__()
         self.program, self.config, self.file = program, config, pathlib.Path(file)
-        self.status, self.counts, self.reasons, self.different, self.notes = None, {}, Counter(), [], []
+        self.status, self.counts, self.reasons = None, {}, Counter()
+        self.different, self.notes = [], []
 
     def run(self):
         said, script = self.file.with_suffix(".json"), self.file.with_suffix(".script")
         words = ["--program", self.program, "--json", "--script", script, self.config, self.file]
         with open(said, "wb") as out:
-            ran = subprocess.run(
-                [*aside(), EXPLAIN, *words], stdout=out, stderr=subprocess.PIPE, text=True, check=False)
+            ran = subprocess.run([*aside(), EXPLAIN, *words], stdout=out, stderr=subprocess.PIPE,
+                                 text=True, check=False)
         self.status, self.notes = ran.returncode, ran.stderr.splitlines()
         with open(said, encoding="utf-8") as lines:
             for row in map(json.loads, lines):
@@ -41,7 +44,8 @@ class Explanation(threading.Thread):
 
     def faults(self):
         if not self.counts:
-            yield f"{self.file.name} was not explained: status {self.status}, {' '.join(self.notes[-1:])}"
+            last = " ".join(self.notes[-1:])
+            yield f"{self.file.name} was not explained: status {self.status}, {last}"
         if self.different:
             yield f"{self.file.name}: {len(self.different):,} answers are different"
         if self.counts.get("open", 0) * MOST_OPEN > self.counts.get("questions", 0):

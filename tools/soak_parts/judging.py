@@ -138,8 +138,7 @@ class Walk:
         return self.expired or "answered"
 
     def see_set(self, kind, held):
-        """Each server that gave this set had it when it can have been asked: by the seconds that
-        are left of it."""
+        """Servers of this set had the set when asked: by the seconds left."""
         octets, left = frozenset(octets_of(record) for record in held), held[0].ttl
         if any(record.ttl != left for record in held) or len(octets) != len(held):
             raise Wrong(f"the lifetimes of {self.name} differ, or records are there twice")

@@ -80,8 +80,7 @@ class Office:
             self.add(CDN, f"e{n}.pool.cdn.net", "A", SHORT, *addresses(chance, 4))
 
     def make_inside(self, chance):
-        """Services, printers with names for their addresses, and no machine yet: machines come in
-        the morning."""
+        """Services, and printers with names for addresses. Machines come in the morning."""
         for n in (1, 2):
             self.add(CORP, f"web{n}.corp.example", "A", HOUR, f"10.0.0.{20 + n}")
         self.add(CORP, "intranet.corp.example", "CNAME", MOVING, "web1.corp.example.")

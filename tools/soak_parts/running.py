@@ -196,8 +196,7 @@ class Run:
         self.service.start()
 
     def restart(self):
-        """Ends and starts the forwarder, while clients ask. Each life is captured from before the
-        start."""
+        """Restarts the forwarder, while clients ask. Each life is captured from before."""
         began, before = self.now(), self.capture
         self.service.stop()
         self.begin_life()

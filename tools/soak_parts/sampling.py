@@ -35,8 +35,7 @@ class Life:
     samples: list
 
     def rates(self):
-        """Wake-ups in a second of the office between neighbouring samples, and the time of the
-        second."""
+        """Wake-ups in a second of the office between two samples, and the time of the second."""
         return [(after, (after.wakes - before.wakes) / (after.at - before.at))
                 for before, after in zip(self.samples, self.samples[1:]) if after.at > before.at]
 

@@ -163,8 +163,7 @@ class Served:
             self.failed[-1][1] = self.now()
 
     def take(self):
-        """Sends waiting changes, if the server serves; returns the changes taken since the last
-        call."""
+        """Sends waiting changes, if the server serves; returns those taken since."""
         taken = self.acknowledged() if self.sent and self.sent.done() else []
         if not self.how and not self.sent:
             taken, self.loaded = taken + self.loaded, []
@@ -180,8 +179,7 @@ class Served:
                                       for each in changes if each.zone == zone})
 
     def acknowledged(self):
-        """The sent changes, if the server took all; otherwise they are sent again, since the server
-        may have failed."""
+        """The sent changes if all are taken; otherwise they are sent again."""
         fault, batch = self.sent.exception(), self.batch
         self.sent, self.batch = None, []
         if fault is None:

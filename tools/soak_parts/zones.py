@@ -59,8 +59,7 @@ class History:
         self.versions, self.below = defaultdict(list), defaultdict(set)
 
     def begin(self, owner, kind, held, moment=-math.inf):
-        """The zone gets this set, or loses the old one. Returns the version that ends so, if
-        any."""
+        """A set begins, or the old one ends. Returns the ended version, if any."""
         versions = self.versions[owner, kind]
         if not versions:
             self.note_name(owner, kind)

@@ -4,6 +4,8 @@ import pathlib
 import subprocess
 import tempfile
 
+from running.forwarder import checked
+
 HERE = pathlib.Path(__file__).resolve().parent.parent
 NAME = "forwarder-import: "
 TESTS = []
@@ -16,10 +18,6 @@ def test(function):
 
 class Failed(Exception):
     """A result is not the wanted result."""
-
-
-class NotTried(Exception):
-    """Something a test needs is missing."""
 
 
 def expect(met, wanted):
@@ -43,10 +41,14 @@ def imported(program, folder, *words):
     return ran.stdout, ran.stderr, ran.returncode
 
 
+def of_text(program, name, text, *words):
+    """The same for a file of this name and text."""
+    with tempfile.TemporaryDirectory() as folder:
+        (pathlib.Path(folder) / name).write_text(text)
+        return imported(program, folder, *words, name)
+
+
 def accept(program, text):
     """Has the program check a configuration."""
-    with tempfile.NamedTemporaryFile("w", suffix=".toml") as file:
-        file.write(text)
-        file.flush()
-        ran = subprocess.run([program, "check", file.name], capture_output=True, text=True)
-    expect((ran.stdout, ran.returncode), (f"ok {text.count('[[route]]')}\n", 0))
+    printed, _, status = checked(program, text)
+    expect((printed, status), (f"ok {text.count('[[route]]')}\n", 0))
