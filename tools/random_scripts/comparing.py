@@ -1,6 +1,8 @@
 """What the program and the reading print of a script, and the lines on which they differ."""
 import bisect
+import os
 import subprocess
+import tempfile
 from dataclasses import dataclass
 
 from reading import script
@@ -40,6 +42,31 @@ def by_program(program):
                              timeout=LONGEST_RUN)
         return Printed(ran.stdout.decode("latin-1"), ran.stderr.decode("latin-1"), ran.returncode)
     return run
+
+
+def measured(program, octets):
+    """What a program prints of a script, its seconds of processor, and its memory in MiB."""
+    files = [tempfile.TemporaryFile() for _ in range(3)]
+    files[0].write(octets)
+    files[0].seek(0)
+    given, out, error = files
+    process = subprocess.Popen([program, "replay"], stdin=given, stdout=out, stderr=error)
+    _, status, used = os.wait4(process.pid, 0)
+    process.returncode = os.waitstatus_to_exitcode(status)
+    texts = []
+    for file in files[1:]:
+        file.seek(0)
+        texts.append(file.read().decode("latin-1"))
+    for file in files:
+        file.close()
+    seconds = used.ru_utime + used.ru_stime
+    return Printed(*texts, process.returncode), seconds, used.ru_maxrss / 1024
+
+
+def kinds_in(said):
+    """The number of the event and the kind of each printed line; nothing of a failed run."""
+    pairs = (line.split(" ", 2) for line in said.out.splitlines())
+    return [] if said.status else [(int(number), kind) for number, kind, _ in pairs]
 
 
 def parted(octets):
