@@ -1,8 +1,7 @@
 """What the program and the reading print of a script, and the lines on which they differ."""
 import bisect
-import os
+import resource
 import subprocess
-import tempfile
 from dataclasses import dataclass
 
 from reading import script
@@ -44,23 +43,12 @@ def by_program(program):
     return run
 
 
-def measured(program, octets):
-    """What a program prints of a script, its seconds of processor, and its memory in MiB."""
-    files = [tempfile.TemporaryFile() for _ in range(3)]
-    files[0].write(octets)
-    files[0].seek(0)
-    given, out, error = files
-    process = subprocess.Popen([program, "replay"], stdin=given, stdout=out, stderr=error)
-    _, status, used = os.wait4(process.pid, 0)
-    process.returncode = os.waitstatus_to_exitcode(status)
-    texts = []
-    for file in files[1:]:
-        file.seek(0)
-        texts.append(file.read().decode("latin-1"))
-    for file in files:
-        file.close()
-    seconds = used.ru_utime + used.ru_stime
-    return Printed(*texts, process.returncode), seconds, used.ru_maxrss / 1024
+def timed(program, octets):
+    """What a program prints of a script, and its seconds of processor."""
+    before = resource.getrusage(resource.RUSAGE_CHILDREN)
+    said = by_program(program)(octets)
+    after = resource.getrusage(resource.RUSAGE_CHILDREN)
+    return said, after.ru_utime + after.ru_stime - before.ru_utime - before.ru_stime
 
 
 def kinds_in(said):
