@@ -1,5 +1,6 @@
 """What the program and the reading print of a script, and the lines on which they differ."""
 import bisect
+import resource
 import subprocess
 from dataclasses import dataclass
 
@@ -40,6 +41,20 @@ def by_program(program):
                              timeout=LONGEST_RUN)
         return Printed(ran.stdout.decode("latin-1"), ran.stderr.decode("latin-1"), ran.returncode)
     return run
+
+
+def timed(program, octets):
+    """What a program prints of a script, and its seconds of processor."""
+    before = resource.getrusage(resource.RUSAGE_CHILDREN)
+    said = by_program(program)(octets)
+    after = resource.getrusage(resource.RUSAGE_CHILDREN)
+    return said, after.ru_utime + after.ru_stime - before.ru_utime - before.ru_stime
+
+
+def kinds_in(said):
+    """The number of the event and the kind of each printed line; nothing of a failed run."""
+    pairs = (line.split(" ", 2) for line in said.out.splitlines())
+    return [] if said.status else [(int(number), kind) for number, kind, _ in pairs]
 
 
 def parted(octets):
