@@ -10,7 +10,10 @@ use std::io::Write;
 use suffix_routes::Config;
 
 /// Writes the line of an accepted configuration: `ok R`, with the number of its routes.
-pub fn write_checked<A: Allocator, W: Write>(config: &Config<A>, writer: &mut W) -> io::Result<()>
+pub(crate) fn write_checked<A: Allocator, W: Write>(
+    config: &Config<A>,
+    writer: &mut W,
+) -> io::Result<()>
     ensures { OnOk result (Appends (W.contents writer.old) (W.contents writer.new)
         (checked_text (length config.now.routes) ++ 10 ∷ [])) }
 {

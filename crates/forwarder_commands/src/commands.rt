@@ -1,8 +1,11 @@
 //! The commands.
 
-ghost use Rattle.std.specs.Prelude.{◌≡◌, IfOk, IfErr};
+ghost use Rattle.std.specs.Prelude.{◌≡◌, ◌⊎◌, IfOk, IfErr, OnOk};
 ghost use Rattle.forwarder_commands.specs.Commands.{command_by, IsOfOctets, IsFaultOfFile, IsFaultOfCheck};
 ghost use Rattle.forwarder_commands.specs.Commands.{IsFaultOfServe, IsFaultOfReplay};
+ghost use Rattle.replay_script.specs.Configs.{IsOfStream};
+ghost use Rattle.forwarder_commands.specs.Done.{Checks, ServesOctets, IsDone};
+ghost use Rattle.forwarder_commands.specs.declared.commands.Command.TheVariants.{Check, Serve, Replay};
 
 use crate::arguments::{LONGEST, argument, count, text};
 use crate::checked::write_checked;
@@ -11,7 +14,7 @@ use crate::files::Opened;
 use crate::refused::say_refused;
 use crate::saying::{say, say_unread, unopened};
 use crate::serving::serve_config;
-use crate::wanted_turns::read_turns;
+use crate::wanted_turns::{Turns, read_turns};
 use replay_script::{ReplayFault, config_in, read_limited, replay_run};
 use std::io;
 use std::io::{BufWriter, Write};
@@ -47,6 +50,7 @@ pub fn command_of(word: &str, count: usize) -> Option<Command>
 pub fn run<R>(rt: &R) -> Result<(), Fault>
 where
     R: Env + Input + Print + AllocGlobal + Net + Clock + RandomSource,
+    ensures { OnOk result ((IsDone Check) ⊎ (IsDone Serve) ⊎ (IsDone Replay)) }
 {
     let mut room = [0u8; LONGEST];
     let word = text(rt, 1, &mut room).ok_or(Fault::Usage)?;
@@ -60,10 +64,27 @@ where
 
 /// Prints the number of routes of the configuration named by the second argument.
 fn check<R: Env + Print + AllocGlobal>(rt: &R) -> Result<(), Fault>
-    ensures { IfErr result IsFaultOfCheck }
+    ensures done { OnOk result (IsDone Check) }
+    ensures fault { IfErr result IsFaultOfCheck }
 {
-    let checked = named_config(rt)?;
-    write_checked(&checked, &mut io::writer(rt))?;
+    let mut room = [0u8; LONGEST];
+    let name = named_file(rt, &mut room)?;
+    check_file(rt, name, &mut io::writer(rt))?;
+    Ok(())
+}
+
+/// Writes the number of routes of the configuration in the file with this name; faults as of
+/// [`load`], and `Device` if the writer fails.
+pub fn check_file<R: Print + AllocGlobal, W: Write>(
+    rt: &R,
+    name: &[u8],
+    writer: &mut W,
+) -> Result<(), ReplayFault>
+    ensures done { OnOk result (Checks (W.contents writer.old) (W.contents writer.new)) }
+    ensures fault { IfErr result IsFaultOfFile }
+{
+    let config = load(rt, name)?;
+    write_checked(&config, writer)?;
     Ok(())
 }
 
@@ -94,15 +115,12 @@ pub fn load<R: Print + AllocGlobal>(rt: &R, name: &[u8]) -> Result<Config, Repla
     config
 }
 
-/// The configuration in the file named by the second argument, as [`load`]; a name too long for a
-/// file is unreadable.
-fn named_config<R: Env + Print + AllocGlobal>(rt: &R) -> Result<Config, ReplayFault>
-    ensures read { IfOk result IsOfOctets }
-    ensures refused { IfErr result IsFaultOfFile }
+/// The name of a file in the second argument; a name too long for a file is unreadable.
+fn named_file<'a, R: Env + Print>(rt: &R, room: &'a mut [u8]) -> Result<&'a [u8], ReplayFault>
+    ensures { IfErr result IsOfStream }
 {
-    let mut room = [0u8; LONGEST];
-    match argument(rt, 2, &mut room) {
-        Ok(name) => load(rt, name),
+    match argument(rt, 2, room) {
+        Ok(name) => Ok(name),
         Err(_) => {
             say(rt, &"the name of the file has more than 4095 octets");
             Err(ReplayFault::Device)
@@ -115,16 +133,32 @@ fn named_config<R: Env + Print + AllocGlobal>(rt: &R) -> Result<Config, ReplayFa
 fn serve<R>(rt: &R) -> Result<(), Fault>
 where
     R: Env + Print + AllocGlobal + Net + Clock + RandomSource,
-    ensures { IfErr result IsFaultOfServe }
+    ensures done { OnOk result (IsDone Serve) }
+    ensures fault { IfErr result IsFaultOfServe }
 {
     let turns = read_turns(rt).ok_or(Fault::Usage)?;
-    let config = named_config(rt)?;
-    serve_config(rt, rt.alloc(), config, turns, &mut io::writer(rt))
+    let mut room = [0u8; LONGEST];
+    let name = named_file(rt, &mut room)?;
+    serve_file(rt, name, turns, &mut io::writer(rt))
+}
+
+/// Serves as many turns by the configuration in the file with this name, and writes the counts;
+/// faults as of [`load`] and [`serve_config`].
+pub fn serve_file<R, W>(rt: &R, name: &[u8], turns: Turns, writer: &mut W) -> Result<(), Fault>
+where
+    R: Print + AllocGlobal + Net + Clock + RandomSource,
+    W: Write,
+    ensures done { OnOk result (ServesOctets turns.number (W.contents writer.old) (W.contents writer.new)) }
+    ensures fault { IfErr result IsFaultOfCheck }
+{
+    let config = load(rt, name)?;
+    serve_config(rt, rt.alloc(), config, turns, writer)
 }
 
 /// Replays standard input. Lines printed before a fault are written out, too.
 fn replay<R: Input + Print + AllocGlobal>(rt: &R) -> Result<(), Fault>
-    ensures { IfErr result IsFaultOfReplay }
+    ensures done { OnOk result (IsDone Replay) }
+    ensures fault { IfErr result IsFaultOfReplay }
 {
     let mut reader = rt.reader();
     let mut writer = BufWriter::new(rt.alloc(), io::writer(rt))?;

@@ -15,8 +15,7 @@ mod serving;
 mod wanted_turns;
 
 pub use arguments::{LONGEST, argument, count, text};
-pub use checked::write_checked;
-pub use commands::{Command, command_of, load, run};
+pub use commands::{Command, check_file, command_of, load, run, serve_file};
 pub use fault::Fault;
 pub use replay_script as scripts;
 pub use serving::serve_config;

@@ -4,8 +4,8 @@ use crate::narrow::is_wide;
 use crate::printed::Printed;
 use crate::probing::run_stepped;
 use crate::script::Way;
+use forwarder_commands::check_file;
 use forwarder_commands::scripts::{ReplayFault, replay_run};
-use forwarder_commands::{load, write_checked};
 use std::alloc::Global;
 use std::rt::Files;
 use std::{fs, io};
@@ -76,14 +76,7 @@ pub(crate) fn output_of<R: Files + AllocGlobal>(
 /// command prints on standard output.
 fn check(alloc: Global, row: &str, stdout: &mut Vec<u8>) -> Result<(), ReplayFault> {
     let printed = Printed::new(alloc);
-    let ended = print_checked(&printed, row.as_bytes());
+    let ended = check_file(&printed, row.as_bytes(), &mut io::writer(&printed));
     *stdout = printed.into_octets();
     ended
-}
-
-/// Prints the line of a configuration in the file with this name, or why it is refused.
-fn print_checked(rt: &Printed, name: &[u8]) -> Result<(), ReplayFault> {
-    let config = load(rt, name)?;
-    write_checked(&config, &mut io::writer(rt))?;
-    Ok(())
 }

@@ -2,6 +2,7 @@ pub mod Journal
 pub mod Quiet
 pub mod Handling
 pub mod Framing
+pub mod InTime
 pub mod Turns
 pub mod Worked
 pub use Rattle.forwarder_core.proofs.TheoremSound as TheoremSound

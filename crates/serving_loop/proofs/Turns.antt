@@ -25,6 +25,7 @@ use Rattle.serving_loop.specs.Handing.{Ticks}
 use Rattle.serving_loop.specs.Streams.{left_on, events_by, client_left_with, server_left_with, Follows, Tracks, Arrives, TakesArrival, TakesTurn, TakesTurns}
 use Rattle.serving_loop.proofs.Journal.{then_then, then_silence, reports_nothing, reports_on, adds_none, adds_more, lost_append, refused_append}
 use Rattle.serving_loop.proofs.Handling.{run_append, all_append, does_more}
+use Rattle.serving_loop.proofs.InTime.{turns_end_ticks, end_ticks_too, turns_in_time}
 
 -- ---- a single turn
 
@@ -240,6 +241,8 @@ module _ {A : Type 0} (wanted : ℕ) (s : Streams A) (x y : Standing) (so_far : 
     run = so_far.does.run;
     truly = run_serves_on x.running.config x.running.state y.running.state
         (steps_in (taken_in so_far.all_turns)) so_far.does.run;
+    in_time = λ steps came. turns_in_time x.running.config steps x.running.state y.running.state so_far.all_turns came
+        (turns_end_ticks x.running.config [] so_far.all_turns so_far.are) so_far.does.run;
     puts = so_far.does.puts;
     report = so_far.does.report;
   }
@@ -272,6 +275,10 @@ turns_cut law wanted count s s' e x y z below so_far h =
         run = does.run;
         truly = run_serves_on x.running.config x.running.state z.running.state
             (steps_in (taken_in (so_far.all_turns ++ h.turn ∷ []))) does.run;
+        in_time = λ steps came. turns_in_time x.running.config steps x.running.state z.running.state
+            (so_far.all_turns ++ h.turn ∷ []) came
+            (end_ticks_too so_far.all_turns h.turn (turns_end_ticks x.running.config [] so_far.all_turns so_far.are)
+            h.err.ticks) does.run;
         puts = does.puts;
         report = does.report;
       };

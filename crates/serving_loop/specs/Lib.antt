@@ -1,4 +1,5 @@
 pub mod Events
+pub mod InTime
 pub mod Serving
 pub mod Handing
 pub mod Streams

@@ -3,16 +3,17 @@ use Rattle.std.specs.Prelude.{◌≡◌, ℕ, ◌+◌, ◌-◌, ◌^◌, ◌≤�
 use Rattle.std.specs.Prelude.{length, map, Option, Some, None, Result, Ok, Err}
 use Rattle.std.specs.List.{AllByRecursion}
 use Rattle.std.specs.declared.alloc.AllocError.{AllocError}
-use Rattle.step_values.specs.Values.{ask_in, SentAsk, Outcome}
+use Rattle.step_values.specs.Values.{ask_in, SentAsk, Outcome, Step}
 use Rattle.forwarder_core.specs.StepTable.State.{Running}
 use Rattle.forwarder_core.specs.StepTable.Progress.{left_to_do}
 use Rattle.forwarder_core.specs.TheoremSound.Runs.{Run}
-use Rattle.forwarder_core.specs.TheoremUse.Service.{ServesOnTruly}
+use Rattle.forwarder_core.specs.TheoremUse.Service.{ComesTo, ServesOnTruly}
 use Rattle.serving_loop.specs.declared.counts.Served.{Served}
 use Rattle.serving_loop.specs.declared.looping.Loop.{Loop}
 use Rattle.wires.specs.Wire.{Arrival, Put, Report, Journal, journal, silence, ◌then◌, ReportsMore, arrived}
 use Rattle.serving_loop.specs.Events.{Taken, PutsItsActions, steps_in, Turn, taken_in_turn, taken_in, AreTurns}
 use Rattle.serving_loop.specs.Events.{IsCutShort}
+use Rattle.serving_loop.specs.InTime.{AreInTime}
 
 -- ---- the report of a wire
 
@@ -135,8 +136,8 @@ Ends before wanted all_turns (Err refused) = (whole : List Turn)
     × IsCutShort (map (λ (r : Turn). r.arrival) whole) last)
 
 -- A call of `serve` (`Ends`): its steps are a run of the forwarder, which serves truly after any
--- earlier steps. Its puts are the actions in order. The wire reports just this, and all of it if
--- the wire reported before and counted no fault.
+-- earlier steps; each turn ends in time. Its puts are the actions in order. The wire reports just
+-- this, and all of it if the wire reported before and counted no fault.
 pub record Serves (before : Running) (report_before : Journal) (wanted : ℕ) (result : Result Served AllocError)
     (after : Running) (report_after : Journal) : Type 0 where
   pub all_turns : List Turn
@@ -144,5 +145,7 @@ pub record Serves (before : Running) (report_before : Journal) (wanted : ℕ) (r
   pub config : after.config ≡ before.config
   pub run : Run before.config before.state (steps_in (taken_in all_turns)) after.state
   pub truly : ServesOnTruly before.config before.state (steps_in (taken_in all_turns))
+  pub in_time : (steps : List Step) → ComesTo before.config steps before.state
+      → AreInTime before.config steps all_turns
   pub puts : AllByRecursion PutsItsActions (taken_in all_turns)
   pub report : ReportsMore report_before (report_in all_turns) report_after

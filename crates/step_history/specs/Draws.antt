@@ -1,5 +1,5 @@
 -- The message of an ask, and its drawn path and identifier.
-use Rattle.std.specs.Prelude.{ℕ, ◌%◌, Bool, if◌then◌else◌, ◌&&◌, not, List, [], ◌∷◌, Option, Some, None}
+use Rattle.std.specs.Prelude.{◌≡◌, ℕ, ◌%◌, ◌^◌, ◌<◌, Bool, if◌then◌else◌, ◌&&◌, not, List, [], ◌∷◌, Option, Some, None}
 use Rattle.std.specs.List.{list_any}
 use Rattle.outstanding.specs.declared.ask.Path.{Path}
 use Rattle.outstanding.specs.declared.ask.Path.TheVariants.{Udp}
@@ -18,3 +18,9 @@ abbrev pub drawn : List ℕ → List ShownAsk → List Action → Option (ℕ ×
 drawn [] asks actions = None
 drawn (word ∷ words) asks actions = if is_busy (Udp (port_of word)) asks actions then drawn words asks actions
     else Some (word % 65536, port_of word)
+
+-- a word of 32 bits that draws this identifier and this port
+pub record DrawsPair (id port word : ℕ) : Type 0 where
+  pub small : word < 2 ^ 32
+  pub identifier : word % 65536 ≡ id
+  pub port_is : port_of word ≡ port

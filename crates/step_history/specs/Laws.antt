@@ -1,5 +1,5 @@
 -- Consequences of the definitions.
-use Rattle.std.specs.Prelude.{◌≡◌, ℕ, ◌^◌, ◌≤◌, false, List, ◌∷◌, ◌++◌}
+use Rattle.std.specs.Prelude.{◌≡◌, ℕ, ◌+◌, ◌*◌, ◌-◌, ◌^◌, ◌<◌, ◌≤◌, false, List, ◌∷◌, ◌++◌}
 use Rattle.suffix_routes.specs.Values.{Config, HasNeither}
 use Rattle.suffix_routes.specs.Routes.{IsRouteOf}
 use Rattle.cache_laws.specs.Serving.{IsServedBy}
@@ -11,6 +11,7 @@ use Rattle.step_history.specs.History.{is_restart, InEra, Look, moment_at}
 use Rattle.step_history.specs.Carried.{CarriedInEra}
 use Rattle.step_history.specs.Causes.{AllTriesFailed, LastFailed, ClosesNow, Cause, AnswerIsTooLarge}
 use Rattle.step_history.specs.Sound.{RightReply}
+use Rattle.step_history.specs.Draws.{DrawsPair}
 
 -- Within an era moments never fall.
 abbrev pub MomentsNeverFall : Type 0
@@ -44,3 +45,13 @@ pub record AddsNothing (l : Look) (client : Client) (request octets : List ℕ) 
 abbrev pub FirstVersionStandsAlone : Type 0
 FirstVersionStandsAlone = (l : Look) (client : Client) (request octets : List ℕ) (waiting : ℕ) → HasNeither l.config
     → AddsNothing l client request octets waiting
+
+-- Of three different words, not all draw one pair: two of 2^32 words draw it at most.
+abbrev pub FewWordsDrawAPair : Type 0
+FewWordsDrawAPair = (id port a b c : ℕ) → a < b → b < c → DrawsPair id port a → DrawsPair id port b
+    → DrawsPair id port c → ⊥
+
+-- Each identifier with each port from 1,024 is drawn by a word.
+abbrev pub EachPairIsDrawn : Type 0
+EachPairIsDrawn = (id port : ℕ) → id < 65536 → 1024 ≤ port → port < 65536
+    → DrawsPair id port (id + 65536 * (port - 1024))

@@ -2,6 +2,7 @@
 
 ghost use Rattle.step_history.specs.Laws.{FirstVersionStandsAlone, MomentsAreInTime, MomentsNeverFall};
 ghost use Rattle.step_history.specs.Laws.{TriesAreTheLastOfTheEra, WhatWasCarriedStaysSo};
+ghost use Rattle.step_history.specs.Laws.{EachPairIsDrawn, FewWordsDrawAPair};
 
 /// The effective moment never falls from step to step of an era, and is at most 2^62 milliseconds.
 pub fn moments_never_fall()
@@ -24,4 +25,11 @@ pub fn tries_are_the_last_of_the_era()
 /// version 1: no reply of the two further kinds is right.
 pub fn first_version_stands_alone()
     ensures { FirstVersionStandsAlone }
+{}
+
+/// Who guesses identifier and port of a query by UDP hits with one or two of 2^32 words (RFC 5452
+/// 9.2).
+pub fn pairs_are_drawn_by_few_words()
+    ensures few { FewWordsDrawAPair }
+    ensures each { EachPairIsDrawn }
 {}

@@ -6,6 +6,6 @@
 mod laws;
 
 pub use laws::{
-    first_version_stands_alone, moments_never_fall, tries_are_the_last_of_the_era,
-    what_was_carried_stays_so,
+    first_version_stands_alone, moments_never_fall, pairs_are_drawn_by_few_words,
+    tries_are_the_last_of_the_era, what_was_carried_stays_so,
 };

@@ -324,17 +324,17 @@ fn an_event_that_finds_no_memory(rt: HostRuntime) {
 /// The result of a service without turns.
 #[derive(Clone, Copy, PartialEq, Eq)]
 enum Served {
-    /// Memory ran out.
+    /// Memory ran out, and nothing was printed.
     Memory,
     /// The service ended well, and printed the counts.
     Whole,
     Other,
 }
 
-fn served_of(ended: &Result<(), Fault>, is_counted: bool) -> Served {
+fn served_of(ended: &Result<(), Fault>, printed: &[u8]) -> Served {
     match ended {
-        Ok(()) if is_counted => Served::Whole,
-        Err(Fault::Stopped(ReplayFault::Memory)) => Served::Memory,
+        Ok(()) if printed == COUNTED => Served::Whole,
+        Err(Fault::Stopped(ReplayFault::Memory)) if printed.is_empty() => Served::Memory,
         _ => Served::Other,
     }
 }
@@ -353,7 +353,7 @@ fn served_with(rt: &HostRuntime, heap: &Refusing<Global>, granted: u64) -> Serve
     heap.allow(granted);
     let ended = serve_config(rt, heap, config, turns, &mut printed);
     heap.allow(u64::MAX);
-    served_of(&ended, printed.as_slice() == COUNTED)
+    served_of(&ended, printed.as_slice())
 }
 
 /// The fewest allocations with enough memory, and the service's result then.

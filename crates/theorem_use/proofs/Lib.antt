@@ -17,6 +17,7 @@ pub mod Asked
 pub mod AskRows
 pub mod AskHistory
 pub mod Theorem
+pub mod InTime
 pub mod CallerLemmas
 pub mod Worked
 pub mod WorkedAsks

@@ -5,5 +5,6 @@ pub mod Recent
 pub mod Asking
 pub mod Mirrors
 pub mod Service
+pub mod InTime
 pub mod Laws
 pub use Rattle.theorem_sound.specs as TheoremSound

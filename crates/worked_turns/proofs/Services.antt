@@ -1,7 +1,7 @@
 -- A call of the service for one turn, in which nothing arrives and a tick has nothing to do, with
 -- the line that it prints. Neighbours want one turn more, print another number, or lose the octets
 -- before the line.
-use Rattle.std.proofs.Common.{◌≡◌, ℕ, List, [], ◌∷◌, ◌++◌, false, Some, Ok, refl, sym, ap, ◌∙◌, subst, arith}
+use Rattle.std.proofs.Common.{◌≡◌, ℕ, List, [], ◌∷◌, ◌++◌, false, Some, Ok, refl, sym, ap, ◌∙◌, subst, append-nil, arith}
 use Rattle.std.specs.Prelude.{get_or}
 use Rattle.std.specs.Fmt.{digits}
 use Rattle.std.specs.Io.KnownBytes.{Appends}
@@ -11,7 +11,8 @@ use Rattle.step_values.specs.Values.{tick, Step}
 use Rattle.step_table.specs.State.{Running}
 use Rattle.step_table.specs.Steps.{initial}
 use Rattle.step_table.specs.Row.{Row}
-use Rattle.forwarder_commands.proofs.TheoremUse.CallerLemmas.{run_serves_on}
+use Rattle.forwarder_commands.specs.ServingLoop.TheoremUse.Service.{ComesTo}
+use Rattle.forwarder_commands.proofs.TheoremUse.CallerLemmas.{run_serves_on, came_more, nothing_more_is_due}
 use Rattle.wires.specs.Wire.{nothing, Report, Journal, journal, silence, ◌then◌}
 use Rattle.forwarder_commands.specs.ServingLoop.declared.counts.Served.{Served}
 use Rattle.forwarder_commands.specs.ServingLoop.Events.{Taken, Turn}
@@ -70,6 +71,7 @@ serves = record {
   config = refl;
   run = (after.state, row, refl);
   truly = run_serves_on config before.state after.state (ticks ∷ []) (after.state, row, refl);
+  in_time = λ steps came. (nothing_more_is_due config (steps ++ []) ticks after.state (ticked steps came) refl, tt);
   puts = (refl, tt);
   report = record {
     reports = λ now is. (silence, refl, by now is);
@@ -78,6 +80,12 @@ serves = record {
   };
 }
   where
+    ticked : (steps : List Step) → ComesTo config steps before.state
+        → ComesTo config ((steps ++ []) ++ ticks ∷ []) after.state
+    ticked steps came = came_more config config (steps ++ []) ((steps ++ []) ++ ticks ∷ []) before.state after.state
+        ticks.input ticks.outcome refl refl
+        (subst (λ (done : List Step). ComesTo config done before.state) (sym (append-nil steps)) came) row
+
     by : (now : Report) → Some (report_in turns) ≡ Some now → now ≡ silence then report_in turns
     by now is = let same : report_in turns ≡ now = cc in sym same
 

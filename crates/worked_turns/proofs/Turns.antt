@@ -1,6 +1,6 @@
 -- Turns of the loop and their report, and neighbours: an event is left out or another, a tick is
 -- missing, too many, or one more than the bound, and a part of the report is lost.
-use Rattle.std.proofs.Common.{◌≡◌, ℕ, ◌≤◌, List, [], ◌∷◌, length, map, Bool, true, false, Option, Some}
+use Rattle.std.proofs.Common.{◌≡◌, ℕ, ◌≤◌, List, [], ◌∷◌, ◌++◌, length, map, Bool, true, false, Option, Some, None}
 use Rattle.std.proofs.Common.{refl, ap, arith}
 use Rattle.std.proofs.lemmas.Bool.{false≢true}
 use Rattle.tcp_frames.specs.Frames.{frames_within, frames_of}
@@ -8,10 +8,13 @@ use Rattle.suffix_routes.specs.declared.peer.Peer.{Peer}
 use Rattle.suffix_routes.specs.Values.{Config, default_limits}
 use Rattle.outstanding.specs.declared.ask.Path.TheVariants.{Udp}
 use Rattle.step_values.specs.declared.event.Client.TheVariants.{Udp as FromUdp}
-use Rattle.step_values.specs.Values.{Event, from_client, path_failed, tick, ask_udp}
+use Rattle.step_values.specs.Values.{Event, from_client, path_failed, tick, ask_udp, Step}
 use Rattle.wires.specs.Wire.{Arrival, client_datagram, client_stream, Put, Report}
 use Rattle.forwarder_commands.specs.ServingLoop.Events.{Taken, AreChains, AreTicks, Turn, client_message, IsTurn, AreTurns}
 use Rattle.forwarder_commands.specs.ServingLoop.Serving.{report_in}
+use Rattle.forwarder_commands.specs.ServingLoop.InTime.{EndInTime, AreInTime}
+use Rattle.forwarder_commands.specs.ServingLoop.TheoremUse.InTime.{IsInTime}
+use Rattle.forwarder_commands.proofs.TheoremUse.CallerLemmas.{more_is_due}
 use Rattle.worked_turns.proofs.Neighbours.{HoldsButFor}
 
 -- ---- a client's datagram, its event and an ask
@@ -156,6 +159,50 @@ four_ticks = (
   },
   λ h. omega (arith, h.few),
 )
+
+-- ---- a turn whose arrival was refused
+
+abbrev unheard : List (List Taken) → List (List Taken) → Turn
+unheard served ticks = record { arrival = None; served = served; ticks = ticks }
+
+refused_arrival : IsTurn config [] (unheard [] one_tick)
+refused_arrival = record { served = tt; ticks = ((refl, tt), tt); few = omega arith }
+
+-- its tick is left out
+refused_without_a_tick : HoldsButFor (AreTicks true []) (IsTurn config [] (unheard [] []))
+refused_without_a_tick = (λ ticks. record { served = tt; ticks = ticks; few = omega arith }, λ h. h.ticks)
+
+-- an event is served all the same
+refused_but_served : HoldsButFor (AreChains [] sent) (IsTurn config [] (unheard sent one_tick))
+refused_but_served = (λ served. record { served = served; ticks = ((refl, tt), tt); few = omega arith }, λ h. h.served)
+
+-- ---- turns in time
+
+abbrev step : ℕ → Bool → Step
+step now more = record {
+  input = record { now = now; words = now ∷ []; event = tick };
+  outcome = record { actions = []; unkept = 0; more = more };
+}
+
+-- of two ticks the last counts, after the step of the first
+last_counts : (done : List Step) → EndInTime config done (ticks_at 1002 true ∷ ticks_at 1003 false ∷ [])
+    → IsInTime config ((done ++ step 1002 true ∷ []) ++ step 1003 false ∷ [])
+last_counts done h = h
+
+-- after a tick that reports more the turn is late
+late : (done : List Step) → EndInTime config done (ticks_at 1002 true ∷ []) → ⊥
+late done h = more_is_due config done (step 1002 true) refl h
+
+-- a tick without memory says nothing
+unknown : (done : List Step) → EndInTime config done ((record (took 1002 tick [] false) { answer = None } ∷ []) ∷ [])
+unknown done = tt
+
+-- the second of two turns follows the steps of the first
+second_follows : (done : List Step) → AreInTime config done (unheard [] (ticks_at 1002 false ∷ [])
+    ∷ unheard [] (ticks_at 1003 false ∷ []) ∷ [])
+    → IsInTime config ((done ++ []) ++ step 1002 false ∷ [])
+    × IsInTime config (((done ++ step 1002 false ∷ []) ++ []) ++ step 1003 false ∷ [])
+second_follows done h = (h.0, h.1.0)
 
 -- ---- two turns: the first piece of a frame, and its last one
 
