@@ -231,6 +231,7 @@ module _ (c : Config) (past : List Step) (w : List (List ℕ)) (s : State) (x : 
             server = (λ i. peer_at c (facts.route_is i) (facts.server_is i)) ∙ facts.peer_is;
             before = 0;
             used = facts.used_is;
+            few = x.config.limits.tries.0;
             failed = (refl, inl (next_sends l.wanted (Some a) (next_asks l.wanted a facts.question is_question fresh.small), inl none_before));
           }
 
