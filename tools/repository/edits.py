@@ -1,4 +1,5 @@
-"""Edits of sources: a line `file:`, then pairs of lines `old:` and `new:` for this file."""
+"""Edits of sources: a line `file:`, then pairs of lines `old:` and `new:` for this file. A line
+`gone:` names a file that a pair of `tools/wrong_bodies --pairs` leaves out."""
 
 
 def applied(path):

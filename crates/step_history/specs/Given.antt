@@ -21,7 +21,7 @@ pub record EndsAsking (s : Step) (past : List Step) (asked : Question) : Type 0 
   pub none_listed : NoneAsks asked (listed (s ∷ past))
   pub none_sent : (q : Question) → SendsAsk q s.outcome.actions → ⊥
 
--- each step that accepts a reply whose content `EndsHere` also `EndsAsking`
+-- a step that accepts a reply whose content has its end also ends the asking for its question
 abbrev pub GivesWhatCame : Config → List Step → Type 0
 GivesWhatCame c [] = Unit {0}
 GivesWhatCame c (s ∷ past) =
