@@ -150,6 +150,18 @@ pub record AsksUnserved (l : Look) (octets : List ℕ) : Type 0 where
   pub reads : Reads octets question
   pub unserved : is_unserved question ≡ true
 
+-- at once: as many asks are listed as may be, and none of them is for the question, or for the one
+-- that aliases lead to
+pub record InquiriesAreFull (l : Look) (octets : List ℕ) : Type 0 where
+  pub at_once : l.now ≡ l.asked ∷ l.before
+  pub full : length (listed l.before) ≡ l.config.limits.inquiries
+  pub question : Question
+  pub reads : Reads octets question
+  pub aliases : List Held
+  pub last : Question
+  pub leads : Leads l question aliases last
+  pub none_asks : NoneAsks last (listed l.before)
+
 -- all tries of one inquiry failed, the last in the newest step, for the question or the one that
 -- aliases lead to; and no ask for it is listed
 pub record AllTriesFailed (l : Look) (octets : List ℕ) : Type 0 where
@@ -218,8 +230,7 @@ Cause l client octets waiting BadFormat = (l.now ≡ l.asked ∷ l.before) × ((
 Cause l client octets waiting NotServed = AsksUnserved l octets
 Cause l client octets waiting NoRoute = HasNoRoute l octets
 Cause l client octets waiting QuestionsFull = (l.now ≡ l.asked ∷ l.before) × (waiting ≡ l.config.limits.questions)
-Cause l client octets waiting InquiriesFull = (l.now ≡ l.asked ∷ l.before)
-    × (length (listed l.before) ≡ l.config.limits.inquiries)
+Cause l client octets waiting InquiriesFull = InquiriesAreFull l octets
 Cause l client octets waiting NoPort = NoPathIsFree l
 Cause l client octets waiting Exhausted = AllTriesFailed l octets
 Cause l client octets waiting Deadline = IsOverdue l

@@ -8,6 +8,7 @@ pub mod Draws
 pub mod Causes
 pub mod Sound
 pub mod Asked
+pub mod Given
 pub mod Accounting
 pub mod Laws
 pub use Rattle.cache_laws.specs as CacheLaws

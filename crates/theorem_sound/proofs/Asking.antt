@@ -59,6 +59,7 @@ tried_on c s past a run left h = record {
   server = h.server;
   before = h.before;
   used = h.used;
+  few = h.few;
   failed = by h.before h.failed;
 }
   where

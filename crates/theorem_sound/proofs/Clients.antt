@@ -175,11 +175,18 @@ module _ (c : Config) (past : List Step) (w : List (List ℕ)) (s : State) (x : 
       is_question : IsQuestion l.wanted
       is_question = question_led (look_from c (step []) past (step [] ∷ past)) q l.wanted l.held (read_well request q are_octets reads) (right []).follows
 
+      leads_now : (actions : List Action) → Leads (look_from c (step actions) past (step actions ∷ past)) q l.held l.wanted
+      leads_now actions = record { few = subst (λ (m : LookUpEnd). IsSized m (length l.held)) met (right actions).sized; follows = (right actions).follows }
+
+      -- no ask for the wanted question was listed
+      none_before : of_question l.wanted s.asks ≡ None → NoneAsks l.wanted (listed past)
+      none_before new = subst (NoneAsks l.wanted) x.asks (none_asks c past l.wanted s.asks x.tried (none_same l.wanted s.asks new))
+
       waits_now : (actions : List Action) → Waits c (step actions ∷ past) z (length past)
       waits_now actions = record {
         comes = comes actions;
         moment = moment;
-        leads = record { few = subst (λ (m : LookUpEnd). IsSized m (length l.held)) met (right actions).sized; follows = (right actions).follows };
+        leads = leads_now actions;
         can_write = subst (λ (t : ℕ). AllByRecursion (CanBeWrittenAt t) l.held) moment (right actions).can_write;
       }
 
@@ -218,10 +225,6 @@ module _ (c : Config) (past : List Step) (w : List (List ℕ)) (s : State) (x : 
           after : State
           after = record s { cache = used; asks = s.asks ++ a ∷ []; waiting = s.waiting ++ z ∷ []; moment = n; tcp_asks = s.tcp_asks + tcp_count (Some a) }
 
-          -- no ask for the wanted question was listed
-          none_before : NoneAsks l.wanted (listed past)
-          none_before = subst (NoneAsks l.wanted) x.asks (none_asks c past l.wanted s.asks x.tried (none_same l.wanted s.asks new))
-
           next : IsNext c (step (asks a ∷ []) ∷ past) l.wanted a
           next = record {
             question = facts.question;
@@ -231,7 +234,8 @@ module _ (c : Config) (past : List Step) (w : List (List ℕ)) (s : State) (x : 
             server = (λ i. peer_at c (facts.route_is i) (facts.server_is i)) ∙ facts.peer_is;
             before = 0;
             used = facts.used_is;
-            failed = (refl, inl (next_sends l.wanted (Some a) (next_asks l.wanted a facts.question is_question fresh.small), inl none_before));
+            few = x.config.limits.tries.0;
+            failed = (refl, inl (next_sends l.wanted (Some a) (next_asks l.wanted a facts.question is_question fresh.small), inl (none_before new)));
           }
 
           free : ask_on a.path s.asks ≡ None
@@ -273,7 +277,19 @@ module _ (c : Config) (past : List Step) (w : List (List ℕ)) (s : State) (x : 
       )
       inquired room None new =
           cond_both (nat_le c.limits.inquiries (length s.asks)) _ _ P
-          (λ t. refused used used_is _ InquiriesFull takes (λ e. cc) (can_write InquiriesFull, (refl, asks_number ∙ is_full c.limits.inquiries (length s.asks) t x.asks_are.few)))
+          (λ t. refused used used_is _ InquiriesFull takes (λ e. cc) (
+            can_write InquiriesFull,
+            record {
+              at_once = refl;
+              full = asks_number ∙ is_full c.limits.inquiries (length s.asks) t x.asks_are.few;
+              question = q;
+              reads = reads;
+              aliases = l.held;
+              last = l.wanted;
+              leads = leads_now (gives_up InquiriesFull z ∷ []);
+              none_asks = none_before new;
+            },
+          ))
           (λ f. subst (λ (r : Option Ask). P (row_of_opening n z (record s { cache = used }) r)) (sym (ap (first_ask_on (start c n words s) l.wanted) on))
           (opened room (has_room c.limits.inquiries (length s.asks) f) new (first_ask (start c n words s) l.wanted route) refl))
 

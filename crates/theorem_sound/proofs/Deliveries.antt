@@ -36,7 +36,7 @@ use Rattle.step_history.specs.Causes.{NoneAsks, AcceptsFor}
 use Rattle.step_history.specs.Draws.{drawn}
 use Rattle.step_history.specs.Asked.{IsDrawn}
 use Rattle.step_history.specs.Replies.{failure_text}
-use Rattle.step_history.proofs.CallerLemmas.{moment_small, accepted_fine, accepted_pieces, walk_accepted, walk_accepted-asked, walk_accepted-end}
+use Rattle.step_history.proofs.CallerLemmas.{moment_small, accepted_fine, accepted_pieces, accepted_end, walk_accepted, walk_accepted-asked, walk_accepted-end}
 use Rattle.step_history.proofs.CacheLaws.CallerLemmas.{serves_exactly}
 use Rattle.step_table.specs.State.{State, start}
 use Rattle.waiting_questions.specs.Values.{Waiting, waits_for}
@@ -90,6 +90,10 @@ module _ (c : Config) (past : List Step) (w : List (List ℕ)) (s : State) (x : 
     pub fine : is_lame (walk_of c message ask.question ask.route).end ≡ false
     pub carried : List Piece
     pub carried_are : carried ≡ (walk_of c message ask.question ask.route).pieces ++ (walk_of c message ask.question ask.route).authority
+    pub asked : Question
+    pub asked_is : asked ≡ ask.question
+    pub end : End
+    pub end_is : end ≡ (walk_of c message ask.question ask.route).end
 
   pub heard : (actions : List Action) (ps : List Piece) → Carries c (can_write actions) past ps → IsHeard
   heard actions ps k = record {
@@ -102,6 +106,10 @@ module _ (c : Config) (past : List Step) (w : List (List ℕ)) (s : State) (x : 
     fine = subst (λ (z : Question × ℕ). is_lame (walk_of c accepts.message z.0 z.1).end ≡ false) (λ i. (question_is i, route_is i)) (accepted_fine c (can_write actions) past k.pieces k.servers x.config.differ accepts);
     carried = ps;
     carried_are = k.are ∙ accepted_pieces c (can_write actions) past k.pieces k.servers x.config.differ accepts ∙ (λ i. (walk_of c accepts.message (question_is i) (route_is i)).pieces ++ (walk_of c accepts.message (question_is i) (route_is i)).authority);
+    asked = accepts.asked;
+    asked_is = question_is;
+    end = accepts.end;
+    end_is = sym (accepted_end c (can_write actions) past k.pieces k.servers x.config.differ accepts) ∙ (λ i. (walk_of c accepts.message (question_is i) (route_is i)).end);
   }
     where
       accepts : Accepts c (can_write actions) past k.pieces k.servers
@@ -174,6 +182,15 @@ module _ (c : Config) (past : List Step) (w : List (List ℕ)) (s : State) (x : 
   pub heard_carried : (actions : List Action) (ps : List Piece) (k : Carries c (can_write actions) past ps) → (heard actions ps k).carried ≡ ps
   unfolding heard
   heard_carried actions ps k = refl
+
+  -- its question and its end are the accepted ones
+  pub heard_asked : (actions : List Action) (ps : List Piece) (k : Carries c (can_write actions) past ps) → (heard actions ps k).asked ≡ k.accepts.asked
+  unfolding heard
+  heard_asked actions ps k = refl
+
+  pub heard_end : (actions : List Action) (ps : List Piece) (k : Carries c (can_write actions) past ps) → (heard actions ps k).end ≡ k.accepts.end
+  unfolding heard
+  heard_end actions ps k = refl
 
   quiet : (IsHeard → ⊥) → (actions : List Action) → NothingAccepted c (can_write actions) past
   quiet none actions ps k = none (heard actions ps k)
@@ -303,6 +320,10 @@ module _ (c : Config) (past : List Step) (w : List (List ℕ)) (s : State) (x : 
       speak_by fate' actions each = subst (AllByRecursion Speaks) (fated_fates fate' x.numbers_of ∙ ap (map fate') x.waiting)
           (fated_speak c (can_write actions ∷ past) (fated fate' x.numbers_of) (fated_each (OwnsReply c (can_write actions ∷ past)) (Waits c (can_write actions ∷ past)) (Waits c past) fate' x.numbers_of each x.waits))
 
+      -- the fates are replies, or none
+      pub fates_speak : AllByRecursion Speaks (map fate s.waiting)
+      fates_speak = speak_by fate [] (fates [])
+
       preferred : ArePreferred c.routes (slice_set s.preferred a.route a.server)
       preferred = preferred_put c.routes s.preferred a.route a.server x.preferred (λ r there. subst (λ (o : Option Route). a.server < length (servers_in o)) there (peer_within c a.route a.server a.peer tried_a.server))
 
@@ -360,7 +381,7 @@ module _ (c : Config) (past : List Step) (w : List (List ℕ)) (s : State) (x : 
 
             no_draw : drawn words (listed past) (done (unless_no_port fate a.question) None) ≡ None
             no_draw =
-                drawn_is (unless_no_port fate a.question) None (no_port_speaks fate a.question s.waiting (speak_by fate [] (fates [])))
+                drawn_is (unless_no_port fate a.question) None (no_port_speaks fate a.question s.waiting fates_speak)
                 ∙ udp-none draw (ask_by-none n q new.route place 1 (peer_at c new.route place) peer.0 (over_udp draw) peer.1 none)
 
             one : (v : Fate) (i : ℕ) → Fated (OwnsReply c (told_by (unless_no_port fate a.question) None ∷ past)) (Waits c (told_by (unless_no_port fate a.question) None ∷ past)) v i
@@ -380,7 +401,7 @@ module _ (c : Config) (past : List Step) (w : List (List ℕ)) (s : State) (x : 
             (next_tried c (told_by fate (Some next) ∷ past) q next first, tt)
             (subst (IsBelow (s.tcp_asks + tcp_count (Some next))) (sym drawn_path.1) tt, tt)
             (next_right c (told_by fate (Some next)) past (told_by fate (Some next) ∷ past) q next first
-            (subst (IsDrawn (told_by fate (Some next)) past next.id) (sym drawn_path.1) (drawn_is fate (Some next) (speak_by fate [] (fates [])) ∙ drawn_path.2)))
+            (subst (IsDrawn (told_by fate (Some next)) past next.id) (sym drawn_path.1) (drawn_is fate (Some next) fates_speak ∙ drawn_path.2)))
           where
             facts : IsAskBy n q new.route place 1 (peer_at c new.route place) (over_udp draw) next
             facts = ask_by-some n q new.route place 1 (peer_at c new.route place) (over_udp draw) next is
@@ -410,6 +431,7 @@ module _ (c : Config) (past : List Step) (w : List (List ℕ)) (s : State) (x : 
               server = (λ i. peer_at c (facts.route_is i) (facts.server_is i)) ∙ facts.peer_is;
               before = 0;
               used = facts.used_is;
+              few = x.config.limits.tries.0;
               failed = (refl, inl (settled_sends q (Some a) (map fate s.waiting) (Some next) (next_asks q next facts.question new.is_question fresh.small), begun (same_question a.question q) refl));
             }
 

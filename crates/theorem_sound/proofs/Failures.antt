@@ -2,7 +2,7 @@
 use Rattle.std.proofs.Common.{◌≡◌, ◌⊎◌, ℕ, zero, suc, ◌+◌, ◌-◌, ◌^◌, ◌<◌, ◌≤◌, List, [], ◌∷◌, ◌++◌, length, Bool, true, false, cond, refl, sym, ap, ◌∙◌, subst, inl, inr, arith, Option, Some, None}
 use Rattle.std.specs.Prelude.{Result, Ok, Err, ◌==◌, min, max, map}
 use Rattle.std.specs.List.{AllByRecursion}
-use Rattle.std.proofs.lemmas.Bool.{cond_both, cond-false, eqb-true, true≢false}
+use Rattle.std.proofs.lemmas.Bool.{cond_both, cond-false, eqb-true, eqb-false, true≢false}
 use Rattle.std.proofs.lemmas.List.{length-map, append-nil}
 use Rattle.dns_message.specs.Values.{Question}
 use Rattle.dns_message.specs.Questions.{same_question}
@@ -50,7 +50,7 @@ use Rattle.theorem_sound.proofs.Fates.{Fated, fates_in, fated, fated_fates, fate
 use Rattle.theorem_sound.proofs.Asking.{closes_one, others_tried_on, none_asks}
 use Rattle.theorem_sound.proofs.Listed.{on_path-shown, drawn-shown}
 use Rattle.theorem_sound.proofs.Tries.{same_question-refl, next_asks, settled_sends, sends_settled, next_asks_none, failed_alike}
-use Rattle.theorem_sound.proofs.Nexts.{IsNext, next_tried, next_right, MayFollow, listed_next, all_below, gave_up, asked_next, asked_again}
+use Rattle.theorem_sound.proofs.Nexts.{IsNext, next_tried, next_right, MayFollow, listed_next, all_below, gave_up, tries_left, asked_next, asked_again}
 use Rattle.theorem_sound.proofs.Actions.{OwnsReply, Speaks, AskedAt, IsRightNext, listed_settled, closes_settled}
 use Rattle.theorem_sound.proofs.Cases.{step_of, waits_later, idle_explained, settled_explained}
 use Rattle.step_history.proofs.CallerLemmas.{moment_small}
@@ -283,11 +283,11 @@ module _ (c : Config) (past : List Step) (w : List (List ℕ)) (s : State) (x : 
           tt tt tt tt tt x.preferred (cached_now (actions_by (map (fails NoPort a.question) s.waiting) None))
 
       -- the next ask goes out
-      next_row : (next : Ask) (server : ℕ) (peer : Option Peer) (draw : Option (ℕ × Path)) → IsAskBy n a.question a.route server (a.used + 1) peer draw next → peer_at c a.route server ≡ peer
+      next_row : ((a.used == c.limits.tries) ≡ false) → (next : Ask) (server : ℕ) (peer : Option Peer) (draw : Option (ℕ × Path)) → IsAskBy n a.question a.route server (a.used + 1) peer draw next → peer_at c a.route server ≡ peer
           → next.id < 2 ^ 16 → ask_on next.path (without_path a.path s.asks) ≡ None → IsBelow (s.tcp_asks + tcp_count (Some next)) next.path
           → IsDrawn (step (actions_by (map (λ y. waits y) s.waiting) (Some next))) past next.id next.path
           → P (closing_step n a (λ y. waits y) (Some next) s)
-      next_row next server peer draw facts there small free below drawn_so = closed_row (λ y. waits y) (Some next) s.preferred s.cache 0 (waits_speak s.waiting)
+      next_row left next server peer draw facts there small free below drawn_so = closed_row (λ y. waits y) (Some next) s.preferred s.cache 0 (waits_speak s.waiting)
           (λ y i was. waits_later c (step (actions_by (map (λ y. waits y) s.waiting) (Some next))) past y i (on_now (actions_by (map (λ z. waits z) s.waiting) (Some next))) was)
           facts.asked
           (next_begins s.asks a.path a next x.asks_are.by_arrival on same free later in_time, let fewer = without_shorter a.path s.asks a on in let few = x.asks_are.few in omega (arith, fewer, few))
@@ -314,6 +314,11 @@ module _ (c : Config) (past : List Step) (w : List (List ℕ)) (s : State) (x : 
             server = (λ i. peer_at c (facts.route_is i) (facts.server_is i)) ∙ there ∙ facts.peer_is;
             before = suc tried_a.before;
             used = facts.used_is ∙ (let was : a.used ≡ suc tried_a.before = tried_a.used in omega (arith, was));
+            few =
+                let one_more : ¬ (c.limits.tries ≤ suc tried_a.before) = λ k.
+                eqb-false a.used c.limits.tries left
+                (let was : a.used ≡ suc tried_a.before = tried_a.used in let few = tried_a.few in omega (arith, k, was, few)) in
+                omega (arith, one_more);
             failed = (
               runs,
               inl (
@@ -324,26 +329,26 @@ module _ (c : Config) (past : List Step) (w : List (List ℕ)) (s : State) (x : 
             );
           }
 
-      udp_row : (server : ℕ) (p : Peer) → peer_at c a.route server ≡ Some p → (r : Option Ask) → next_ask (start c n words s) a (AskUdp server) ≡ r → P (row_of_attempt n a s r)
-      udp_row server p there None none = no_path_row refl (inl (udp_drawn (map (fails NoPort a.question) s.waiting) None (fails_speak NoPort a.question s.waiting)
+      udp_row : ((a.used == c.limits.tries) ≡ false) → (server : ℕ) (p : Peer) → peer_at c a.route server ≡ Some p → (r : Option Ask) → next_ask (start c n words s) a (AskUdp server) ≡ r → P (row_of_attempt n a s r)
+      udp_row left server p there None none = no_path_row refl (inl (udp_drawn (map (fails NoPort a.question) s.waiting) None (fails_speak NoPort a.question s.waiting)
           ∙ udp-none (udp_draw words s.asks (freed_by a.path)) (ask_by-none n a.question a.route server (a.used + 1) (peer_at c a.route server) p (over_udp (udp_draw words s.asks (freed_by a.path))) there none)))
-      udp_row server p there (Some next) is =
+      udp_row left server p there (Some next) is =
           let facts = ask_by-some n a.question a.route server (a.used + 1) (peer_at c a.route server) (over_udp (udp_draw words s.asks (freed_by a.path))) next is in
           let draw = udp-some (udp_draw words s.asks (freed_by a.path)) next.id next.path facts.drawn_is in
           let fresh = drawn_fresh words s.asks (freed_by a.path) next.id draw.0 draw.2 in
-          next_row next server (peer_at c a.route server) (over_udp (udp_draw words s.asks (freed_by a.path))) facts refl fresh.small
+          next_row left next server (peer_at c a.route server) (over_udp (udp_draw words s.asks (freed_by a.path))) facts refl fresh.small
           (ap (λ (q : Path). ask_on q (without_path a.path s.asks)) draw.1 ∙ free_then a.path draw.0 s.asks fresh.free)
           (subst (IsBelow (s.tcp_asks + tcp_count (Some next))) (sym draw.1) tt)
           (subst (IsDrawn (step (actions_by (map (λ y. waits y) s.waiting) (Some next))) past next.id) (sym draw.1) (udp_drawn (map (λ y. waits y) s.waiting) (Some next) (waits_speak s.waiting) ∙ draw.2))
 
-      tcp_row : (server : ℕ) (p : Peer) → peer_at c a.route server ≡ Some p → (r : Option Ask) → next_ask (start c n words s) a (AskTcp server) ≡ r → P (row_of_attempt n a s r)
-      tcp_row server p there None none = no_path_row refl (inr (sym x.tcp
+      tcp_row : ((a.used == c.limits.tries) ≡ false) → (server : ℕ) (p : Peer) → peer_at c a.route server ≡ Some p → (r : Option Ask) → next_ask (start c n words s) a (AskTcp server) ≡ r → P (row_of_attempt n a s r)
+      tcp_row left server p there None none = no_path_row refl (inr (sym x.tcp
           ∙ drawn_last words s.tcp_asks (tcp-none (drawn_by_tcp words s.tcp_asks) (ask_by-none n a.question a.route server (a.used + 1) (peer_at c a.route server) p (over_tcp (drawn_by_tcp words s.tcp_asks)) there none))))
-      tcp_row server p there (Some next) is =
+      tcp_row left server p there (Some next) is =
           let facts = ask_by-some n a.question a.route server (a.used + 1) (peer_at c a.route server) (over_tcp (drawn_by_tcp words s.tcp_asks)) next is in
           let draw = tcp-some (drawn_by_tcp words s.tcp_asks) next.id next.path facts.drawn_is in
           let numbered = drawn_numbered words s.tcp_asks next.id draw.0 draw.2 in
-          next_row next server (peer_at c a.route server) (over_tcp (drawn_by_tcp words s.tcp_asks)) facts refl numbered.small
+          next_row left next server (peer_at c a.route server) (over_tcp (drawn_by_tcp words s.tcp_asks)) facts refl numbered.small
           (ap (λ (q : Path). ask_on q (without_path a.path s.asks)) draw.1 ∙ none_above draw.0 s.tcp_asks (without_path a.path s.asks) (let is : draw.0 ≡ s.tcp_asks = numbered.number in omega (arith, is)) (All-filter (λ b. IsBelow s.tcp_asks b.path) (λ b. Rattle.std.specs.Prelude.not (same_path b.path a.path)) s.asks x.connections))
           (new_below next.path draw.0 draw.1 numbered.number)
           (subst (IsDrawn (step (actions_by (map (λ y. waits y) s.waiting) (Some next))) past next.id) (sym draw.1) (ap (drawn_by_tcp words) (sym x.tcp) ∙ draw.2))
@@ -360,7 +365,10 @@ module _ (c : Config) (past : List Step) (w : List (List ℕ)) (s : State) (x : 
       pub failure_row : (f : Failure) → P (row_of_failure (start c n words s) a f)
       failure_row f = by (after_failure (plan_of c a) f) refl
         where
+          left : (v : Next) → (v ≡ GiveUp → ⊥) → after_failure (plan_of c a) f ≡ v → (a.used == c.limits.tries) ≡ false
+          left v goes_on is = tries_left (a.used == c.limits.tries) (plan_of c a).tcp f (plan_of c a) (λ over. goes_on (sym is ∙ over))
+
           by : (v : Next) → after_failure (plan_of c a) f ≡ v → P (row_of_next (start c n words s) a v)
-          by (AskUdp server) is = let there = next_there server (asked_next (a.used == c.limits.tries) (plan_of c a).tcp f (plan_of c a) server is) in udp_row server there.0 there.1 (next_ask (start c n words s) a (AskUdp server)) refl
-          by (AskTcp server) is = let same : server ≡ a.server = asked_again (a.used == c.limits.tries) (plan_of c a).tcp f (plan_of c a) server is in tcp_row server a.peer (ap (peer_at c a.route) same ∙ tried_a.server) (next_ask (start c n words s) a (AskTcp server)) refl
+          by (AskUdp server) is = let there = next_there server (asked_next (a.used == c.limits.tries) (plan_of c a).tcp f (plan_of c a) server is) in udp_row (left (AskUdp server) (λ e. absurd (cc)) is) server there.0 there.1 (next_ask (start c n words s) a (AskUdp server)) refl
+          by (AskTcp server) is = let same : server ≡ a.server = asked_again (a.used == c.limits.tries) (plan_of c a).tcp f (plan_of c a) server is in tcp_row (left (AskTcp server) (λ e. absurd (cc)) is) server a.peer (ap (peer_at c a.route) same ∙ tried_a.server) (next_ask (start c n words s) a (AskTcp server)) refl
           by GiveUp is = exhausted_row (gave_up (a.used == c.limits.tries) (plan_of c a).tcp f (plan_of c a) is)

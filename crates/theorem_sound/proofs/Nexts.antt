@@ -38,6 +38,7 @@ pub record IsNext (c : Config) (now : List Step) (q : Question) (a : Ask) : Type
   pub server : peer_at c a.route a.server ≡ Some a.peer
   pub before : ℕ
   pub used : a.used ≡ suc before
+  pub few : before < c.limits.tries
   pub failed : FailedSoFar c q now before
 
 pub next_tried : (c : Config) (now : List Step) (q : Question) (a : Ask) → IsNext c now q a → Tried c now a
@@ -51,6 +52,7 @@ next_tried c now q a next =
       server = next.server;
       before = next.before;
       used = next.used;
+      few = next.few;
       failed = subst (λ (z : Question). FailedSoFar c z now next.before) (sym next.question) next.failed;
     }
 
@@ -96,6 +98,11 @@ gave_up false false Malformed plan e = absurd (cc)
 gave_up false false Rcode plan e = absurd (cc)
 gave_up false false Lame plan e = absurd (cc)
 gave_up false true f plan e = absurd (cc)
+
+-- an ask follows only if a try is left
+pub tries_left : (b tcp : Bool) (f : Failure) (plan : Plan) → (row b tcp f plan ≡ GiveUp → ⊥) → b ≡ false
+tries_left true tcp f plan goes_on = absurd (goes_on refl)
+tries_left false tcp f plan goes_on = refl
 
 pub asked_next : (b tcp : Bool) (f : Failure) (plan : Plan) (k : ℕ) → row b tcp f plan ≡ AskUdp k → k ≡ next_server plan
 asked_next true tcp f plan k e = absurd (cc)

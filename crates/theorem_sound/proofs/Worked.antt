@@ -246,6 +246,7 @@ tried = record {
   server = refl;
   before = 0;
   used = refl;
+  few = omega arith;
   failed = (refl, inl (inl (address a, refl, refl), inl tt));
 }
 

@@ -58,7 +58,7 @@ pub record Waits (c : Config) (now : List Step) (x : Waiting) (i : ℕ) : Type 0
   pub can_write : AllByRecursion (CanBeWrittenAt (moment_at now)) x.held
 
 -- the listed ask's text has its question and identifier, its server is at its place on the name's
--- route, and the earlier tries of its inquiry failed
+-- route, and the earlier tries of its inquiry, fewer than `tries`, failed
 pub record Tried (c : Config) (now : List Step) (a : Ask) : Type 0 where
   pub question : IsQuestion a.question
   pub reads : Reads (written (ask_message a.id a.question)) a.question
@@ -67,6 +67,7 @@ pub record Tried (c : Config) (now : List Step) (a : Ask) : Type 0 where
   pub server : peer_at c a.route a.server ≡ Some a.peer
   pub before : ℕ
   pub used : a.used ≡ suc before
+  pub few : before < c.limits.tries
   pub failed : FailedSoFar c a.question now before
 
 -- the history is sound, and explains the state with its owners

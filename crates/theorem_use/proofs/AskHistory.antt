@@ -64,7 +64,7 @@ all_wanted : (P : Waiting → Type 0) (Q : Question → Type 0) → ((x : Waitin
 all_wanted P Q f [] all = tt
 all_wanted P Q f (x ∷ xs) all = (f x all.0, all_wanted P Q f xs all.1)
 
-all_shown : (R P : Ask → Type 0) (Q : ShownAsk → Type 0) → ((a : Ask) → R a → P a → Q (shown a)) → (asks : List Ask)
+pub all_shown : (R P : Ask → Type 0) (Q : ShownAsk → Type 0) → ((a : Ask) → R a → P a → Q (shown a)) → (asks : List Ask)
     → AllByRecursion R asks → AllByRecursion P asks → AllByRecursion Q (map shown asks)
 all_shown R P Q f [] reads all = tt
 all_shown R P Q f (a ∷ asks) reads all = (f a reads.0 all.0, all_shown R P Q f asks reads.1 all.1)

@@ -16,6 +16,7 @@ pub mod Messages
 pub mod Asked
 pub mod AskRows
 pub mod AskHistory
+pub mod Given
 pub mod Theorem
 pub mod InTime
 pub mod CallerLemmas

@@ -200,7 +200,7 @@ module _ (c : Config) (past : List Step) (w : List (List ℕ)) (s : State) (x : 
       same_ask h = let one : Some h.ask ≡ Some a = sym h.on ∙ on in let same : h.ask ≡ a = cc in same
 
       decide_fine : nat_lt n (timeout_of c a) ≡ true → judge a from octets ≡ Whole → (m : Message) → message_of octets ≡ Ok m → (b : Bool) → is_lame (walk_of c m a.question a.route).end ≡ b → Decided
-      decide_fine live whole m read false fine = inl (record { ask = a; on = on; live = live; whole = whole; message = m; read = read; fine = fine; carried = (walk_of c m a.question a.route).pieces ++ (walk_of c m a.question a.route).authority; carried_are = refl })
+      decide_fine live whole m read false fine = inl (record { ask = a; on = on; live = live; whole = whole; message = m; read = read; fine = fine; carried = _; carried_are = refl; asked = _; asked_is = refl; end = _; end_is = refl })
       decide_fine live whole m read true lame_is = inr none
         where
           none : Heard → ⊥
@@ -256,7 +256,7 @@ module _ (c : Config) (past : List Step) (w : List (List ℕ)) (s : State) (x : 
         where
           quiet : IsQuiet UsesNone n s.cache d
           quiet = subst (IsQuiet UsesNone n s.cache) (sym is_row) (unheard_is c n words s rooms path from octets
-              (λ a on m live whole read fine. none (record { ask = a; on = on; live = live; whole = whole; message = m; read = read; fine = fine; carried = _; carried_are = refl })))
+              (λ a on m live whole read fine. none (record { ask = a; on = on; live = live; whole = whole; message = m; read = read; fine = fine; carried = _; carried_are = refl; asked = _; asked_is = refl; end = _; end_is = refl })))
 
       module _ (h : Heard) where
         abbrev walk : Walk

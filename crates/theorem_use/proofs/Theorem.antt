@@ -49,6 +49,7 @@ use Rattle.theorem_use.proofs.Recent.{KeepsAfter, UsesThese, delivered, quiet_af
 use Rattle.theorem_use.proofs.Messages.{message_is, recent_is_hit}
 use Rattle.theorem_use.proofs.AskRows.{GivesIfHeard, event_row}
 use Rattle.theorem_use.proofs.AskHistory.{asks_for_waiting}
+use Rattle.theorem_use.proofs.Given.{ends_asking, all_are_tries}
 use Rattle.theorem_use.proofs.AtOnce.{IsHit, is_hit, hit_is, is_hit_so, IsOwnAnswer, hit_is_owned}
 use Rattle.theorem_use.proofs.Ending.{Ends, look_up_ends}
 use Rattle.theorem_use.proofs.Finding.{finds_the_same}
@@ -414,6 +415,12 @@ row_fully_explained c past w s h o s' both r = (
     };
     served = on.served;
     asked = (both.asked, asks_for_waiting c past w s both.explained t (used.0 ∷ w) s' used.1 on);
+    given = (
+      both.given,
+      ends_asking c past w s both.explained h.now h.words o.unkept o.more h.event r.octets d r.happens
+          (used.0 ∷ w) used.1,
+    );
+    tries = (both.tries, all_are_tries c (t ∷ past) (used.0 ∷ w) s' used.1);
   },
 )
   where
@@ -472,6 +479,8 @@ start_fully_explained c config = record {
   };
   served = record { asked = tt; wanting = tt };
   asked = tt;
+  given = tt;
+  tries = tt;
 }
 
 run_fully_explained : (c : Config) (s s' : State) (steps : List Step) (past : List Step) (w : List (List ℕ))
@@ -511,6 +520,8 @@ run_serves_truly c steps s came =
         few = few_wait c (reverse steps) all.0 s one.explained;
       };
       asks = one.explained.asked_well;
+      given = one.given;
+      tries = one.tries;
       waiting = one.asked;
       uses = one.mirrored.uses;
       used = one.recent.used;

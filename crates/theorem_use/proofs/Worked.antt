@@ -350,6 +350,8 @@ nothing_ran : ServesTruly config []
 nothing_ran = record {
   sound = record { owners = []; sound = tt; tells = tt; few = omega arith };
   asks = tt;
+  given = tt;
+  tries = tt;
   waiting = tt;
   uses = tt;
   used = [];

@@ -8,6 +8,7 @@ use Rattle.record_cache.specs.Ageing.{is_alive}
 use Rattle.record_cache.specs.Laws.{Among}
 use Rattle.step_values.specs.Values.{StepInput, Outcome, Step}
 use Rattle.step_history.specs.Carried.{CarriedInEra}
+use Rattle.step_history.specs.Given.{GivesWhatCame, AsksFewTimes}
 use Rattle.step_table.specs.State.{State}
 use Rattle.theorem_sound.specs.TheoremCache.Kept.{IsKept}
 use Rattle.theorem_sound.specs.Explains.{Explains}
@@ -51,13 +52,15 @@ pub record HasRecent (c : Config) (past : List Step) (w : List (List ℕ)) (s : 
   pub uses : UsesWhatIsRecent c past w used
 
 -- `Explains`, `IsMirrored`, `HasRecent`, `AreServed` and `AsksForThoseWhoWait`, with the same
--- owners
+-- owners, `GivesWhatCame` and `AsksFewTimes`
 pub record FullyExplains (c : Config) (past : List Step) (w : List (List ℕ)) (s : State) : Type 0 where
   pub explained : Explains c past w s
   pub mirrored : IsMirrored c past w s
   pub recent : HasRecent c past w s
   pub served : AreServed s.asks s.waiting
   pub asked : AsksForThoseWhoWait c past w
+  pub given : GivesWhatCame c past
+  pub tries : AsksFewTimes c past
 
 -- a history that fully explains s, and this step, fully explain s' for some owners
 abbrev pub StaysFullyExplained : Config → State → StepInput → Outcome → State → Type 0

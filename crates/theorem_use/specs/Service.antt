@@ -4,6 +4,7 @@ use Rattle.suffix_routes.specs.Values.{Config, IsConfig}
 use Rattle.trust_rank.specs.declared.slot.Slot.{Slot}
 use Rattle.step_values.specs.Values.{Step}
 use Rattle.step_history.specs.Asked.{AsksWell}
+use Rattle.step_history.specs.Given.{GivesWhatCame, AsksFewTimes}
 use Rattle.step_table.specs.State.{State}
 use Rattle.step_table.specs.Steps.{initial}
 use Rattle.theorem_sound.specs.Runs.{Run, IsSound}
@@ -32,6 +33,12 @@ pub record ServesTruly (c : Config) (steps : List Step) : Type 0 where
   -- is wanted (RFC 1034 3.6.2). A new ask has the spelling of the wanted question, or of the failed
   -- ask before. With the same owners.
   pub waiting : AsksForThoseWhoWait c (reverse steps) sound.owners
+  -- A reply that came is given: after the step that accepts a reply with an answer or a denial no ask
+  -- for its question is listed, and the step sends none. So nobody waits for this question, by
+  -- `waiting` (`NobodyWaitsForWhatCame`).
+  pub given : GivesWhatCame c (reverse steps)
+  -- After every step fewer than `tries` asks failed before each listed ask, in its inquiry.
+  pub tries : AsksFewTimes c (reverse steps)
   -- A question for which enough carried data stands (RFC 2181 5.4.1) is answered at once, if the
   -- cache has room: by a single reply, owned by the question, with the same owners.
   pub uses : UsesWhatStands c (reverse steps) sound.owners

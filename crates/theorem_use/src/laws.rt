@@ -1,6 +1,7 @@
 //! Laws about use and service, over plain values: no code is mentioned.
 
-ghost use Rattle.theorem_use.specs.Laws.{NothingFullyExplainsAStart, RowsKeepWhatFullyExplains, RunsServeTruly};
+ghost use Rattle.theorem_use.specs.Laws.{NobodyWaitsForWhatCame, NothingFullyExplainsAStart, RowsKeepWhatFullyExplains};
+ghost use Rattle.theorem_use.specs.Laws.{RunsServeTruly};
 
 /// A history that fully explains the state before a row explains the state after, too, with the
 /// row's step and an owner for each of its replies: the entries mirror the standing pieces, and a
@@ -16,4 +17,9 @@ pub fn rows_keep_what_fully_explains()
 /// question.
 pub fn runs_serve_truly()
     ensures { RunsServeTruly }
+{}
+
+/// After a step that accepts a reply with an answer to its question, nobody waits for this question.
+pub fn nobody_waits_for_what_came()
+    ensures { NobodyWaitsForWhatCame }
 {}

@@ -4,4 +4,4 @@
 
 mod laws;
 
-pub use laws::{rows_keep_what_fully_explains, runs_serve_truly};
+pub use laws::{nobody_waits_for_what_came, rows_keep_what_fully_explains, runs_serve_truly};

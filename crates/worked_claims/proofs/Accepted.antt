@@ -12,7 +12,7 @@ use Rattle.dns_message.specs.Writing.{◌▹◌, each, name_text, data_text, wit
 use Rattle.dns_message.proofs.CallerLemmas.{message_read_is_spelled}
 use Rattle.suffix_routes.specs.Values.{Config}
 use Rattle.suffix_routes.specs.Routes.{route_of}
-use Rattle.trust_rank.specs.Values.{rows, Piece}
+use Rattle.trust_rank.specs.Values.{rows, Piece, found}
 use Rattle.trust_rank.specs.Walks.{walk_from, servers_from}
 use Rattle.record_cache.specs.Values.{Held}
 use Rattle.outstanding.specs.declared.ask.Path.TheVariants.{Udp}
@@ -22,11 +22,10 @@ use Rattle.cache_laws.proofs.CallerLemmas.{serves_exactly}
 use Rattle.step_history.specs.History.{Look, ShownAsk, Matches, Accepts, Carries}
 use Rattle.step_history.specs.Carried.{CarriedInEra, Justified}
 use Rattle.step_history.specs.Answers.{Chain, Answers}
-use Rattle.step_history.proofs.CallerLemmas.{walk_accepted}
 use Rattle.step_table.proofs.Played.{a, address, server, config}
 use Rattle.worked_claims.proofs.Texts.{question_text, client, step_of}
 use Rattle.worked_claims.proofs.Silent.{nothing_heard}
-use Rattle.worked_claims.proofs.ReplyTo.{ReachesAsk, matches_ask}
+use Rattle.worked_claims.proofs.ReplyTo.{ReachesAsk, matches_ask, AcceptsTo, accepted_to}
 
 -- ---- a question for the address of a.e, and the reply
 
@@ -108,12 +107,12 @@ unfolding first_question question_at octets_end name_within walk_in name_step
 reply_matches c s past reaches = matches_ask c s past ask reply_text (address a) reaches
     (omega arith, omega arith, refl, refl, refl, refl, refl, refl)
 
-reply_accepted : (tries stale_s : ℕ) (s : Step) (past : List Step)
+pub reply_accepted : (tries stale_s : ℕ) (s : Step) (past : List Step)
     → ReachesAsk (with_limits tries stale_s) s past ask reply_text
-    → Accepts (with_limits tries stale_s) s past (piece ∷ []) []
+    → AcceptsTo (with_limits tries stale_s) s past (piece ∷ []) [] found
 unfolding route_of walk_from servers_from
 reply_accepted tries stale_s s past reaches =
-    walk_accepted (with_limits tries stale_s) s past ask (address a) 0 reply_text (says 60) (tt, tt)
+    accepted_to (with_limits tries stale_s) s past ask (address a) 0 reply_text (says 60) (tt, tt)
     (reply_matches (with_limits tries stale_s) s past reaches)
     (message_read_is_spelled reply_text (says 60) reply_is_read) refl (inl refl) refl refl
 
@@ -121,14 +120,14 @@ pub reply_carries : (tries stale_s : ℕ) (s : Step) (past : List Step)
     → ReachesAsk (with_limits tries stale_s) s past ask reply_text
     → Carries (with_limits tries stale_s) s past (piece ∷ [])
 reply_carries tries stale_s s past reaches =
-    record { pieces = piece ∷ []; servers = []; accepts = reply_accepted tries stale_s s past reaches; are = refl }
+    record { pieces = piece ∷ []; servers = []; accepts = (reply_accepted tries stale_s s past reaches).accepts; are = refl }
 
 -- so in the answer's step
 pub matches : (tries stale_s : ℕ) → Matches (with_limits tries stale_s) answered (asked ∷ []) ask reply_text (address a)
 matches tries stale_s = reply_matches (with_limits tries stale_s) answered (asked ∷ []) (refl, refl, omega arith)
 
 pub accepts : (tries stale_s : ℕ) → Accepts (with_limits tries stale_s) answered (asked ∷ []) (piece ∷ []) []
-accepts tries stale_s = reply_accepted tries stale_s answered (asked ∷ []) (refl, refl, omega arith)
+accepts tries stale_s = (reply_accepted tries stale_s answered (asked ∷ []) (refl, refl, omega arith)).accepts
 
 pub carries : (tries stale_s : ℕ) → Carries (with_limits tries stale_s) answered (asked ∷ []) (piece ∷ [])
 carries tries stale_s = reply_carries tries stale_s answered (asked ∷ []) (refl, refl, omega arith)

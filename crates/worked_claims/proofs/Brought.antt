@@ -1,6 +1,6 @@
 -- Shared by the worked histories: a step bringing a client's question for the address of a.e, with
 -- this question alone looked up and wanted; and a question waiting alone for its ask.
-use Rattle.std.proofs.Common.{◌≡◌, ℕ, List, [], ◌∷◌, length, Option, Some, None, true, refl, sym, ap, ◌∙◌, subst}
+use Rattle.std.proofs.Common.{◌≡◌, ℕ, ◌≤◌, List, [], ◌∷◌, length, Option, Some, None, true, false, refl, sym, ap, ◌∙◌, subst}
 use Rattle.std.proofs.Common.{◌⊎◌, inl, inr, arith}
 use Rattle.std.specs.List.{AllByRecursion}
 use Rattle.dns_message.specs.Names.{step as name_step, walk_in, name_within}
@@ -12,8 +12,9 @@ use Rattle.suffix_routes.specs.Values.{Config}
 use Rattle.suffix_routes.specs.Routes.{route_of}
 use Rattle.step_values.specs.declared.event.Client.{Client}
 use Rattle.step_values.specs.Values.{Request, Step}
-use Rattle.step_history.specs.Causes.{ClosesAsk}
-use Rattle.step_history.specs.History.{InEra, ShownAsk, listed, on_path, Reads, Sends}
+use Rattle.step_history.specs.Causes.{ClosesAsk, NoneAsks, SendsAsk}
+use Rattle.step_history.specs.Given.{IsOneOfTries}
+use Rattle.step_history.specs.History.{is_restart, InEra, ShownAsk, listed, on_path, Reads, Sends}
 use Rattle.step_history.specs.Sound.{unanswered}
 use Rattle.step_table.proofs.Played.{a, address, config}
 use Rattle.theorem_use.specs.Asking.{AnyByRecursion, Wants, EachWants, Asks, WasListed, IsSpelled, AsksForWaiting}
@@ -107,3 +108,19 @@ waits_for_new c s past owners x q none_before one_listed one_waits wants reads s
     none_closed : ClosesAsk q s past → ⊥
     none_closed closes =
         none_listed (sym (ap (λ (asks : List ShownAsk). on_path closes.ask.path asks) none_before) ∙ closes.is_listed)
+
+-- and is the first try of its inquiry
+pub begins_tries : (c : Config) (s : Step) (past : List Step) (x : ShownAsk) (q : Question) → is_restart s ≡ false
+    → listed past ≡ [] → listed (s ∷ past) ≡ x ∷ [] → Reads x.octets q → SendsAsk q s.outcome.actions
+    → 1 ≤ c.limits.tries → AllByRecursion (IsOneOfTries c (s ∷ past)) (listed (s ∷ past))
+begins_tries c s past x q runs none_before one_listed reads sends some =
+    subst (AllByRecursion (IsOneOfTries c (s ∷ past))) (sym one_listed) (
+      record {
+        question = q;
+        reads = reads;
+        before = 0;
+        failed = (runs, inl (sends, inl (subst (NoneAsks q) (sym none_before) tt)));
+        few = some;
+      },
+      tt,
+    )

@@ -1,7 +1,7 @@
 -- `Tried`, the facts about a listed ask, computed for the second ask of an inquiry: the first ask
 -- failed, and the next server was asked. Neighbours count a try less or more, or have a wrong
 -- identifier, route or server, or a question with a type above 16 bits.
-use Rattle.std.proofs.Common.{◌≡◌, ℕ, ◌<◌, List, [], ◌∷◌, false, Option, Some, refl, ap, subst, inl, inr}
+use Rattle.std.proofs.Common.{◌≡◌, ℕ, ◌<◌, ◌≤◌, List, [], ◌∷◌, false, Option, Some, refl, ap, subst, inl, inr}
 use Rattle.std.proofs.Common.{arith}
 use Rattle.std.specs.Prelude.{suc, get_or}
 use Rattle.std.proofs.lemmas.Bool.{true≢false}
@@ -36,10 +36,10 @@ use Rattle.worked_claims.proofs.Failures.{begun, the_first_closes_none}
 
 -- ---- the ask of a.e at 1000 is over at 2500, and the second server is asked
 
-abbrev retries : Step
+abbrev pub retries : Step
 retries = step_of 2500 (1048592 ∷ []) tick (close_udp 1032 ∷ ask_udp 1040 other_server (question_text 16 1) ∷ [])
 
-abbrev past : List Step
+abbrev pub past : List Step
 past = retries ∷ asked ∷ []
 
 -- a listed ask of a.e: the number of the try, the identifier, the route and the server's address
@@ -59,9 +59,10 @@ try_by used id route peer = record {
 abbrev try : ℕ → Ask
 try used = try_by used 16 0 other_server
 
--- all tries before try number `used` failed
+-- all tries before try number `used` failed, and this try may be made
 abbrev FailedBefore : Config → ℕ → Type 0
-FailedBefore c used = (before : ℕ) × (used ≡ suc before) × FailedSoFar c (address a) past before
+FailedBefore c used = (before : ℕ) × (used ≡ suc before) × (before < c.limits.tries)
+    × FailedSoFar c (address a) past before
 
 closes_first : ClosesAsk (address a) retries (asked ∷ [])
 unfolding first_question question_at octets_end name_within walk_in name_step
@@ -71,20 +72,24 @@ closes_first = record { ask = ask; asked = address a; is_listed = refl; closed =
 abbrev with_routes : List Route → Config
 with_routes routes = record config { routes = routes }
 
-one_failed : (routes : List Route) → FailedSoFar (with_routes routes) (address a) past 1
+pub one_failed : (c : Config) → c.limits.ask_ms ≤ 1500 → FailedSoFar c (address a) past 1
 unfolding first_question question_at octets_end name_within walk_in name_step closes_first
-one_failed routes = (
+one_failed c over = (
   refl,
   inl (
     record {
       closes = closes_first;
-      quiet = nothing_heard (with_routes routes) retries (asked ∷ []) refl;
-      why = inr (inr (refl, omega arith));
+      quiet = nothing_heard c retries (asked ∷ []) refl;
+      why = inr (inr (refl, omega (arith, over)));
     },
     inr (inl (address a, refl, refl)),
-    begun (with_routes routes),
+    begun c,
   ),
 )
+
+-- on these routes a second try may follow
+second_of : (routes : List Route) → FailedBefore (with_routes routes) 2
+second_of routes = (1, refl, omega arith, one_failed (with_routes routes) (omega arith))
 
 label : (letter : ℕ) → IsLabel (letter ∷ [])
 label letter = record { some = omega arith; short = omega arith }
@@ -94,11 +99,10 @@ name_of_a = record { each = (label 97, (label 101, tt)); short = omega arith }
 
 -- ---- the ask is the second try
 
-tried_if : (routes : List Route) (used id route : ℕ) (peer : Peer)
-    → (header_in (written (ask_message id (address a)))).id ≡ id
-    → serving_route_of (with_routes routes) a ≡ Some route → peer_at (with_routes routes) route 1 ≡ Some peer
-    → FailedBefore (with_routes routes) used → Tried (with_routes routes) past (try_by used id route peer)
-tried_if routes used id route peer identifier on_route server_is failed =
+tried_if : (c : Config) (used id route : ℕ) (peer : Peer) → (header_in (written (ask_message id (address a)))).id ≡ id
+    → serving_route_of c a ≡ Some route → peer_at c route 1 ≡ Some peer → FailedBefore c used
+    → Tried c past (try_by used id route peer)
+tried_if c used id route peer identifier on_route server_is failed =
     let question : IsQuestion (address a) = record { name = name_of_a; kind = omega arith; class = omega arith } in
     record {
       question = question;
@@ -108,23 +112,24 @@ tried_if routes used id route peer identifier on_route server_is failed =
       server = server_is;
       before = failed.0;
       used = failed.1;
-      failed = failed.2;
+      few = failed.2;
+      failed = failed.3;
     }
 
 tried_so : (used : ℕ) → FailedBefore config used → Tried config past (try used)
 unfolding written ◌▹◌ each name_text route_of
-tried_so used failed = tried_if config.routes used 16 0 other_server refl refl refl failed
+tried_so used failed = tried_if config used 16 0 other_server refl refl refl failed
 
 second_try : Tried config past (try 2)
-second_try = tried_so 2 (1, refl, one_failed config.routes)
+second_try = tried_so 2 (second_of config.routes)
 
 -- as the first try: the ask's step closed the first ask, and so did not begin to ask
-none_failed : FailedSoFar config (address a) past 0 → ⊥
+pub none_failed : (c : Config) → FailedSoFar c (address a) past 0 → ⊥
 unfolding first_question question_at octets_end name_within walk_in name_step
-none_failed h = elim h.1 [
+none_failed c h = elim h.1 [
   | inl begins ↦ elim begins.1 [
     | inl none ↦ true≢false (none.0 (address a) refl)
-    | inr accepts ↦ nothing_heard config retries (asked ∷ []) refl accepts.pieces accepts.carries
+    | inr accepts ↦ nothing_heard c retries (asked ∷ []) refl accepts.pieces accepts.carries
   ]
   | inr left ↦ left.0.0 closes_first
 ]
@@ -134,7 +139,7 @@ as_the_first_try = (
   tried_so 1,
   λ h.
       let none : h.before ≡ 0 = omega (arith, h.used) in
-      none_failed (subst (λ (n : ℕ). FailedSoFar config (address a) past n) none h.failed),
+      none_failed config (subst (λ (n : ℕ). FailedSoFar config (address a) past n) none h.failed),
 )
 
 -- as the third try: no ask came before the first
@@ -156,6 +161,21 @@ as_the_third_try = (
   λ h.
       let two : h.before ≡ 2 = omega (arith, h.used) in
       two_failed (subst (λ (n : ℕ). FailedSoFar config (address a) past n) two h.failed),
+)
+
+-- with a single try, no second one may follow
+abbrev with_one_try : Config
+with_one_try = record config { limits = record config.limits { tries = 1 } }
+
+as_one_try_too_many : HoldsButFor (1 < 1) (Tried with_one_try past (try 2))
+unfolding written ◌▹◌ each name_text route_of
+as_one_try_too_many = (
+  λ few. tried_if with_one_try 2 16 0 other_server refl refl refl
+      (1, refl, few, one_failed with_one_try (omega arith)),
+  λ h.
+      let one : h.before ≡ 1 = omega (arith, h.used) in
+      let few = h.few in
+      omega (arith, one, few),
 )
 
 -- ---- the ask itself
@@ -192,6 +212,7 @@ tried_oddly question reads = record {
   server = refl;
   before = 0;
   used = refl;
+  few = omega arith;
   failed = (refl, inl (inl (odd, refl, refl), inl tt));
 }
 
@@ -213,7 +234,7 @@ of_another_question = (
 of_another_identifier : HoldsButFor (◌≡◌ {A = ℕ} 16 65552) (Tried config past (try_by 2 65552 0 other_server))
 unfolding written ◌▹◌ each name_text route_of
 of_another_identifier = (
-  λ identifier. tried_if config.routes 2 65552 0 other_server identifier refl refl (1, refl, one_failed config.routes),
+  λ identifier. tried_if config 2 65552 0 other_server identifier refl refl (second_of config.routes),
   λ h. omega (arith, h.identifier),
 )
 
@@ -229,7 +250,7 @@ of_another_route : HoldsButFor (◌≡◌ {A = Option ℕ} (Some 0) (Some 1))
     (Tried (with_routes two_routes) past (try_by 2 16 1 other_server))
 unfolding written ◌▹◌ each name_text route_of
 of_another_route = (
-  λ on_route. tried_if two_routes 2 16 1 other_server refl on_route refl (1, refl, one_failed two_routes),
+  λ on_route. tried_if (with_routes two_routes) 2 16 1 other_server refl on_route refl (second_of two_routes),
   λ h. by h.on_route,
 )
   where
@@ -240,7 +261,7 @@ of_another_route = (
 of_another_server : HoldsButFor (Some other_server ≡ Some server) (Tried config past (try_by 2 16 0 server))
 unfolding written ◌▹◌ each name_text route_of
 of_another_server = (
-  λ peer. tried_if config.routes 2 16 0 server refl refl peer (1, refl, one_failed config.routes),
+  λ peer. tried_if config 2 16 0 server refl refl peer (second_of config.routes),
   λ h. by h.server,
 )
   where

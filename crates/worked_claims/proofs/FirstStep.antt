@@ -1,6 +1,6 @@
 -- A first step: a client asks for the address of a.e, with these actions. The step's ask is right,
 -- nothing is known before, and no slot is used.
-use Rattle.std.proofs.Common.{◌≡◌, ℕ, List, [], ◌∷◌, Bool, refl, sym, subst, inl, inr}
+use Rattle.std.proofs.Common.{◌≡◌, ℕ, ◌≤◌, List, [], ◌∷◌, Bool, refl, sym, subst, inl, inr}
 use Rattle.std.proofs.Common.{arith}
 use Rattle.std.specs.Prelude.{zero, suc}
 use Rattle.dns_message.specs.Names.{step as name_step, walk_in, name_within}
@@ -8,6 +8,7 @@ use Rattle.dns_message.specs.Records.{octets_end, question_at}
 use Rattle.dns_message.specs.Messages.{first_question}
 use Rattle.dns_message.specs.Values.{Question}
 use Rattle.dns_message.specs.Writing.{◌▹◌, each, name_text, written}
+use Rattle.suffix_routes.specs.declared.limits.Limits.{Limits}
 use Rattle.suffix_routes.specs.Values.{Config}
 use Rattle.suffix_routes.specs.Routes.{route_of}
 use Rattle.record_cache.specs.Values.{Held}
@@ -15,6 +16,7 @@ use Rattle.step_values.specs.declared.event.Client.{Client}
 use Rattle.step_values.specs.Values.{from_client, Action, ask_udp, Step}
 use Rattle.cache_laws.proofs.CallerLemmas.{serves_exactly}
 use Rattle.step_history.specs.Asked.{AsksWell}
+use Rattle.step_history.specs.Given.{AsksFewTimes}
 use Rattle.step_history.specs.Sound.{Replies}
 use Rattle.step_table.proofs.Played.{a, address, server, config}
 use Rattle.theorem_use.specs.Asking.{AsksForWaiting}
@@ -23,7 +25,7 @@ use Rattle.theorem_use.specs.Touched.{Touched}
 use Rattle.theorem_use.specs.Recent.{IsAnsweredByRecent, UsesWhatIsRecent}
 use Rattle.worked_claims.proofs.Texts.{question_text, client}
 use Rattle.worked_claims.proofs.Accepted.{ask}
-use Rattle.worked_claims.proofs.Brought.{looks_up_no_other, wants_it, waits_for_new}
+use Rattle.worked_claims.proofs.Brought.{looks_up_no_other, wants_it, waits_for_new, begins_tries}
 
 -- ---- a first step: a client asks for the address of a.e, with these actions
 
@@ -51,12 +53,13 @@ asked_for c more words = waits_for_new c (first more words asks_it) [] [] ask (a
     (wants_it c (first more words asks_it) 7 [] (first more words asks_it ∷ []) refl (inl refl)) refl refl
 
 -- by the step's word
-pub asks_right : (questions : ℕ) (more : Bool) → AsksWell (with_questions questions) (first more word asks_it ∷ [])
+pub asks_right : (limits : Limits) (more : Bool) → 1 ≤ limits.inquiries
+    → AsksWell (record config { limits = limits }) (first more word asks_it ∷ [])
 unfolding written ◌▹◌ each name_text first_question question_at octets_end name_within walk_in name_step route_of
-asks_right questions more = (
+asks_right limits more room = (
   tt,
   (tt, tt),
-  omega arith,
+  omega (arith, room),
   (
     (
       record {
@@ -68,7 +71,7 @@ asks_right questions more = (
           route = 0;
           group = _;
           place = 0;
-          route_is = serves_exactly.only (with_questions questions) a 0 refl;
+          route_is = serves_exactly.only (record config { limits = limits }) a 0 refl;
           there = refl;
           server = refl;
         };
@@ -79,6 +82,13 @@ asks_right questions more = (
     tt,
   ),
 )
+
+-- and is the first try
+pub first_try : (c : Config) (more : Bool) (words : List ℕ) → 1 ≤ c.limits.tries
+    → AsksFewTimes c (first more words asks_it ∷ [])
+unfolding first_question question_at octets_end name_within walk_in name_step
+first_try c more words some =
+    (tt, begins_tries c (first more words asks_it) [] ask (address a) refl refl refl refl (inl (address a, refl, refl)) some)
 
 -- before the step nothing was carried, so nothing is known
 pub uses_nothing : (c : Config) (more : Bool) (words : List ℕ) (actions : List Action) (is : List ℕ)

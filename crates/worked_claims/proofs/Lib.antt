@@ -36,6 +36,7 @@ mod Waiting
 mod FromAddress
 mod Truly
 mod NotTruly
+mod Given
 mod Unused
 mod Touches
 mod Unbelieved

@@ -26,11 +26,12 @@ use Rattle.step_values.specs.declared.event.Client.{Client}
 use Rattle.step_values.specs.declared.action.Why.TheVariants.{Answered}
 use Rattle.step_values.specs.Values.{Request, from_client, delivery, ask_udp, close_udp, send_reply, Step}
 use Rattle.cache_laws.proofs.CallerLemmas.{carried_exactly, serves_exactly}
-use Rattle.step_history.specs.History.{Look, ShownAsk, Matches, Accepts, Carries}
+use Rattle.step_history.specs.History.{Look, ShownAsk, listed, Matches, Accepts, Carries}
 use Rattle.step_history.specs.Carried.{CarriedInEra, Justified}
 use Rattle.step_history.specs.Answers.{Answers}
 use Rattle.step_history.specs.Sound.{RightReply, Owns, Replies, Sound}
 use Rattle.step_history.specs.Asked.{AsksWell, AsksRight}
+use Rattle.step_history.specs.Given.{IsOneOfTries}
 use Rattle.step_history.proofs.CallerLemmas.{alias_to}
 use Rattle.step_table.proofs.Played.{a, b, address, name_data, server, config}
 use Rattle.theorem_use.specs.Asking.{Wants, Asks, AsksForWaiting, AsksForThoseWhoWait}
@@ -38,14 +39,14 @@ use Rattle.theorem_use.specs.Recent.{IsReadyEnd, IsReadyAlias, IsAnsweredByRecen
 use Rattle.theorem_use.specs.Service.{ServesTruly}
 use Rattle.theorem_use.specs.Touched.{Touched, TouchedInEra, LooksAlong, LooksOn}
 use Rattle.theorem_use.specs.Use.{AsksToLookUp, IsKnown, UsesWhatStands}
-use Rattle.worked_claims.proofs.Texts.{client, step_of}
-use Rattle.worked_claims.proofs.Silent.{nothing_heard}
+use Rattle.worked_claims.proofs.Texts.{client, step_of, only_closes}
+use Rattle.worked_claims.proofs.Silent.{nothing_heard, nothing_came}
 use Rattle.worked_claims.proofs.ReplyTo.{matches_ask}
 use Rattle.worked_claims.proofs.Accepted.{asked, answered, piece, held, carries, carried_now}
 use Rattle.worked_claims.proofs.Carried.{one_era}
 use Rattle.worked_claims.proofs.Touches.{touched_nothing, touched_these, CameIn, recent_came, the_one_brought}
-use Rattle.worked_claims.proofs.Truly.{nobody_waits, handed_on, recent_so_far}
-use Rattle.worked_claims.proofs.Brought.{request_is, not_sent, question_is, waits_for_new}
+use Rattle.worked_claims.proofs.Truly.{it_gives, it_asks_once, nobody_waits, handed_on, recent_so_far}
+use Rattle.worked_claims.proofs.Brought.{request_is, not_sent, question_is, waits_for_new, begins_tries}
 use Rattle.worked_claims.proofs.Whole.{history, it_is_sound, it_asks_well, it_tells_that_nothing_is_due}
 
 -- ---- the address of b.e is asked for
@@ -294,6 +295,10 @@ b_waits : AsksForWaiting config asks_b history (0 ∷ [])
 unfolding first_question question_at octets_end name_within walk_in name_step
 b_waits = waits_for_new config asks_b history (0 ∷ []) ask (address b) refl refl refl wants_b refl refl
 
+tries_b : AllByRecursion (IsOneOfTries config before) (listed before)
+unfolding first_question question_at octets_end name_within walk_in name_step
+tries_b = begins_tries config asks_b history ask (address b) refl refl refl refl (inl (address b, refl, refl)) (omega arith)
+
 waits_on : AsksForThoseWhoWait config now owners
 waits_on = (
   (nobody_waits, b_waits),
@@ -376,6 +381,11 @@ but_for_its_slots slots looked = record {
     few = omega arith;
   };
   asks = asks_on;
+  given = (
+    (it_gives, nothing_came config asks_b history refl),
+    λ pieces servers k ends. record { none_listed = tt; none_sent = λ q. only_closes },
+  );
+  tries = ((it_asks_once, tries_b), tt);
   waiting = waits_on;
   uses = used_what_stands;
   used = slots ∷ [] ∷ [] ∷ [] ∷ [];

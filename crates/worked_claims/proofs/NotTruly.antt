@@ -1,6 +1,6 @@
--- For each field of `ServesTruly`, except for the fields on use, a history with all else holding: a
--- wrong reply, a wrong report, too many waiting questions, a wrong ask, and a question without an
--- ask.
+-- For each field of `ServesTruly`, except for the fields on use and those in `Given`, a history with
+-- all else holding: a wrong reply, a wrong report, too many waiting questions, a wrong ask, and a
+-- question without an ask.
 use Rattle.std.proofs.Common.{◌≡◌, ℕ, ◌≤◌, List, [], ◌∷◌, true, false, Option, Some, None, refl, sym, ap, ◌∙◌, subst}
 use Rattle.std.proofs.Common.{inl, inr, arith}
 use Rattle.std.specs.Prelude.{zero, suc, length}
@@ -17,8 +17,9 @@ use Rattle.record_cache.specs.Values.{Held}
 use Rattle.step_values.specs.declared.event.Client.{Client}
 use Rattle.step_values.specs.declared.action.Why.TheVariants.{Deadline}
 use Rattle.step_values.specs.Values.{from_client, tick, Event, send_reply, Step}
-use Rattle.step_history.specs.History.{ShownAsk}
+use Rattle.step_history.specs.History.{ShownAsk, listed}
 use Rattle.step_history.specs.Asked.{AsksWell}
+use Rattle.step_history.specs.Given.{IsOneOfTries}
 use Rattle.step_history.specs.Accounting.{TellsMore}
 use Rattle.step_history.specs.Sound.{Replies, Sound, unanswered}
 use Rattle.step_table.proofs.Played.{a, address, config}
@@ -28,9 +29,9 @@ use Rattle.theorem_use.specs.Use.{AsksToLookUp, IsKnown, UsesWhatStands}
 use Rattle.theorem_use.specs.Touched.{Touched, TouchedInEra}
 use Rattle.theorem_use.specs.Recent.{IsRecent, IsAnsweredByRecent, UsesWhatIsRecent}
 use Rattle.worked_claims.proofs.Texts.{question_text, client, step_of}
-use Rattle.worked_claims.proofs.Silent.{nothing_heard, nothing_carried}
+use Rattle.worked_claims.proofs.Silent.{nothing_heard, nothing_came, nothing_carried}
 use Rattle.worked_claims.proofs.Brought.{looks_up_no_other, wants_it}
-use Rattle.worked_claims.proofs.FirstStep.{first, word, asks_it, with_questions, asked_for, asks_right}
+use Rattle.worked_claims.proofs.FirstStep.{first, word, asks_it, with_questions, asked_for, asks_right, first_try}
 use Rattle.worked_claims.proofs.FirstStep.{uses_nothing, uses_no_slot, only_asks}
 
 -- ---- a wrong reply: the failure of a deadline, without a tick
@@ -58,6 +59,8 @@ but_for_soundness : Sound config (fails_early ∷ []) ((0 ∷ []) ∷ []) → Se
 but_for_soundness sound = record {
   sound = record { owners = (0 ∷ []) ∷ []; sound = sound; tells = (tt, refl); few = omega arith };
   asks = (tt, tt, omega arith, (tt, tt));
+  given = (tt, nothing_came config fails_early [] refl);
+  tries = (tt, tt);
   waiting = (tt, record { wanted = []; each = tt; asked = tt; wanting = tt; spelled = tt });
   uses = uses_nothing config false word (send_reply client [] Deadline ∷ []) (0 ∷ []);
   used = [] ∷ [];
@@ -82,7 +85,9 @@ not_telling h = by h.sound.owners h.sound.sound h.sound.tells
 but_for_what_it_tells : TellsMore config (tells_more ∷ []) ([] ∷ []) → ServesTruly config (tells_more ∷ [])
 but_for_what_it_tells tells = record {
   sound = record { owners = [] ∷ []; sound = (tt, refl, λ q octets hit. tt); tells = tells; few = omega arith };
-  asks = asks_right 1024 true;
+  asks = asks_right config.limits true (omega arith);
+  given = (tt, nothing_came config tells_more [] refl);
+  tries = first_try config true word (omega arith);
   waiting = (tt, asked_for config true word);
   uses = uses_nothing config true word asks_it [];
   used = [] ∷ [];
@@ -129,6 +134,23 @@ both_asked_for = record {
   wanting = (inl (record { question = address a; reads = refl; same = refl }), tt);
   spelled = (inl (inl refl), tt);
 }
+
+-- the ask is still the first try
+joins_the_first_try : AllByRecursion (IsOneOfTries one_may_wait joined) (listed joined)
+unfolding first_question question_at octets_end name_within walk_in name_step
+joins_the_first_try = (
+  record {
+    question = address a;
+    reads = refl;
+    before = 0;
+    failed = (
+      refl,
+      inr (((λ k. true≢false (sym k.closed)), (λ never. never)), (refl, inl (inl (address a, refl, refl), inl tt))),
+    );
+    few = omega arith;
+  },
+  tt,
+)
 
 -- nothing was carried before the second either
 joins_unknown : UsesWhatStands one_may_wait (joins ∷ first false word asks_it ∷ []) ([] ∷ [] ∷ [])
@@ -186,7 +208,12 @@ but_for_how_many_wait few = record {
     tells = ((tt, refl), refl);
     few = few;
   };
-  asks = (asks_right 1 false, (tt, tt), omega arith, tt);
+  asks = (asks_right one_may_wait.limits false (omega arith), (tt, tt), omega arith, tt);
+  given = (
+    (tt, nothing_came one_may_wait (first false word asks_it) [] refl),
+    nothing_came one_may_wait joins (first false word asks_it ∷ []) refl,
+  );
+  tries = (first_try one_may_wait false word (omega arith), joins_the_first_try);
   waiting = ((tt, asked_for one_may_wait false word), both_asked_for);
   uses = joins_unknown;
   used = [] ∷ [] ∷ [];
@@ -205,6 +232,8 @@ but_for_its_ask : AsksWell config (first false [] asks_it ∷ []) → ServesTrul
 but_for_its_ask asks_so = record {
   sound = record { owners = [] ∷ []; sound = (tt, refl, λ q octets hit. tt); tells = (tt, refl); few = omega arith };
   asks = asks_so;
+  given = (tt, nothing_came config (first false [] asks_it) [] refl);
+  tries = first_try config false [] (omega arith);
   waiting = (tt, asked_for config false []);
   uses = uses_nothing config false [] asks_it [];
   used = [] ∷ [];
@@ -238,6 +267,8 @@ but_for_what_is_asked : AsksForThoseWhoWait config (first false word [] ∷ []) 
 but_for_what_is_asked waits = record {
   sound = record { owners = [] ∷ []; sound = (tt, refl, λ q octets hit. tt); tells = (tt, refl); few = omega arith };
   asks = (tt, tt, omega arith, tt);
+  given = (tt, nothing_came config (first false word []) [] refl);
+  tries = (tt, tt);
   waiting = waits;
   uses = uses_nothing config false word [] [];
   used = [] ∷ [];

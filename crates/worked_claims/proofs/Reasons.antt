@@ -14,13 +14,14 @@ use Rattle.suffix_routes.specs.Serving.{serving_route_of, is_local}
 use Rattle.step_history.specs.History.{Look, before_newest, tcp_asks, listed}
 use Rattle.cache_laws.proofs.CallerLemmas.{none_serves_exactly}
 use Rattle.step_history.specs.Causes.{Cause, HasNoRoute, newest_words, newest_actions}
-use Rattle.dns_message.specs.Questions.{is_unserved}
+use Rattle.dns_message.specs.Questions.{is_unserved, same_question}
 use Rattle.step_history.specs.Draws.{drawn}
 use Rattle.outstanding.specs.Draws.{drawn_by_tcp}
 use Rattle.step_table.proofs.Played.{a, b, address, server, config}
 use Rattle.worked_claims.proofs.Texts.{question_text, status_text, client, step_of}
 use Rattle.worked_claims.proofs.Silent.{IsSilent, nothing_followed}
 use Rattle.worked_claims.proofs.Accepted.{asked}
+use Rattle.worked_claims.proofs.Brought.{question_is}
 
 -- ---- at once, and a step later
 
@@ -192,10 +193,30 @@ abbrev behind : Config → Step → List Step → Look
 behind c s before = record { config = c; asked = s; before = before; now = s ∷ before }
 
 as_many_asks_are_listed_as_may : Cause (behind for_one (asks_for_b [] []) (asked ∷ [])) client text_of_b 1 InquiriesFull
-as_many_asks_are_listed_as_may = (refl, refl)
+unfolding first_question question_at octets_end name_within walk_in name_step
+as_many_asks_are_listed_as_may = record {
+  at_once = refl;
+  full = refl;
+  question = address b;
+  reads = refl;
+  aliases = [];
+  last = address b;
+  leads = record { few = omega arith; follows = refl };
+  none_asks = ((λ own reads. ap (λ (q : Question). same_question q (address b)) (sym (question_is (address a) own reads))), tt);
+}
 
 one_fewer_ask_is_listed : Cause (behind for_one (asks_for_b [] []) []) client text_of_b 1 InquiriesFull → ⊥
-one_fewer_ask_is_listed h = let few : 0 ≡ 1 = h.1 in omega (arith, few)
+one_fewer_ask_is_listed h = let few : 0 ≡ 1 = h.full in omega (arith, few)
+
+-- the listed ask is for the question, which could join it
+one_could_join : Cause (behind for_one (step_of 1010 [] (from_client client (question_text 9 1)) []) (asked ∷ [])) client
+    (question_text 9 1) 1 InquiriesFull
+    → ⊥
+unfolding first_question question_at octets_end name_within walk_in name_step
+one_could_join h =
+    let silent = nothing_followed _ h.question h.last h.aliases (refl, (refl, tt)) h.leads.follows in
+    let own : address a ≡ h.last = question_is (address a) h.question h.reads ∙ sym silent.1 in
+    true≢false (ap (λ (q : Question). same_question (address a) q) own ∙ h.none_asks.0 (address a) refl)
 
 -- the ask's path was given up
 abbrev gave_up : Step
@@ -204,7 +225,7 @@ gave_up = step_of 1005 [] tick (close_udp 1032 ∷ [])
 a_closed_ask_is_not_listed : Cause
     (behind for_one (asks_for_b [] []) (gave_up ∷ asked ∷ [])) client text_of_b 1 InquiriesFull
     → ⊥
-a_closed_ask_is_not_listed h = let few : 0 ≡ 1 = h.1 in omega (arith, few)
+a_closed_ask_is_not_listed h = let few : 0 ≡ 1 = h.full in omega (arith, few)
 
 too_many_asks_are_told_at_once : Cause
     (record (behind for_one (asks_for_b [] []) (asked ∷ [])) {
@@ -212,7 +233,7 @@ too_many_asks_are_told_at_once : Cause
           ∷ [];
     }) client text_of_b 1 InquiriesFull
     → ⊥
-too_many_asks_are_told_at_once h = let steps : 3 ≡ 2 = ap length h.0 in omega (arith, steps)
+too_many_asks_are_told_at_once h = let steps : 3 ≡ 2 = ap length h.at_once in omega (arith, steps)
 
 -- ---- no path
 

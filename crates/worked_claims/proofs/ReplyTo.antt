@@ -1,11 +1,17 @@
--- Shared by the worked histories: octets in reply to an ask match while the ask is open.
-use Rattle.std.proofs.Common.{◌≡◌, ℕ, ◌+◌, ◌<◌, ◌≤◌, List, ◌∷◌, length, true, Some}
+-- Shared by the worked histories: octets in reply to an ask match while the ask is open, and are
+-- accepted with an end.
+use Rattle.std.proofs.Common.{◌≡◌, ℕ, ◌+◌, ◌<◌, ◌≤◌, List, ◌∷◌, length, true, false, Some, ◌⊎◌}
 use Rattle.dns_message.specs.Header.{header_in}
 use Rattle.dns_message.specs.Questions.{same_question}
-use Rattle.dns_message.specs.Values.{Question}
-use Rattle.suffix_routes.specs.Values.{Config}
+use Rattle.dns_message.specs.Messages.{Spells}
+use Rattle.dns_message.specs.Values.{Question, Message}
+use Rattle.suffix_routes.specs.Serving.{serving_route_of}
+use Rattle.suffix_routes.specs.Values.{Config, AllDiffer}
+use Rattle.trust_rank.specs.Values.{Piece, End}
+use Rattle.trust_rank.specs.Walks.{is_lame, walk_of}
 use Rattle.step_values.specs.Values.{Step}
-use Rattle.step_history.specs.History.{ShownAsk, listed, on_path, moment_at, Reads, Delivers, Matches}
+use Rattle.step_history.proofs.CallerLemmas.{walk_accepted, walk_accepted-end}
+use Rattle.step_history.specs.History.{ShownAsk, listed, on_path, moment_at, Reads, Delivers, Matches, Accepts}
 
 -- a reply of 12 to 65,535 octets, with the identifier and the question of this ask's text
 abbrev pub IsReplyTo : List ℕ → List ℕ → Question → Type 0
@@ -33,4 +39,20 @@ matches_ask c s past ask octets q reaches reply = record {
   question = q;
   reads = reply.6;
   same_question_as_ask = reply.7;
+}
+
+-- the step accepts a reply whose content has this end
+pub record AcceptsTo (c : Config) (s : Step) (past : List Step) (pieces servers : List Piece) (end : End) : Type 0 where
+  pub accepts : Accepts c s past pieces servers
+  pub end_is : accepts.end ≡ end
+
+pub accepted_to : (c : Config) (s : Step) (past : List Step) (ask : ShownAsk) (asked : Question) (route : ℕ)
+    (octets : List ℕ) (m : Message) → AllDiffer c.routes → Matches c s past ask octets asked → Spells octets m
+    → m.header.tc ≡ false → (m.header.rcode ≡ 0) ⊎ (m.header.rcode ≡ 3)
+    → serving_route_of c asked.name ≡ Some route → is_lame (walk_of c m asked route).end ≡ false
+    → AcceptsTo c s past (walk_of c m asked route).pieces (walk_of c m asked route).authority
+    (walk_of c m asked route).end
+accepted_to c s past ask asked route octets m differ matches spells untruncated rcode on fine = record {
+  accepts = walk_accepted c s past ask asked route octets m differ matches spells untruncated rcode on fine;
+  end_is = walk_accepted-end c s past ask asked route octets m differ matches spells untruncated rcode on fine;
 }

@@ -20,7 +20,7 @@ use Rattle.record_cache.specs.Values.{Held}
 use Rattle.outstanding.specs.declared.ask.Path.TheVariants.{Udp}
 use Rattle.step_values.specs.declared.action.Why.TheVariants.{Answered}
 use Rattle.step_values.specs.Values.{delivery, send_reply, close_udp, Step}
-use Rattle.step_history.specs.History.{Look, Matches, Carries}
+use Rattle.step_history.specs.History.{Look, ShownAsk, Matches, Carries}
 use Rattle.dns_name.proofs.CallerLemmas.{is_under_decides}
 use Rattle.trust_rank.specs.declared.slot.Slot.{Slot}
 use Rattle.cache_laws.proofs.CallerLemmas.{serves_exactly, slot_test}
@@ -84,12 +84,15 @@ unfolding message_at header_of counted question_at octets_end record_at data_at 
     name_within walk_in name_step
 error_is_read = refl
 
--- ---- both denials match the open ask, in whatever step
+-- ---- both denials match the open ask, in whatever step, sent at whatever moment
 
-matches : (code : ℕ) (s : Step) (past : List Step) → ReachesAsk config s past ask (server_text code)
-    → Matches config s past ask (server_text code) (address a)
+abbrev pub ask_at : ℕ → ShownAsk
+ask_at moment = record ask { moment = moment }
+
+matches : (moment code : ℕ) (s : Step) (past : List Step) → ReachesAsk config s past (ask_at moment) (server_text code)
+    → Matches config s past (ask_at moment) (server_text code) (address a)
 unfolding first_question question_at octets_end name_within walk_in name_step
-matches code s past reaches = matches_ask config s past ask (server_text code) (address a) reaches
+matches moment code s past reaches = matches_ask config s past (ask_at moment) (server_text code) (address a) reaches
     (omega arith, omega arith, refl, refl, refl, refl, refl, refl)
 
 -- ---- their pieces, for 30 seconds: the least of the SOA's TTL and MINIMUM (RFC 2308 5)
@@ -120,26 +123,26 @@ name_error = record {
   accepted = 1020;
 }
 
-pub none_carries : (s : Step) (past : List Step) → ReachesAsk config s past ask (server_text 0)
+pub none_carries : (moment : ℕ) (s : Step) (past : List Step) → ReachesAsk config s past (ask_at moment) (server_text 0)
     → Carries config s past (no_address.piece ∷ [])
 unfolding route_of walk_from servers_from
-none_carries s past reaches = record {
+none_carries moment s past reaches = record {
   pieces = no_address.piece ∷ [];
   servers = [];
-  accepts = walk_accepted config s past ask (address a) 0 (server_text 0) (says (server_text 0) 60) (tt, tt)
-      (matches 0 s past reaches)
+  accepts = walk_accepted config s past (ask_at moment) (address a) 0 (server_text 0) (says (server_text 0) 60) (tt, tt)
+      (matches moment 0 s past reaches)
       (message_read_is_spelled (server_text 0) (says (server_text 0) 60) none_is_read) refl (inl refl) refl refl;
   are = refl;
 }
 
-pub error_carries : (s : Step) (past : List Step) → ReachesAsk config s past ask (server_text 3)
+pub error_carries : (moment : ℕ) (s : Step) (past : List Step) → ReachesAsk config s past (ask_at moment) (server_text 3)
     → Carries config s past (name_error.piece ∷ [])
 unfolding route_of walk_from servers_from
-error_carries s past reaches = record {
+error_carries moment s past reaches = record {
   pieces = name_error.piece ∷ [];
   servers = [];
-  accepts = walk_accepted config s past ask (address a) 0 (server_text 3) (says (server_text 3) 60) (tt, tt)
-      (matches 3 s past reaches)
+  accepts = walk_accepted config s past (ask_at moment) (address a) 0 (server_text 3) (says (server_text 3) 60) (tt, tt)
+      (matches moment 3 s past reaches)
       (message_read_is_spelled (server_text 3) (says (server_text 3) 60) error_is_read) refl (inr refl) refl refl;
   are = refl;
 }
@@ -149,7 +152,7 @@ none_carried = inr (inr (
   refl,
   no_address.piece ∷ [],
   [],
-  none_carries there_is_none (asked ∷ []) (refl, refl, omega arith),
+  none_carries 1000 there_is_none (asked ∷ []) (refl, refl, omega arith),
   carried_before 4 0,
   refl,
 ))
@@ -159,7 +162,7 @@ error_carried = inr (inr (
   refl,
   name_error.piece ∷ [],
   [],
-  error_carries is_not_there (asked ∷ []) (refl, refl, omega arith),
+  error_carries 1000 is_not_there (asked ∷ []) (refl, refl, omega arith),
   carried_before 4 0,
   refl,
 ))

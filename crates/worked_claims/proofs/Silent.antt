@@ -1,14 +1,16 @@
--- If no server was heard, nothing was carried, and no alias leads on. A piece carried before may
--- serve at once.
+-- If no server was heard, nothing was carried, no alias leads on, and nothing came to be given. A
+-- piece carried before may serve at once.
 use Rattle.std.proofs.Common.{◌≡◌, ℕ, ◌<◌, List, [], ◌∷◌, ◌++◌, false, None, refl, sym, ◌∙◌, subst, ◌⊎◌, inl, inr}
 use Rattle.suffix_routes.specs.Values.{Config}
 use Rattle.dns_message.specs.Values.{Question}
+use Rattle.trust_rank.specs.Values.{Piece}
 use Rattle.record_cache.specs.Values.{Held}
 use Rattle.record_cache.specs.Ageing.{end_of}
 use Rattle.record_cache.specs.Laws.{Among}
 use Rattle.step_values.specs.Values.{delivery_in, Step}
 use Rattle.cache_laws.specs.Serving.{IsServedBy}
-use Rattle.step_history.specs.History.{is_restart, Look, NothingAccepted, moment_at}
+use Rattle.step_history.specs.Given.{EndsHere, EndsAsking}
+use Rattle.step_history.specs.History.{is_restart, Look, Accepts, NothingAccepted, moment_at}
 use Rattle.step_history.specs.Carried.{CarriedInEra, NotReplaced, Justified}
 use Rattle.step_history.specs.Answers.{FollowsAliases}
 use Rattle.worked_claims.proofs.Texts.{no_delivery}
@@ -21,6 +23,10 @@ IsSilent (s ∷ past) = (delivery_in s.input.event ≡ None) × IsSilent past
 pub nothing_heard : (c : Config) (s : Step) (past : List Step) → delivery_in s.input.event ≡ None
     → NothingAccepted c s past
 nothing_heard c s past none ps carries = no_delivery (sym none ∙ carries.accepts.matches.delivered)
+
+pub nothing_came : (c : Config) (s : Step) (past : List Step) → delivery_in s.input.event ≡ None
+    → (pieces servers : List Piece) (a : Accepts c s past pieces servers) → EndsHere a.end → EndsAsking s past a.asked
+nothing_came c s past none pieces servers a ends = absurd (no_delivery (sym none ∙ a.matches.delivered))
 
 pub nothing_carried : (c : Config) (now : List Step) (os : List Held) → IsSilent now → CarriedInEra c now os → os ≡ []
 nothing_carried c [] os silent h = h

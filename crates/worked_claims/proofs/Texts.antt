@@ -52,6 +52,12 @@ step_of now words event actions = record {
 pub no_delivery : {d : Delivered} → ◌≡◌ {A = Option Delivered} None (Some d) → ⊥
 no_delivery is = absurd cc
 
+-- a close and a reply are no asks
+pub only_closes : ⊥ ⊎ (⊥ ⊎ ⊥) → ⊥
+only_closes (inl never) = never
+only_closes (inr (inl never)) = never
+only_closes (inr (inr never)) = never
+
 -- ---- the steps of a short history
 
 -- the only step of a history

@@ -1,6 +1,7 @@
 -- A history that serves truly, whole: a question, its ask, the reply with the answer, and the same
--- question answered from cache. `NotTruly` has a neighbour for each field of `ServesTruly`, except
--- for the fields on use; `Unbelieved` and `Unused` have the neighbours for these.
+-- question answered from cache. `NotTruly` and `Given` have a neighbour for each field of
+-- `ServesTruly`, except for the fields on use; `Unbelieved` and `Unused` have the neighbours for
+-- these.
 use Rattle.std.proofs.Common.{◌≡◌, ℕ, List, [], ◌∷◌, false, refl, sym, ap, ◌∙◌, subst, inl, inr, arith}
 use Rattle.std.proofs.lemmas.Bool.{true≢false}
 use Rattle.trust_rank.specs.declared.slot.Slot.{Slot}
@@ -8,6 +9,7 @@ use Rattle.trust_rank.specs.Values.{Piece}
 use Rattle.record_cache.specs.Values.{Held}
 use Rattle.step_values.specs.Values.{Step}
 use Rattle.step_history.specs.Carried.{then_carried}
+use Rattle.step_history.specs.Given.{GivesWhatCame, AsksFewTimes}
 use Rattle.step_history.specs.Sound.{Sound}
 use Rattle.step_table.proofs.Played.{a, address, config}
 use Rattle.theorem_use.specs.Asking.{AsksForThoseWhoWait}
@@ -15,11 +17,13 @@ use Rattle.theorem_use.specs.Service.{ServesTruly}
 use Rattle.theorem_use.specs.Use.{UsesWhatStands}
 use Rattle.theorem_use.specs.Touched.{Touched, TouchedInEra, LeadsAlong, AnswersNothing, LooksUp}
 use Rattle.theorem_use.specs.Recent.{UsesWhatIsRecent}
+use Rattle.worked_claims.proofs.Texts.{only_closes}
+use Rattle.worked_claims.proofs.Silent.{nothing_came}
 use Rattle.worked_claims.proofs.Accepted.{asked, answered, piece, carries, held, carried_now}
 use Rattle.worked_claims.proofs.OnlyThis.{carries_this}
 use Rattle.worked_claims.proofs.Whole.{history, it_is_sound, it_asks_well, it_tells_that_nothing_is_due}
 use Rattle.worked_claims.proofs.Brought.{not_sent}
-use Rattle.worked_claims.proofs.FirstStep.{word, asks_it, asked_for, uses_nothing, uses_no_slot, only_asks}
+use Rattle.worked_claims.proofs.FirstStep.{word, asks_it, first_try, asked_for, uses_nothing, uses_no_slot, only_asks}
 use Rattle.worked_claims.proofs.FromAddress.{hit, StandsAfter, owns_it, answers_at_once, looked_at_the_address}
 
 -- ---- the whole history: asked, answered, and answered again from cache
@@ -39,6 +43,17 @@ sound = (
   (owns_it history (0 ∷ []) stands, refl, refl),
   λ q octets from runs moment quiet. absurd (let moments : 1020 ≡ 2000 = moment in omega (arith, moments)),
 )
+
+-- the reply is given: nothing is asked after the reply's step, nor in the step
+pub it_gives : GivesWhatCame config history
+it_gives = (
+  (tt, nothing_came config asked [] refl),
+  λ pieces servers k ends. record { none_listed = tt; none_sent = λ q. only_closes },
+)
+
+-- the ask was the first try
+pub it_asks_once : AsksFewTimes config history
+it_asks_once = (first_try config false word (omega arith), tt)
 
 -- after the reply nobody waits, and nothing is asked
 pub nobody_waits : AsksForThoseWhoWait config history ((0 ∷ []) ∷ [] ∷ [])
@@ -104,6 +119,8 @@ it_serves_truly = record {
     few = omega arith;
   };
   asks = (it_asks_well, tt, omega arith, (tt, tt));
+  given = (it_gives, nothing_came config hit history refl);
+  tries = (it_asks_once, tt);
   waiting = (nobody_waits, record { wanted = []; each = tt; asked = tt; wanting = tt; spelled = tt });
   uses = used_at_once;
   used = (held.piece.slot ∷ []) ∷ [] ∷ [] ∷ [];

@@ -1,8 +1,9 @@
 -- A history failing in the claim of standing pieces alone. A denial of a.e's addresses stands, and
--- the denied question is left to wait. No recent piece answers: an alias of a.e is alive, although
+-- the denied question is asked again. No recent piece answers: an alias of a.e is alive, although
 -- not believed on arrival (RFC 2181 5.4.1), and a denial answers only if no living alias leads on.
-use Rattle.std.proofs.Common.{◌≡◌, ◌∙◌, ℕ, zero, suc, List, [], ◌∷◌, length, Option, Some, None, Ok}
+use Rattle.std.proofs.Common.{◌≡◌, ◌∙◌, ℕ, zero, suc, List, [], ◌∷◌, Option, Some, None, Ok}
 use Rattle.std.proofs.Common.{refl, sym, ap, subst, ◌⊎◌, inl, inr, arith}
+use Rattle.std.proofs.lemmas.Bool.{true≢false}
 use Rattle.dns_message.specs.Names.{step as name_step, walk_in, name_within}
 use Rattle.dns_message.specs.Data.{octets_within, parts_at, data_at, name_of_rdata}
 use Rattle.dns_message.specs.Shapes.{shape_of}
@@ -13,28 +14,30 @@ use Rattle.dns_message.specs.Values.{Question, Message}
 use Rattle.dns_message.proofs.CallerLemmas.{message_read_is_spelled}
 use Rattle.suffix_routes.specs.Routes.{route_of}
 use Rattle.trust_rank.specs.declared.slot.Slot.{Slot}
-use Rattle.trust_rank.specs.Values.{rows}
+use Rattle.trust_rank.specs.Values.{rows, elsewhere}
 use Rattle.trust_rank.specs.Walks.{walk_from, servers_from}
 use Rattle.record_cache.specs.Values.{Held}
-use Rattle.step_values.specs.Values.{from_client, Step}
+use Rattle.step_values.specs.declared.action.Why.TheVariants.{NoPort}
+use Rattle.step_values.specs.Values.{Step}
 use Rattle.cache_laws.proofs.CallerLemmas.{keeps_place}
 use Rattle.step_history.specs.History.{Carries}
 use Rattle.step_history.specs.Carried.{CarriedInEra}
-use Rattle.step_history.proofs.CallerLemmas.{walk_accepted}
-use Rattle.step_table.proofs.Played.{a, address, name_data, config}
-use Rattle.theorem_use.specs.Asking.{AsksForWaiting}
+use Rattle.step_history.specs.Sound.{Owns}
+use Rattle.step_table.proofs.Played.{a, b, address, name_data, config}
 use Rattle.theorem_use.specs.Recent.{IsBelieved, LeadsNowhere, IsReadyEnd, IsReadyAlias, IsAnsweredByRecent, UsesWhatIsRecent}
 use Rattle.theorem_use.specs.Service.{ServesTruly}
 use Rattle.theorem_use.specs.Touched.{Touched, TouchedInEra, IsLiving}
 use Rattle.theorem_use.specs.Use.{HasRoom, IsKnown, UsesWhatStands}
-use Rattle.worked_claims.proofs.Texts.{question_text, client, step_of}
-use Rattle.worked_claims.proofs.Silent.{nothing_heard}
+use Rattle.worked_claims.proofs.Texts.{question_text, client}
+use Rattle.worked_claims.proofs.Silent.{nothing_heard, nothing_came}
 use Rattle.worked_claims.proofs.Accepted.{asked, ask, carried_before}
-use Rattle.worked_claims.proofs.ReplyTo.{matches_ask}
+use Rattle.worked_claims.proofs.ReplyTo.{matches_ask, AcceptsTo, accepted_to}
 use Rattle.worked_claims.proofs.ServerDenials.{server_text, no_address, none_carries}
 use Rattle.worked_claims.proofs.Touches.{touched_nothing, touched_these, CameIn, recent_came, the_one_brought}
-use Rattle.worked_claims.proofs.Brought.{looks_up, looks_up_no_other, wants_it}
-use Rattle.worked_claims.proofs.Waiting.{hears, asked_for_it, WaitsAlone, when_asked, when_heard}
+use Rattle.worked_claims.proofs.Brought.{not_sent, looks_up, looks_up_no_other}
+use Rattle.worked_claims.proofs.Unused.{asks_at, is_reply, waits_again, asks_again_right, tries_again, no_reply}
+use Rattle.worked_claims.proofs.Waiting.{hears, WaitsAlone, when_asked, leads_on, when_heard, no_port_text, closes_at, owns_failure}
+use Rattle.worked_claims.proofs.Waiting.{closes_all}
 
 -- ---- a.e is an alias of b.e
 
@@ -70,7 +73,8 @@ unfolding message_at header_of counted question_at octets_end record_at data_at 
     name_within walk_in name_step
 long_is_read = refl
 
--- three replies come to a single ask: both aliases, and a denial after the first alias has expired
+-- three replies come to a single ask: both aliases, and a denial after the first alias has expired;
+-- the denial closes the ask, and the question fails for lack of a port
 abbrev heard_short : Step
 heard_short = hears 1020 short_text
 
@@ -78,7 +82,7 @@ abbrev heard_long : Step
 heard_long = hears 1030 long_text
 
 abbrev heard_none : Step
-heard_none = hears 2100 (server_text 0)
+heard_none = closes_at 2100 (server_text 0) (question_text 7 1)
 
 -- ---- the carried pieces
 
@@ -113,34 +117,31 @@ after_long = heard_long ∷ after_short
 abbrev after_none : List Step
 after_none = heard_none ∷ after_long
 
-short_carries : Carries config heard_short (asked ∷ []) (short.piece ∷ [])
+-- both aliases are accepted, and lead to b.e
+short_accepted : AcceptsTo config heard_short (asked ∷ []) (short.piece ∷ []) [] (elsewhere b)
 unfolding first_question question_at octets_end name_within walk_in name_step route_of walk_from servers_from
     name_of_rdata
-short_carries = record {
-  pieces = short.piece ∷ [];
-  servers = [];
-  accepts = walk_accepted config heard_short (asked ∷ []) ask (address a) 0 short_text (says short_text 1) (tt, tt)
-      (matches_ask config heard_short (asked ∷ []) ask short_text (address a) (refl, refl, omega arith)
-      (omega arith, omega arith, refl, refl, refl, refl, refl, refl))
-      (message_read_is_spelled short_text (says short_text 1) short_is_read) refl (inl refl) refl refl;
-  are = refl;
-}
+short_accepted = accepted_to config heard_short (asked ∷ []) ask (address a) 0 short_text (says short_text 1) (tt, tt)
+    (matches_ask config heard_short (asked ∷ []) ask short_text (address a) (refl, refl, omega arith)
+    (omega arith, omega arith, refl, refl, refl, refl, refl, refl))
+    (message_read_is_spelled short_text (says short_text 1) short_is_read) refl (inl refl) refl refl
+
+long_accepted : AcceptsTo config heard_long after_short (long.piece ∷ []) [] (elsewhere b)
+unfolding first_question question_at octets_end name_within walk_in name_step route_of walk_from servers_from
+    name_of_rdata
+long_accepted = accepted_to config heard_long after_short ask (address a) 0 long_text (says long_text 60) (tt, tt)
+    (matches_ask config heard_long after_short ask long_text (address a) (refl, refl, omega arith)
+    (omega arith, omega arith, refl, refl, refl, refl, refl, refl))
+    (message_read_is_spelled long_text (says long_text 60) long_is_read) refl (inl refl) refl refl
+
+short_carries : Carries config heard_short (asked ∷ []) (short.piece ∷ [])
+short_carries = record { pieces = short.piece ∷ []; servers = []; accepts = short_accepted.accepts; are = refl }
 
 long_carries : Carries config heard_long after_short (long.piece ∷ [])
-unfolding first_question question_at octets_end name_within walk_in name_step route_of walk_from servers_from
-    name_of_rdata
-long_carries = record {
-  pieces = long.piece ∷ [];
-  servers = [];
-  accepts = walk_accepted config heard_long after_short ask (address a) 0 long_text (says long_text 60) (tt, tt)
-      (matches_ask config heard_long after_short ask long_text (address a) (refl, refl, omega arith)
-      (omega arith, omega arith, refl, refl, refl, refl, refl, refl))
-      (message_read_is_spelled long_text (says long_text 60) long_is_read) refl (inl refl) refl refl;
-  are = refl;
-}
+long_carries = record { pieces = long.piece ∷ []; servers = []; accepts = long_accepted.accepts; are = refl }
 
 none_now_carries : Carries config heard_none after_long (none.piece ∷ [])
-none_now_carries = none_carries heard_none after_long (refl, refl, omega arith)
+none_now_carries = none_carries 1000 heard_none after_long (refl, refl, omega arith)
 
 abbrev pieces : List Held
 pieces = none ∷ long ∷ short ∷ []
@@ -162,13 +163,13 @@ all_carried = inr (inr (
   refl,
 ))
 
--- ---- the denial stands, and is not used: the question joins the ask
+-- ---- the denial stands, and is not used: the question is asked again
 
-abbrev joins : Step
-joins = step_of 2200 [] (from_client client (question_text 9 1)) []
+abbrev asks_again : Step
+asks_again = asks_at 2200
 
 abbrev now : List Step
-now = joins ∷ after_none
+now = asks_again ∷ after_none
 
 room : HasRoom config after_none pieces
 room = record {
@@ -180,19 +181,18 @@ room = record {
   memory = inr (refl, inr (refl, inr (refl, inr (refl, tt))));
 }
 
-known : IsKnown config joins after_none pieces (address a)
+known : IsKnown config asks_again after_none pieces (address a)
 unfolding name_of_rdata name_within walk_in name_step route_of
 known = tt
 
-not_used : ServesTruly config (asked ∷ heard_short ∷ heard_long ∷ heard_none ∷ joins ∷ []) → ⊥
+not_used : ServesTruly config (asked ∷ heard_short ∷ heard_long ∷ heard_none ∷ asks_again ∷ []) → ⊥
 not_used h = by h.sound.owners h.uses
   where
     by : (w : List (List ℕ)) → UsesWhatStands config now w → ⊥
     by [] uses = uses
     by (is ∷ w) uses =
-        let once = uses.1 client (address a) pieces (looks_up joins 9 refl) all_carried room known in
-        let one : 0 ≡ 1 = ap length once.actions in
-        omega (arith, one)
+        let once = uses.1 client (address a) pieces (looks_up asks_again 7 refl) all_carried room known in
+        true≢false (sym (ap is_reply once.actions))
 
 -- ---- but no recent piece answers
 
@@ -278,54 +278,65 @@ none_ready zero (o, end) = no_end o end
 none_ready (suc more) (inl (o, end)) = no_end o end
 none_ready (suc more) (inr (o, name, alias, rest)) = no_alias o name alias
 
-abbrev no_owners : List (List ℕ)
-no_owners = [] ∷ [] ∷ [] ∷ [] ∷ [] ∷ []
+abbrev owners : List (List ℕ)
+owners = [] ∷ (0 ∷ []) ∷ [] ∷ [] ∷ [] ∷ []
 
 abbrev no_slots : List (List Slot)
 no_slots = [] ∷ [] ∷ [] ∷ [] ∷ [] ∷ []
 
--- until then the first question waits alone
-waits : WaitsAlone after_none ([] ∷ [] ∷ [] ∷ [] ∷ []) ([] ∷ [] ∷ [] ∷ [] ∷ [])
-waits = when_heard 2100 (server_text 0) after_long ([] ∷ [] ∷ [] ∷ []) ([] ∷ [] ∷ [] ∷ []) refl
-    (when_heard 1030 long_text after_short ([] ∷ [] ∷ []) ([] ∷ [] ∷ []) refl
-    (when_heard 1020 short_text (asked ∷ []) ([] ∷ []) ([] ∷ []) refl when_asked))
+-- until the denial the first question waits alone
+waits : WaitsAlone after_long ([] ∷ [] ∷ [] ∷ []) ([] ∷ [] ∷ [] ∷ [])
+waits = when_heard 1030 long_text after_short ([] ∷ [] ∷ []) ([] ∷ [] ∷ []) refl
+    (leads_on heard_long after_short (long.piece ∷ []) [] b long_accepted)
+    (when_heard 1020 short_text (asked ∷ []) ([] ∷ []) ([] ∷ []) refl
+    (leads_on heard_short (asked ∷ []) (short.piece ∷ []) [] b short_accepted) when_asked)
 
-it_uses_what_is_recent : UsesWhatIsRecent config now no_owners no_slots
+it_uses_what_is_recent : UsesWhatIsRecent config now owners no_slots
 it_uses_what_is_recent = (
-  waits.recent,
+  (
+    waits.recent,
+    λ ts era. (
+      inr (inr (record { none = refl; silent = λ q octets from. absurd from.0 })),
+      λ asker q looks recent. absurd (not_sent looks.sends),
+    ),
+  ),
   λ ts era. (
-    inr (inr (record { none = refl; silent = λ q octets from. absurd from.1 })),
+    inr (inr (record { none = refl; silent = λ q octets from. absurd (no_reply octets from.1) })),
     λ asker q looks recent. absurd (none_ready 8
         (subst (λ (z : List Touched × Question). IsAnsweredByRecent config 2200 z.0 8 z.1)
-        (λ i. (touched_so ts era i, sym (looks_up_no_other config joins 9 refl asker q looks) i)) recent)),
+        (λ i. (touched_so ts era i, sym (looks_up_no_other config asks_again 7 refl asker q looks) i)) recent)),
   ),
 )
 
 -- ---- and all else holds
 
-waits_both : AsksForWaiting config joins after_none []
-waits_both = record {
-  wanted = address a ∷ address a ∷ [];
-  each = (
-    wants_it config asked 7 [] now refl (inr (refl, waits.in_era)),
-    (wants_it config joins 9 after_none now refl (inl refl), tt),
-  );
-  asked = (inl asked_for_it, (inl asked_for_it, tt));
-  wanting = (inl asked_for_it, tt);
-  spelled = (inl (inl refl), tt);
-}
+owns : Owns config after_none [] 0 (record { client = client; octets = no_port_text (question_text 7 1); why = NoPort })
+unfolding first_question question_at octets_end name_within walk_in name_step
+owns = owns_failure 2100 (server_text 0) (question_text 7 1) after_long [] asked [] waits.in_era refl refl refl
 
-but_for_its_use : UsesWhatStands config now no_owners
-    → ServesTruly config (asked ∷ heard_short ∷ heard_long ∷ heard_none ∷ joins ∷ [])
+but_for_its_use : UsesWhatStands config now owners
+    → ServesTruly config (asked ∷ heard_short ∷ heard_long ∷ heard_none ∷ asks_again ∷ [])
 but_for_its_use uses = record {
   sound = record {
-    owners = no_owners;
-    sound = (waits.sound, refl, λ q octets hit. absurd hit.1);
-    tells = (waits.tells, refl);
+    owners = owners;
+    sound = (
+      (waits.sound, (owns, refl, refl), λ q octets hit. absurd hit.0),
+      refl,
+      λ q octets hit. absurd (no_reply octets hit.1),
+    );
+    tells = ((waits.tells, refl), refl);
     few = omega arith;
   };
-  asks = (waits.asks, (tt, tt), omega arith, tt);
-  waiting = (waits.waiting, waits_both);
+  asks = ((waits.asks, tt, omega arith, (tt, (tt, tt))), (tt, tt), omega arith, ((asks_again_right 2200 after_none refl, refl), tt));
+  given = (
+    (waits.given, closes_all 2100 (server_text 0) (question_text 7 1) after_long refl),
+    nothing_came config asks_again after_none refl,
+  );
+  tries = ((waits.tries, tt), tries_again 2200 after_none refl refl);
+  waiting = (
+    (waits.waiting, record { wanted = []; each = tt; asked = tt; wanting = tt; spelled = tt }),
+    waits_again 2200 after_none refl refl refl,
+  );
   uses = uses;
   used = no_slots;
   recent = it_uses_what_is_recent;

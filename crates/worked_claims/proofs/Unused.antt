@@ -2,6 +2,7 @@
 -- pieces are not used either; the second fails in the claim of recent pieces alone.
 use Rattle.std.proofs.Common.{◌≡◌, ℕ, List, [], ◌∷◌, Bool, false, Some, refl, sym, ap, subst}
 use Rattle.std.proofs.Common.{inl, inr, arith}
+use Rattle.std.specs.List.{AllByRecursion}
 use Rattle.std.specs.Prelude.{length, not, is_none}
 use Rattle.std.proofs.lemmas.Bool.{true≢false}
 use Rattle.dns_message.specs.Names.{step as name_step, walk_in, name_within}
@@ -16,6 +17,7 @@ use Rattle.step_history.specs.History.{ShownAsk, listed}
 use Rattle.cache_laws.proofs.CallerLemmas.{serves_exactly}
 use Rattle.step_history.specs.Asked.{AsksRight}
 use Rattle.step_history.specs.Draws.{drawn}
+use Rattle.step_history.specs.Given.{IsOneOfTries}
 use Rattle.step_history.specs.Sound.{Replies, unanswered}
 use Rattle.step_table.proofs.Played.{a, address, server, config}
 use Rattle.theorem_use.specs.Asking.{AsksForWaiting}
@@ -24,18 +26,21 @@ use Rattle.theorem_use.specs.Use.{FoundMemory, HasRoom, UsesWhatStands}
 use Rattle.theorem_use.specs.Touched.{Touched, TouchedInEra, LooksOn, Uses}
 use Rattle.theorem_use.specs.Recent.{IsAnsweredByRecent, UsesWhatIsRecent}
 use Rattle.worked_claims.proofs.Texts.{question_text, client, step_of, no_delivery}
-use Rattle.worked_claims.proofs.Silent.{nothing_heard}
+use Rattle.worked_claims.proofs.Silent.{nothing_heard, nothing_came}
 use Rattle.worked_claims.proofs.Accepted.{asked, answered, piece, carries, held, carried_now}
 use Rattle.worked_claims.proofs.OnlyThis.{leads_nowhere}
 use Rattle.worked_claims.proofs.Whole.{history, it_is_sound, it_asks_well, it_tells_that_nothing_is_due}
-use Rattle.worked_claims.proofs.Brought.{not_sent, looks_up, wants_it, waits_for_new}
-use Rattle.worked_claims.proofs.Truly.{nobody_waits, handed_on}
+use Rattle.worked_claims.proofs.Brought.{not_sent, looks_up, wants_it, waits_for_new, begins_tries}
+use Rattle.worked_claims.proofs.Truly.{it_gives, it_asks_once, nobody_waits, handed_on}
 
 -- ---- standing, recent pieces are not used: the question is asked again
 
-abbrev asks_again : Step
-asks_again = step_of 2000 (1048592 ∷ []) (from_client client (question_text 7 1))
+abbrev pub asks_at : ℕ → Step
+asks_at now = step_of now (1048592 ∷ []) (from_client client (question_text 7 1))
     (ask_udp 1040 server (question_text 16 1) ∷ [])
+
+abbrev asks_again : Step
+asks_again = asks_at 2000
 
 room : HasRoom config history (held ∷ [])
 room = record {
@@ -43,7 +48,7 @@ room = record {
   memory = inr (refl, inr (refl, tt));
 }
 
-abbrev is_reply : List Action → Bool
+abbrev pub is_reply : List Action → Bool
 is_reply [] = false
 is_reply (x ∷ more) = not (is_none (reply_in_action x))
 
@@ -56,30 +61,37 @@ not_used h = by h.sound.owners h.uses
         let once = uses.1 client (address a) (held ∷ []) (looks_up asks_again 7 refl) (carried_now 4 0) room tt in
         true≢false (sym (ap is_reply once.actions))
 
-abbrev ask_again : ShownAsk
-ask_again = record { path = Udp 1040; server = server; octets = question_text 16 1; moment = 2000 }
+abbrev pub ask_at : ℕ → ShownAsk
+ask_at now = record { path = Udp 1040; server = server; octets = question_text 16 1; moment = now }
 
 -- the question waits, after a history without an ask
-waits_again : (past : List Step) → listed past ≡ [] → listed (asks_again ∷ past) ≡ ask_again ∷ []
-    → unanswered (asks_again ∷ past) (0 ∷ []) ≡ length past ∷ [] → AsksForWaiting config asks_again past (0 ∷ [])
+pub waits_again : (now : ℕ) (past : List Step) → listed past ≡ [] → listed (asks_at now ∷ past) ≡ ask_at now ∷ []
+    → unanswered (asks_at now ∷ past) (0 ∷ []) ≡ length past ∷ [] → AsksForWaiting config (asks_at now) past (0 ∷ [])
 unfolding first_question question_at octets_end name_within walk_in name_step
-waits_again past none_before one_now one_waits =
-    waits_for_new config asks_again past (0 ∷ []) ask_again (address a) none_before one_now one_waits
-    (wants_it config asks_again 7 past (asks_again ∷ past) refl (inl refl)) refl refl
+waits_again now past none_before one_now one_waits =
+    waits_for_new config (asks_at now) past (0 ∷ []) (ask_at now) (address a) none_before one_now one_waits
+    (wants_it config (asks_at now) 7 past (asks_at now ∷ past) refl (inl refl)) refl refl
 
-asks_again_right : (past : List Step) → listed past ≡ []
-    → AsksRight config asks_again past (record { path = Udp 1040; server = server; octets = question_text 16 1 })
+pub asks_again_right : (now : ℕ) (past : List Step) → listed past ≡ []
+    → AsksRight config (asks_at now) past (record { path = Udp 1040; server = server; octets = question_text 16 1 })
 unfolding written ◌▹◌ each name_text first_question question_at octets_end name_within walk_in name_step route_of
-asks_again_right past none = record {
+asks_again_right now past none = record {
   id = 16;
   question = address a;
   text = refl;
   reads = refl;
   server = record { route = 0; group = _; place = 0; route_is = serves_exactly.only config a 0 refl; there = refl; server = refl };
-  drawn_so = subst (λ (asks : List ShownAsk). drawn asks_again.input.words asks asks_again.outcome.actions ≡ Some (16, 1040)) (sym none) refl;
+  drawn_so = subst (λ (asks : List ShownAsk). drawn (1048592 ∷ []) asks (asks_at now).outcome.actions ≡ Some (16, 1040)) (sym none) refl;
 }
 
-no_reply : (octets : List ℕ) → Replies asks_again.outcome.actions octets → ⊥
+-- the first try of a new inquiry
+pub tries_again : (now : ℕ) (past : List Step) → listed past ≡ [] → listed (asks_at now ∷ past) ≡ ask_at now ∷ []
+    → AllByRecursion (IsOneOfTries config (asks_at now ∷ past)) (listed (asks_at now ∷ past))
+unfolding first_question question_at octets_end name_within walk_in name_step
+tries_again now past none_before one_now = begins_tries config (asks_at now) past (ask_at now) (address a) refl none_before
+    one_now refl (inl (address a, refl, refl)) (omega arith)
+
+pub no_reply : (octets : List ℕ) → Replies (ask_udp 1040 server (question_text 16 1) ∷ []) octets → ⊥
 no_reply octets (inl never) = never
 no_reply octets (inr none) = none
 
@@ -93,8 +105,10 @@ but_for_its_use uses recent = record {
     tells = (it_tells_that_nothing_is_due, refl);
     few = omega arith;
   };
-  asks = (it_asks_well, (tt, tt), omega arith, ((asks_again_right history refl, refl), tt));
-  waiting = (nobody_waits, waits_again history refl refl refl);
+  asks = (it_asks_well, (tt, tt), omega arith, ((asks_again_right 2000 history refl, refl), tt));
+  given = (it_gives, nothing_came config asks_again history refl);
+  tries = (it_asks_once, tries_again 2000 history refl refl);
+  waiting = (nobody_waits, waits_again 2000 history refl refl refl);
   uses = uses;
   used = [] ∷ [] ∷ [] ∷ [];
   recent = recent;
@@ -213,10 +227,12 @@ but_for_what_is_recent recent = record {
     tells = ((it_tells_that_nothing_is_due, refl), refl);
     few = omega arith;
   };
-  asks = ((it_asks_well, tt, omega arith, tt), (tt, tt), omega arith, ((asks_again_right stumbled refl, refl), tt));
+  asks = ((it_asks_well, tt, omega arith, tt), (tt, tt), omega arith, ((asks_again_right 2000 stumbled refl, refl), tt));
+  given = ((it_gives, nothing_came config stumbles history refl), nothing_came config asks_again stumbled refl);
+  tries = ((it_asks_once, tt), tries_again 2000 stumbled refl refl);
   waiting = (
     (nobody_waits, record { wanted = []; each = tt; asked = tt; wanting = tt; spelled = tt }),
-    waits_again stumbled refl refl refl,
+    waits_again 2000 stumbled refl refl refl,
   );
   uses = out_of_memory;
   used = [] ∷ [] ∷ [] ∷ [] ∷ [];

@@ -3,6 +3,7 @@
 -- slot was used. Only the answer's text shows the name error's slot as unused.
 use Rattle.std.proofs.Common.{◌≡◌, ◌∙◌, ℕ, List, [], ◌∷◌, get_or, length, Option, Some, None, refl, sym, ap, subst}
 use Rattle.std.proofs.Common.{inl, inr, arith}
+use Rattle.std.specs.List.{AllByRecursion}
 use Rattle.std.specs.Prelude.{map}
 use Rattle.dns_message.specs.Names.{step as name_step, walk_in, name_within}
 use Rattle.dns_message.specs.Shapes.{shape_of}
@@ -13,52 +14,60 @@ use Rattle.dns_message.specs.Messages.{first_question}
 use Rattle.dns_message.specs.Questions.{one_question}
 use Rattle.dns_message.specs.Values.{Question}
 use Rattle.dns_message.specs.Writing.{◌▹◌, each, name_text, data_text, with_length, written}
+use Rattle.suffix_routes.specs.Routes.{route_of}
 use Rattle.trust_rank.specs.declared.slot.Slot.{Slot}
+use Rattle.outstanding.specs.declared.ask.Path.TheVariants.{Udp}
+use Rattle.step_values.specs.declared.event.Client.{Client}
+use Rattle.step_values.specs.declared.action.Why.TheVariants.{NoPort}
 use Rattle.record_cache.specs.Values.{Held}
 use Rattle.answer_builder.specs.Values.{asked_in}
 use Rattle.answer_builder.specs.Answers.{sections_of}
-use Rattle.step_values.specs.Values.{Request, Step}
-use Rattle.cache_laws.proofs.CallerLemmas.{keeps_place}
-use Rattle.step_history.specs.History.{Carries}
+use Rattle.step_values.specs.Values.{Request, from_client, Step}
+use Rattle.cache_laws.proofs.CallerLemmas.{keeps_place, serves_exactly}
+use Rattle.step_history.specs.Asked.{AsksRight}
+use Rattle.step_history.specs.Given.{IsOneOfTries}
+use Rattle.step_history.specs.History.{listed, Carries}
 use Rattle.step_history.specs.Carried.{NotReplaced}
 use Rattle.step_history.specs.Replies.{full_text, short_text, sized_for}
-use Rattle.step_history.specs.Sound.{Replies, FromCache, Sound}
-use Rattle.step_table.proofs.Played.{a, address, config}
+use Rattle.step_history.specs.Sound.{Replies, FromCache, Owns, Sound}
+use Rattle.step_table.proofs.Played.{a, address, server, config}
+use Rattle.theorem_use.specs.Asking.{Wants, AsksForWaiting}
 use Rattle.theorem_use.specs.Service.{ServesTruly}
 use Rattle.theorem_use.specs.Touched.{Touched, TouchedInEra, LeadsAlong, AnswersNothing, LooksUp, Uses}
-use Rattle.theorem_use.specs.Use.{UsesWhatStands}
-use Rattle.worked_claims.proofs.Texts.{question_text, client, no_delivery}
-use Rattle.worked_claims.proofs.Silent.{nothing_heard}
-use Rattle.worked_claims.proofs.Accepted.{asked, reply_text, piece, reply_carries, held, carried_before}
-use Rattle.worked_claims.proofs.ServerDenials.{server_text, name_error, error_carries}
-use Rattle.worked_claims.proofs.Touches.{touched_these}
-use Rattle.worked_claims.proofs.Brought.{request_is, question_is}
-use Rattle.worked_claims.proofs.Waiting.{hears, waits_on, WaitsAlone, when_asked, when_heard}
+use Rattle.theorem_use.specs.Use.{AsksToLookUp, UsesWhatStands}
+use Rattle.worked_claims.proofs.Texts.{question_text, status_text, client, step_of, no_delivery}
+use Rattle.worked_claims.proofs.Silent.{nothing_heard, nothing_came}
+use Rattle.worked_claims.proofs.Accepted.{asked, answered, piece, carries, held, carried_now}
+use Rattle.worked_claims.proofs.ServerDenials.{server_text, ask_at, name_error, error_carries}
+use Rattle.worked_claims.proofs.Touches.{touched_nothing, touched_these}
+use Rattle.worked_claims.proofs.Brought.{request_is, not_sent, question_is, waits_for_new, begins_tries}
+use Rattle.worked_claims.proofs.FirstStep.{word, asks_it, only_asks}
+use Rattle.worked_claims.proofs.Truly.{it_gives, it_asks_once, nobody_waits, handed_on, recent_so_far}
+use Rattle.worked_claims.proofs.Whole.{history, it_is_sound, it_asks_well, it_tells_that_nothing_is_due}
+use Rattle.worked_claims.proofs.Waiting.{no_port_text, closes_at, owns_failure, closes_all}
 use Rattle.worked_claims.proofs.FromAddress.{again_text, hit, text_from, StandsAfter, owns_it, answers_at_once, looked}
 use Rattle.worked_claims.proofs.FromAddress.{looked_at_the_address}
 
--- ---- two replies come to a single ask: the address, then the name error
+-- ---- the address comes, then the name error, by a second ask: for a message of opcode 2, of which
+-- no claim on use speaks
 
-abbrev hears_address : Step
-hears_address = hears 1020 reply_text
+abbrev asks_status : Step
+asks_status = step_of 1025 word (from_client client (status_text 9)) asks_it
 
 abbrev hears_error : Step
-hears_error = hears 1030 (server_text 3)
+hears_error = closes_at 1030 (server_text 3) (status_text 9)
 
 abbrev error : Held
 error = record name_error { accepted = 1030 }
 
-abbrev after_address : List Step
-after_address = hears_address ∷ asked ∷ []
+abbrev with_status : List Step
+with_status = asks_status ∷ history
 
 abbrev before : List Step
-before = hears_error ∷ after_address
+before = hears_error ∷ with_status
 
-address_carries : Carries config hears_address (asked ∷ []) (piece ∷ [])
-address_carries = reply_carries 4 0 hears_address (asked ∷ []) (refl, refl, omega arith)
-
-error_now_carries : Carries config hears_error after_address (error.piece ∷ [])
-error_now_carries = error_carries hears_error after_address (refl, refl, omega arith)
+error_now_carries : Carries config hears_error with_status (error.piece ∷ [])
+error_now_carries = error_carries 1025 hears_error with_status (refl, refl, omega arith)
 
 -- the address stands next to the name error
 stands : StandsAfter before
@@ -69,7 +78,7 @@ stands = record {
     error.piece ∷ [],
     held ∷ [],
     error_now_carries,
-    inr (inr (refl, piece ∷ [], [], address_carries, carried_before 4 0, refl)),
+    inr (inl (refl, nothing_heard config asks_status history refl, carried_now 4 0)),
     refl,
   ));
   kept = inr (keeps_place error.piece held.piece refl, inl refl);
@@ -78,69 +87,159 @@ stands = record {
 
 -- ---- the client asks again, and gets the address, with a second less
 
--- the first question waits on
-waits : WaitsAlone before ([] ∷ [] ∷ [] ∷ []) ([] ∷ [] ∷ [] ∷ [])
-waits = when_heard 1030 (server_text 3) after_address ([] ∷ [] ∷ []) ([] ∷ [] ∷ []) refl
-    (when_heard 1020 reply_text (asked ∷ []) ([] ∷ []) ([] ∷ []) refl when_asked)
-
 abbrev now : List Step
 now = hit ∷ before
 
 abbrev owners : List (List ℕ)
-owners = (3 ∷ []) ∷ [] ∷ [] ∷ [] ∷ []
+owners = (4 ∷ []) ∷ (2 ∷ []) ∷ [] ∷ (0 ∷ []) ∷ [] ∷ []
+
+owns : Owns config before (0 ∷ []) 2 (record { client = client; octets = no_port_text (status_text 9); why = NoPort })
+unfolding first_question question_at octets_end name_within walk_in name_step
+owns = owns_failure 1030 (server_text 3) (status_text 9) with_status (0 ∷ []) asks_status history (inl refl) refl refl refl
 
 sound : Sound config now owners
 sound = (
-  waits.sound,
-  (owns_it before [] stands, refl, refl),
+  (
+    (it_is_sound, refl, λ q octets from. absurd (only_asks octets from.1)),
+    (owns, refl, refl),
+    λ q octets from. absurd from.0,
+  ),
+  (owns_it before (2 ∷ 0 ∷ []) stands, refl, refl),
   λ q octets from runs moment quiet. absurd (let moments : 1030 ≡ 2000 = moment in omega (arith, moments)),
 )
 
+-- no claim on use speaks of this message
+not_standard : {X : Type 0} (asker : Client) (q : Question) → AsksToLookUp config asks_status asker q → X
+not_standard asker q looks =
+    let own : Request = record { client = client; octets = status_text 9 } in
+    let octets : status_text 9 ≡ looks.octets = ap (λ (r : Request). r.octets)
+    (request_is own (record { client = asker; octets = looks.octets }) looks.sends) in
+    let codes : 2 ≡ 0 = ap (λ (octets : List ℕ). (header_in octets).opcode) octets ∙ looks.opcode in
+    absurd (omega (arith, codes))
+
 used_at_once : UsesWhatStands config now owners
 used_at_once = (
-  waits.uses,
-  λ asker q some asks is room known. answers_at_once before [] stands asker asks.octets asks.sends,
+  (
+    (handed_on, λ asker q some asks is room known. not_standard asker q asks),
+    λ asker q some asks is room known. absurd (not_sent asks.sends),
+  ),
+  λ asker q some asks is room known. answers_at_once before (2 ∷ 0 ∷ []) stands asker asks.octets asks.sends,
 )
+
+-- ---- the ask, and who waits
+
+asks_status_right : AsksRight config asks_status history (record { path = Udp 1032; server = server; octets = question_text 8 1 })
+unfolding written ◌▹◌ each name_text first_question question_at octets_end name_within walk_in name_step route_of
+asks_status_right = record {
+  id = 8;
+  question = address a;
+  text = refl;
+  reads = refl;
+  server = record { route = 0; group = _; place = 0; route_is = serves_exactly.only config a 0 refl; there = refl; server = refl };
+  drawn_so = refl;
+}
+
+wants_status : Wants config with_status 2 (address a)
+unfolding first_question question_at octets_end name_within walk_in name_step
+wants_status = record {
+  asked = asks_status;
+  before = history;
+  in_era = inl refl;
+  number = refl;
+  client = client;
+  request = status_text 9;
+  sent = refl;
+  question = address a;
+  reads = refl;
+  aliases = [];
+  leads = record { few = omega arith; follows = refl };
+}
+
+status_waits : AsksForWaiting config asks_status history (0 ∷ [])
+unfolding first_question question_at octets_end name_within walk_in name_step
+status_waits =
+    waits_for_new config asks_status history (0 ∷ []) (ask_at 1025) (address a) refl refl refl wants_status refl refl
+
+tries_status : AllByRecursion (IsOneOfTries config with_status) (listed with_status)
+unfolding first_question question_at octets_end name_within walk_in name_step
+tries_status = begins_tries config asks_status history (ask_at 1025) (address a) refl refl refl refl
+    (inl (address a, refl, refl)) (omega arith)
 
 -- ---- all else holds, whatever the slots claimed as used
 
 -- a look-up of the newest step used these slots
 abbrev LookedUp : List Slot → Type 0
-LookedUp slots = (ts : List Touched) → TouchedInEra config before ([] ∷ [] ∷ [] ∷ []) ts
+LookedUp slots = (ts : List Touched) → TouchedInEra config before ([] ∷ [] ∷ [] ∷ [] ∷ []) ts
     → LooksUp config hit before ts slots
 
 but_for_its_slots : (slots : List Slot) → LookedUp slots
-    → ServesTruly config (asked ∷ hears_address ∷ hears_error ∷ hit ∷ [])
+    → ServesTruly config (asked ∷ answered ∷ asks_status ∷ hears_error ∷ hit ∷ [])
 but_for_its_slots slots looked_up = record {
-  sound = record { owners = owners; sound = sound; tells = (waits.tells, refl); few = omega arith };
-  asks = (waits.asks, (tt, tt), omega arith, (tt, tt));
-  waiting = (waits.waiting, waits_on hit before (3 ∷ []) (inr (refl, waits.in_era)) refl refl refl);
+  sound = record {
+    owners = owners;
+    sound = sound;
+    tells = (((it_tells_that_nothing_is_due, refl), refl), refl);
+    few = omega arith;
+  };
+  asks = (
+    ((it_asks_well, (tt, tt), omega arith, ((asks_status_right, refl), tt)), tt, omega arith, (tt, (tt, tt))),
+    tt,
+    omega arith,
+    (tt, tt),
+  );
+  given = (
+    (
+      (it_gives, nothing_came config asks_status history refl),
+      closes_all 1030 (server_text 3) (status_text 9) with_status refl,
+    ),
+    nothing_came config hit before refl,
+  );
+  tries = (((it_asks_once, tries_status), tt), tt);
+  waiting = (
+    ((nobody_waits, status_waits), record { wanted = []; each = tt; asked = tt; wanting = tt; spelled = tt }),
+    record { wanted = []; each = tt; asked = tt; wanting = tt; spelled = tt },
+  );
   uses = used_at_once;
-  used = slots ∷ [] ∷ [] ∷ [] ∷ [];
+  used = slots ∷ [] ∷ [] ∷ [] ∷ [] ∷ [];
   recent = (
-    waits.recent,
+    (
+      (
+        recent_so_far,
+        λ ts era. (
+          inr (inr (record { none = refl; silent = λ q octets from. absurd (only_asks octets from.1) })),
+          λ asker q asks known. not_standard asker q asks,
+        ),
+      ),
+      λ ts era. (
+        inr (inr (record { none = refl; silent = λ q octets from. absurd from.0 })),
+        λ asker q asks known. absurd (not_sent asks.sends),
+      ),
+    ),
     λ ts era. (
       inl (looked_up ts era),
-      λ asker q asks known. answers_at_once before [] stands asker asks.octets asks.sends,
+      λ asker q asks known. answers_at_once before (2 ∷ 0 ∷ []) stands asker asks.octets asks.sends,
     ),
   );
 }
 
 -- ---- the slot of the address
 
--- the two pieces are the newest touched by the era
+-- the era touched the address, then the name error
 abbrev BeginsSo : List Touched → Type 0
 BeginsSo ts = (older : List Touched) × (ts ≡ record { carried = error ∷ []; used = []; unkept = 0 }
-    ∷ record { carried = held ∷ []; used = []; unkept = 0 } ∷ older)
+    ∷ record { carried = []; used = []; unkept = 0 } ∷ record { carried = held ∷ []; used = []; unkept = 0 } ∷ older)
 
-begins_so : (ts : List Touched) → TouchedInEra config before ([] ∷ [] ∷ [] ∷ []) ts → BeginsSo ts
+begins_so : (ts : List Touched) → TouchedInEra config before ([] ∷ [] ∷ [] ∷ [] ∷ []) ts → BeginsSo ts
 begins_so ts era =
-    let second = touched_these config hears_error after_address (error.piece ∷ []) [] ([] ∷ [] ∷ []) ts (tt, tt) refl
+    let third = touched_these config hears_error with_status (error.piece ∷ []) [] ([] ∷ [] ∷ [] ∷ []) ts (tt, tt) refl
     error_now_carries era in
-    let first = touched_these config hears_address (asked ∷ []) (piece ∷ []) [] ([] ∷ []) second.before (tt, tt) refl
-    address_carries second.era in (
+    let second = touched_nothing config asks_status history [] ([] ∷ [] ∷ []) third.before refl
+    (nothing_heard config asks_status history refl) third.era in
+    let first = touched_these config answered (asked ∷ []) (piece ∷ []) [] ([] ∷ []) second.before (tt, tt) refl
+    (carries 4 0) second.era in (
       first.before,
-      second.is ∙ ap (λ (older : List Touched). record { carried = error ∷ []; used = []; unkept = 0 } ∷ older) first.is,
+      third.is ∙ ap (λ (older : List Touched). record { carried = error ∷ []; used = []; unkept = 0 } ∷ older)
+          (second.is ∙ ap (λ (older : List Touched). record { carried = []; used = []; unkept = 0 } ∷ older) first.is),
     )
 
 along_the_address : (ts : List Touched) → BeginsSo ts → LeadsAlong (AnswersNothing hit) 2000 ts (address a) (held ∷ [])
@@ -153,7 +252,7 @@ along_the_address ts (older, is) =
 uses_the_address : LookedUp (held.piece.slot ∷ [])
 uses_the_address ts era = looked_at_the_address before ts stands (along_the_address ts (begins_so ts era))
 
-it_serves_truly : ServesTruly config (asked ∷ hears_address ∷ hears_error ∷ hit ∷ [])
+it_serves_truly : ServesTruly config (asked ∷ answered ∷ asks_status ∷ hears_error ∷ hit ∷ [])
 it_serves_truly = but_for_its_slots (held.piece.slot ∷ []) uses_the_address
 
 -- ---- the slot of the name error: a look-up leads along the error, and the text alone differs
@@ -177,10 +276,10 @@ not_from_the_error same = let codes : 128 ≡ 131 = ap (λ (octets : List ℕ). 
 
 abbrev touched : List Touched
 touched =
-    record { carried = error ∷ []; used = []; unkept = 0 } ∷ record { carried = held ∷ []; used = []; unkept = 0 }
-    ∷ record { carried = []; used = []; unkept = 0 } ∷ []
+    record { carried = error ∷ []; used = []; unkept = 0 } ∷ record { carried = []; used = []; unkept = 0 }
+    ∷ record { carried = held ∷ []; used = []; unkept = 0 } ∷ record { carried = []; used = []; unkept = 0 } ∷ []
 
-touched_so : TouchedInEra config before ([] ∷ [] ∷ [] ∷ []) touched
+touched_so : TouchedInEra config before ([] ∷ [] ∷ [] ∷ [] ∷ []) touched
 touched_so = inr (
   refl,
   error ∷ [],
@@ -188,10 +287,17 @@ touched_so = inr (
   inr (error.piece ∷ [], error_now_carries, refl),
   inr (
     refl,
-    held ∷ [],
+    [],
     _,
-    inr (piece ∷ [], address_carries, refl),
-    inr (refl, [], [], inl (nothing_heard config asked [] refl, refl), refl, refl),
+    inl (nothing_heard config asks_status history refl, refl),
+    inr (
+      refl,
+      held ∷ [],
+      _,
+      inr (piece ∷ [], carries 4 0, refl),
+      inr (refl, [], [], inl (nothing_heard config asked [] refl, refl), refl, refl),
+      refl,
+    ),
     refl,
   ),
   refl,

@@ -55,7 +55,7 @@ it_has_two_owners h = let none : 1 ≡ 0 = ap (λ (is : List ℕ). length is) h.
 
 -- the ask is for the question, to a server of its route, with the identifier and port of its word
 pub it_asks_well : AsksWell config history
-it_asks_well = (asks_right 1024 false, tt, omega arith, (tt, (tt, tt)))
+it_asks_well = (asks_right config.limits false (omega arith), tt, omega arith, (tt, (tt, tt)))
 
 pub it_tells_that_nothing_is_due : TellsMore config history ((0 ∷ []) ∷ [] ∷ [])
 it_tells_that_nothing_is_due = ((tt, refl), refl)
