@@ -33,9 +33,9 @@ pub record ServesTruly (c : Config) (steps : List Step) : Type 0 where
   -- is wanted (RFC 1034 3.6.2). A new ask has the spelling of the wanted question, or of the failed
   -- ask before. With the same owners.
   pub waiting : AsksForThoseWhoWait c (reverse steps) sound.owners
-  -- A reply that came is given: after the step that accepts a reply with an answer or a denial no ask
-  -- for its question is listed, and the step sends none. So nobody waits for this question, by
-  -- `waiting` (`NobodyWaitsForWhatCame`).
+  -- After a step that accepts a reply with a set or a denial, no ask for the reply's question is
+  -- listed, and the step sends no ask. So by `waiting` nobody waits for this question
+  -- (`NobodyWaitsForWhatCame`).
   pub given : GivesWhatCame c (reverse steps)
   -- After every step fewer than `tries` asks failed before each listed ask, in its inquiry.
   pub tries : AsksFewTimes c (reverse steps)

@@ -19,7 +19,7 @@ pub fn runs_serve_truly()
     ensures { RunsServeTruly }
 {}
 
-/// After a step that accepts a reply with an answer to its question, nobody waits for this question.
+/// After a step that accepts a reply with a set or a denial, nobody waits for the reply's question.
 pub fn nobody_waits_for_what_came()
     ensures { NobodyWaitsForWhatCame }
 {}
