@@ -1,5 +1,13 @@
 """Pages that a tool writes, and compares if asked for a check alone."""
+import textwrap
+
 from repository.crates import TOP
+
+
+def wrapped(text, first="", further=""):
+    """A paragraph in lines of the pages' width, with these indents."""
+    return textwrap.fill(" ".join(text.split()), 120, initial_indent=first,
+                         subsequent_indent=further, break_long_words=False, break_on_hyphens=False)
 
 
 def kept(page, text, is_checked, command, faults=(), fine=None):

@@ -1,9 +1,9 @@
 """The page of the statement: all definitions that the headline reaches."""
 import re
 import sys
-import textwrap
 
 from repository.crates import CRATES, TOP, purpose, uses
+from repository.generated import wrapped
 from repository.shared import sources
 from repository.specs import words_of
 from repository.statement import HEADLINE, Statement, parts_of
@@ -32,12 +32,6 @@ row of the table, except by the theorem's and the laws' own: an error there has 
 other words, for the code to follow. Types of data are common to all, and have no mark. A claim that
 says too little is found by reading alone.
 """
-
-
-def wrapped(text, further=""):
-    """The text in lines of the page's width."""
-    return textwrap.fill(" ".join(text.split()), 120, subsequent_indent=further,
-                         break_long_words=False, break_on_hyphens=False)
 
 
 def link(file):
@@ -86,7 +80,7 @@ def names(statement):
     comments = statement.specs.comments
     for name, keys in statement.of_one_name().items():
         each = "; ".join(f"in {link(key[:2])}, {comments[key]}" for key in keys)
-        yield wrapped(f"- `{name}`: {each}".rstrip(".") + ".", "  ")
+        yield wrapped(f"- `{name}`: {each}".rstrip(".") + ".", "", "  ")
 
 
 def declaration(crate, module, name):
