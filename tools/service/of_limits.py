@@ -56,6 +56,23 @@ def more_clients_than_may_be(program):
 
 
 @case
+def as_many_clients_as_may_be_with_a_piece_each(program):
+    """1,024 clients send a part of a question, and then the rest."""
+    with Forwarder(program, [Server()], bounds=descriptors_at_most(4096)) as forwarder:
+        asked = [framed(question(identifier=n)) for n in range(1024)]
+        clients = []
+        for octets in asked:
+            clients.append(forwarder.tcp())
+            clients[-1].sendall(octets[:9])
+        for client, octets in zip(clients, asked):
+            client.sendall(octets[9:])
+        for n, client in enumerate(clients):
+            is_answer(take_frame(client), asked[n][2:])
+        closed(clients)
+        forwarder.is_well()
+
+
+@case
 def no_descriptor_is_left(program):
     """Connections without question for a second give way to queries, new ones do not."""
     with Forwarder(program, [Server()], bounds=descriptors_at_most(40)) as forwarder:
