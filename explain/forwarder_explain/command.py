@@ -1,4 +1,4 @@
-"""The command `forwarder-explain`: what it prints, and its status."""
+"""The command `forwarder-explain`: its output, and its status."""
 import gc
 import os
 import sys
@@ -6,8 +6,7 @@ import time
 
 from . import configuration, following
 from .capture import Capture, Unreadable, counts_losses
-from .clock import Straightened
-from .explaining import by_time
+from .clock import InOrder
 from .files import captures_in, first_moment, opened, size_of
 from .options import arguments, span_of
 from .packets import Decoder
@@ -16,11 +15,11 @@ from .times import FILE_OVERLAP, PROGRESS, SECOND
 from .wording import moment_text, shown
 
 DIFFERENT, UNREADABLE = 1, 2
-SELDOM = 200_000  # objects between two looks of Python for cycles, of which there are few
+SELDOM = 200_000  # objects between two searches of Python for cycles, of which there are few
 
 
 class Progress:
-    """A bar on standard error, once something has taken a second, on a terminal."""
+    """A bar on standard error, if that is a terminal and work has taken a second."""
 
     def __init__(self):
         self.began, self.drawn = time.monotonic(), False
@@ -43,68 +42,65 @@ def note(path, text):
 
 
 class Packets:
-    """What the packets of captures carry, in order. `notes` has what is to be said of them."""
+    """The content of the packets of captures, in order. `notes` has a line for each remark."""
 
     def __init__(self, files, progress):
         self.files, self.progress, self.decoder = files, progress, Decoder()
-        self.straightened, self.said, self.is_lossy = Straightened(), [], False
+        self.order, self.said, self.is_lossy = InOrder(), [], False
 
     def __iter__(self):
-        yield from by_time(self.straight())
-
-    def straight(self):
-        return map(self.straightened.put, self.read())
-
-    def read(self):
-        """Each packet that can be used, in the order of the files."""
-        read = self.decoder.read
+        read, order = self.decoder.read, self.order
         for file in self.files:
             self.is_lossy |= counts_losses(file)
             capture, size = Capture(file), size_of(file)
             for number, packet in enumerate(capture.packets()):
                 found = read(*packet)
                 if found is not None:
-                    yield found
+                    order.put(found)
+                    yield from order.due()
                 if number % 10_000 == 0:
-                    self.progress("reading", min(size, capture.source.at), size)
+                    self.progress("reading", min(size, capture.at), size)
             self.said += capture.notes
+        yield from order.due(True)
 
     def notes(self):
-        """What is to be said of them, a line each."""
-        return [*self.said, *self.decoder.notes(), *self.straightened.notes]
+        return [*self.said, *self.decoder.notes(), *self.order.notes]
 
 
 def run(options, settings, files, progress):
-    """Explains captures, which follow one another; gives the status."""
+    """Explains captures, each of which follows the one before; gives the status."""
     gc.set_threshold(SELDOM)
-    packets = Packets(files, progress)
-    found, steps = None, packets.straightened.steps
+    packets, found = Packets(files, progress), None
+    steps = packets.order.steps
+
+    def say(text):
+        note(options.capture, text)
+
     for packet in packets:
         if found is None:
-            found = Run(options, settings, packet.moment, packets.is_lossy, lambda text: note(options.capture, text))
+            found = Run(options, settings, packet.moment, packets.is_lossy, say)
             take = found.explaining.take
         if steps:
             found.explaining.loosen(*steps.pop(0))
         take(packet)
     progress.end()
     for text in packets.notes():
-        note(options.capture, text)
+        say(text)
     sides = found and found.explaining.traffic.sides
-    if not sides or not sides.questions and not sides.queries:
-        for text in found.notes() if found else ():
-            note(options.capture, text)
+    is_of_service = bool(sides and (sides.questions or sides.queries))
+    if is_of_service:
+        found.explaining.end()
+    for text in found.notes() if found else ():
+        say(text)
+    if not is_of_service:
         raise Unreadable(f"has no question to {shown(settings.listen)}, where the configuration listens")
-    found.explaining.end()
-    for text in found.notes():
-        note(options.capture, text)
     if sides.questions and not found.has_chosen:
         first, last = map(moment_text, found.span)
-        note(options.capture, f"no question is chosen; the capture has those from {first} to {last}")
+        say(f"no question is chosen; the capture has those from {first} to {last}")
     return DIFFERENT if found.finish() else 0
 
 
 def read_and_run(options, progress):
-    """Does all of it; gives the status."""
     settings = configuration.read(options.configuration, options.program)
     if options.follow:
         return DIFFERENT if following.follow(options, settings, lambda text: note(options.capture, text)) else 0
@@ -112,11 +108,10 @@ def read_and_run(options, progress):
 
 
 def opened_in_turn(options):
-    """The files of the captures that matter, each open until the next one is."""
+    """The files of the chosen captures, each open until the next one."""
     until = None
     if os.path.isdir(options.capture):
-        first = first_moment(captures_in(options.capture, None)[0])
-        until = span_of(options, first)[1]
+        until = span_of(options, first_moment(captures_in(options.capture, None)[0]))[1]
     for path in captures_in(options.capture, until and until + FILE_OVERLAP):
         with opened(path) as file:
             yield file
@@ -128,19 +123,17 @@ def main(words):
 
 
 def guarded(options, work):
-    """The status of some work, also if something can't be read, which is said."""
+    """The status of some work, which may be that something can't be read."""
     progress = Progress()
     try:
         return work(progress)
     except Unreadable as fault:
-        progress.end()
         text, path = fault.args[0], fault.args[1] if len(fault.args) > 1 else options.capture
-        note(path, text)
-        return UNREADABLE
     except BrokenPipeError:
         sys.stderr.close()
         return 0
-    except OSError as fault:  # a disk that is full, or can't be read any more
-        progress.end()
-        note(fault.filename or options.capture, fault.strerror)
-        return UNREADABLE
+    except OSError as fault:  # as of a full disk
+        text, path = fault.strerror, fault.filename or options.capture
+    progress.end()
+    note(path, text)
+    return UNREADABLE

@@ -1,5 +1,4 @@
-"""The files of captures: one, standard input, or all of a folder, as a ring of tcpdump -W leaves
-them."""
+"""The files of captures: one, standard input, or all of a folder, as a ring of tcpdump -W leaves them."""
 import os
 import pathlib
 import sys
@@ -8,7 +7,6 @@ from .capture import Capture, Unreadable
 
 
 def opened(path, buffering=-1):
-    """A file, or standard input."""
     try:
         return sys.stdin.buffer if path == "-" else open(path, "rb", buffering)
     except OSError as fault:
@@ -16,7 +14,7 @@ def opened(path, buffering=-1):
 
 
 def size_of(file):
-    """How many octets a file has; 1 if that can't be known."""
+    """How many octets a file has; 1 if unknown."""
     try:
         return os.fstat(file.fileno()).st_size
     except OSError:
@@ -24,8 +22,8 @@ def size_of(file):
 
 
 def captures_in(path, until):
-    """The captures of a path, each with its name, by their first packets; of a folder those alone
-    that begin before a moment, if any is given."""
+    """The names of the captures of a path, by their first packets; of a folder only those that begin before a moment,
+    if any is given."""
     if path == "-" or not os.path.isdir(path):
         return [path]
     found = []
@@ -39,8 +37,7 @@ def captures_in(path, until):
 
 
 def first_moment(path):
-    """When the first packet of a capture was captured; None if it is no capture, or has no packet.
-    """
+    """The moment of a capture's first packet; None if there is none, or no capture."""
     with opened(path) as file:
         try:
             packet = next(Capture(file).packets(), None)

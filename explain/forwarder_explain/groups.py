@@ -1,23 +1,19 @@
-"""The questions to which the numbers of a page lead, and their lines.
+"""The questions behind the numbers of a page, and their lines.
 
-They are taken one after another, in the order of their moments. Of each number they are counted, and the lines of
-the first ones are put into a file, with all that they are counted under: which numbers the page has, and so which
-lines, is known at the end.
-"""
+Each question is counted in some groups. The lines of the first questions of a group are put into a file, with the marks
+of all their groups: the groups that the page shows, and so the lines, are known at the end."""
+import json
 import tempfile
 from html import escape
 
 from . import judge
-from .capture import Unreadable
 from .tally import MOST_COUNTED, OTHERS, REASONS, reason_of, reason_text
 from .times import SECOND
 from .wording import address_text, counted, moment_text, server_text
 
-MOST_LINES, MOST_OF_BAR = 100, 20  # lines to which a number leads, and a part of a bar
+MOST_LINES, MOST_OF_BAR = 100, 20  # lines of a number, and of a part of a bar
 MOST_BARS = 75
-STEPS = (1, 2, 5, 10, 30, 60, 120, 300, 600, 1800, 3600, 7200, 21600, 43200, 86400, 604800)  # seconds of a bar
-PARTS = (86400, 21600, 3600, 600, 60, 10, 1)  # seconds of the bars that are counted until the last question
-# How a question ended: the colour of each.
+# How a question ended, with colours.
 FATES = {
     "from the cache": "#7fb2dd",
     "asked of a server": "#2f7d32",
@@ -33,61 +29,36 @@ CACHED, ASKED, DENIED, EXPIRED, FAILED, NO_ANSWER, REFUSED, OPEN, WRONG = FATES
 
 
 class Group:
-    """Questions to which one number leads: how many there are, and how many lines they have at most: those of
-    the first ones, which bear its mark in the file. Its number in the page is None as long as nothing leads
-    there."""
+    """Questions of a number: how many there are, how many lines are shown at most, and the number's place in the page,
+    None as long as nothing leads here. Lines in the file bear its mark."""
 
     __slots__ = ("mark", "number", "count", "most")
 
     def __init__(self, mark, most):
         self.mark, self.number, self.count, self.most = mark, None, 0, most
 
-    def add(self):
-        """Takes a question; gives whether its line may be shown."""
-        self.count += 1
-        return self.count <= self.most
-
-
-class Lines:
-    """Lines in a file without a name, which nobody else can read; each with its moment and the marks of its
-    groups."""
-
-    def __init__(self):
-        try:
-            self.file = tempfile.TemporaryFile("w+", encoding="utf-8", newline="\n")
-        except OSError as fault:
-            raise Unreadable(fault.strerror, tempfile.gettempdir()) from None
-
-    def put(self, moment, marks, line):
-        numbers = " ".join(map(str, (moment, *marks)))
-        try:
-            self.file.write(numbers + "\t" + line.replace("\n", "&#10;") + "\n")
-        except OSError as fault:
-            raise Unreadable(fault.strerror, tempfile.gettempdir()) from None
-
-    def __iter__(self):
-        self.file.seek(0)
-        for text in self.file:
-            numbers, _, line = text.rstrip("\n").partition("\t")
-            moment, *marks = map(int, numbers.split(" "))
-            yield moment, marks, line
-
 
 class Groups:
-    """All groups, each by what it is of: a bar by its moment and fate, others by two words."""
+    """All groups by their subjects: a bar by moment and fate, others by two words. `span` has the moments of the first
+    and the last question, `step` is the length of a bar."""
 
     def __init__(self):
-        self.found, self.linked, self.kinds, self.lines, self.made = {}, {}, {}, Lines(), 0
-        # The moments of the first and the last question, and how long a bar of the page is, and one that is
-        # counted until then, in microseconds.
-        self.span, self.bar, self.step = None, SECOND, SECOND
+        self.found, self.linked, self.kinds, self.made = {}, {}, {}, 0
+        self.span, self.step = None, SECOND
+        self.lines = tempfile.TemporaryFile("w+", encoding="utf-8")  # which nobody else can read
 
     def add(self, row):
-        """Takes the next question."""
-        self.reach(row.question.moment)
-        groups = [self.group(key) for key in dict.fromkeys(self.keys_of(row))]
-        if any([group.add() for group in groups]):
-            self.lines.put(row.question.moment, [group.mark for group in groups], line_of(row))
+        moment = row.question.moment
+        first, last = self.span or (moment, moment)
+        first, last = self.span = min(first, moment), max(last, moment)
+        if (last - first) // self.step >= MOST_BARS - 1:
+            self.lengthen(last - first)
+        groups, is_shown = [self.group(key) for key in dict.fromkeys(self.keys_of(row))], False
+        for group in groups:
+            group.count += 1
+            is_shown |= group.count <= group.most
+        if is_shown:
+            self.lines.write(json.dumps((moment, [group.mark for group in groups], line_of(row))) + "\n")
 
     def group(self, key):
         if key not in self.found:
@@ -98,37 +69,18 @@ class Groups:
                 self.kinds[key[0]] = self.kinds.get(key[0], 0) + 1
         return self.found[key]
 
-    def reach(self, moment):
-        """Takes in the moment of a question. The more time there is between the first and the last one, the
-        longer are the bars."""
-        first, last = self.span or (moment, moment)
-        first, last = self.span = min(first, moment), max(last, moment)
-        if (last - first) // self.bar < MOST_BARS - 1:
-            return
-        fitting = (each for each in STEPS if (last - first) // (SECOND * each) < MOST_BARS - 1)
-        step = next(fitting, STEPS[-1])
-        self.bar = SECOND * step
-        part = SECOND * next(each for each in PARTS if step % each == 0)
-        if part > self.step:
-            self.lengthen(part)
+    def bars(self):
+        return {key: group for key, group in self.found.items() if isinstance(key[0], int)}
 
-    def lengthen(self, step):
-        """Puts bars together into longer ones."""
-        self.step = step
-        bars = {key: group for key, group in self.found.items() if isinstance(key[0], int)}
-        self.found = {key: group for key, group in self.found.items() if key not in bars}
-        for (moment, fate), group in sorted(bars.items()):
-            self.group((moment // step * step, fate)).count += group.count
-
-    def end(self):
-        """Takes it that all questions have come; gives when the first bar begins, and how long each is."""
-        if self.span is None:
-            return 0, self.step
-        self.lengthen(self.bar)
-        return self.span[0] // self.step * self.step, self.step
+    def lengthen(self, lasts):
+        while lasts // self.step >= MOST_BARS - 1:
+            self.step *= 2
+        for (moment, fate), group in sorted(self.bars().items()):
+            del self.found[moment, fate]
+            self.group((moment // self.step * self.step, fate)).count += group.count
 
     def keys_of(self, row):
-        """All that a question is counted under, in words; first how it ended."""
+        """The subjects of a question; the first is how it ended."""
         fate, client = fate_of(row), self.known("client", address_text(row.question.peer[0]))
         yield fate, ""
         yield row.question.moment // self.step * self.step, fate
@@ -140,20 +92,19 @@ class Groups:
             yield "failed, of client", client
         if fate in (EXPIRED, FAILED, NO_ANSWER, REFUSED, WRONG):
             yield "failure", self.known("failure", failure_of(row, fate))
-        for query, how, _ in row.tries():
+        for query, how in row.tries():
             server = server_text(query)
             yield "server", server
             if how != "answered":
                 yield "failed, at server", server
 
     def known(self, kind, of):
-        """Of what kind of group a question is counted: after very many these are the others."""
+        """A subject, or the others once there are very many."""
         if (kind, of) in self.found or self.kinds.get(kind, 0) < MOST_COUNTED:
             return of
         return OTHERS if isinstance(of, str) else (OTHERS, *("" for _ in of[1:]))
 
     def link(self, key, text):
-        """A number with a link to its lines; without one if there is none."""
         group = self.found.get(key)
         if group is None:
             return escape(text)
@@ -163,11 +114,10 @@ class Groups:
         return f'<a href="#g{group.number}">{escape(text)}</a>'
 
     def style(self):
-        """By which a chosen group hides the lines of all others."""
+        """The style by which a chosen group hides all other lines."""
         return "".join(f"#g{each}:target~ol>li:not(.g{each}){{display:none}}" for each in range(len(self.linked)))
 
     def headings(self):
-        """What is above the lines of a chosen group."""
         for (kind, of), group in self.linked.items():
             kind = moment_text(kind)[:19] if isinstance(kind, int) else kind
             of = ", ".join(of) if isinstance(of, tuple) else of
@@ -176,11 +126,11 @@ class Groups:
             yield f'<p class="chosen" id="g{group.number}"><b>{escape(said)}</b> · <a href="#lines">all lines</a></p>'
 
     def listed(self):
-        """Each line that belongs to a group, with its groups as classes."""
         fates = {self.found[fate, ""].mark: fate for fate in FATES if (fate, "") in self.found}
         linked = {group.mark: group for group in self.linked.values()}
         left = {group: group.most for group in linked.values()}
-        for moment, marks, line in self.lines:
+        self.lines.seek(0)
+        for moment, marks, line in map(json.loads, self.lines):
             bar = self.linked.get((moment // self.step * self.step, fates[marks[0]]))
             groups = {linked.get(mark) for mark in marks} | {bar}
             shown = sorted(group.number for group in groups if group and left[group])
@@ -191,21 +141,19 @@ class Groups:
 
 
 def line_of(row):
-    """What is shown of a question, from its style on."""
-    differs = "\n".join(row.differs()) if row.is_different() else ""
-    more = f"<pre>{escape(differs)}</pre>" if differs else ""
+    """A question in the page, from the line's style on."""
+    more = "<pre>" + escape("\n".join(row.differs())) + "</pre>" if row.is_different() else ""
     return f'style="border-color:{FATES[fate_of(row)]}">{escape(row.line())}{more}'
 
 
 def fate_of(row):
-    """One of FATES."""
     if row.is_different():
         return WRONG
     if row.answer is None:
         return REFUSED if row.is_refused() else NO_ANSWER
     if row.verdict.reason == 12:
         return EXPIRED
-    if row.code not in ("NOERROR", "NXDOMAIN"):
+    if row.failed():
         return FAILED
     if row.verdict.reason == 13:
         return DENIED
@@ -215,10 +163,12 @@ def fate_of(row):
 
 
 def failure_of(row, fate):
-    """The name, the type, and why it failed."""
-    why = REASONS.get(row.verdict.reason, fate)
+    """The name, the type, and the cause of a failure."""
+    reason = row.verdict.reason
+    why = fate if reason is None else REASONS[reason]
     if row.answer is None:
         why = row.outcome()
     elif fate != EXPIRED:
         why = f"{row.code}, {why}"
-    return row.name.lower(), row.kind, why
+    name, kind = row.asked[2:]
+    return name.lower(), kind, why

@@ -1,5 +1,4 @@
-"""Captures that grow while they are read: standard input, and the files of a folder into which
-tcpdump -C -W writes, or one file."""
+"""Captures that grow while they are read: standard input, one file, or the files into which tcpdump -C -W writes."""
 import os
 import select
 import time
@@ -9,23 +8,20 @@ from .capture import Unreadable
 from .files import first_moment, opened
 from .times import LOOK, SECOND
 
-AT_ONCE = 1 << 16  # octets of one read
+AT_ONCE = 1 << 16  # octets of a read
 MOST_HEAD = 512  # octets at the beginning of a file by which it is known
 
 
 class Growing:
-    """What was read and not yet taken. `read` waits for all that it is to give, unless the end has
-    come. `reader.reading` is called before each read of a file, `reader.idle` again and again while
-    there is nothing to read; both may raise what ends the reading."""
+    """Octets that were read and not yet taken. `read` waits for all its octets, up to the end of the file.
+    `reader.reading` is called before each read of a file, `reader.idle` while there is nothing to read; both may raise
+    an exception that ends the reading."""
 
     def __init__(self):
         self.octets, self.at = b"", 0
 
     def read(self, size):
-        while len(self.octets) - self.at < size:
-            more = self.more()
-            if not more:
-                break
+        while len(self.octets) - self.at < size and (more := self.more()):
             self.octets, self.at = self.octets[self.at :] + more, 0
         found = self.octets[self.at : self.at + size]
         self.at += len(found)
@@ -48,7 +44,7 @@ class Pipe(Growing):
 
 
 class RingFile(Growing):
-    """One file of a ring. It ends once another one was begun after it."""
+    """A file of a ring. It ends once another was begun later."""
 
     def __init__(self, file, ring):
         super().__init__()
@@ -60,30 +56,22 @@ class RingFile(Growing):
         while True:
             self.ring.reader.reading()
             octets = self.file.read(AT_ONCE)
-            if self.is_another():
-                self.was_rewritten = True
+            # tcpdump -W empties the oldest file, and takes its name.
+            self.was_rewritten = os.pread(self.file.fileno(), len(self.head), 0) != self.head
+            if self.was_rewritten or self.is_over and not octets:
                 return b""
             if octets:
                 self.head += octets[: MOST_HEAD - len(self.head)]
                 return octets
-            if self.is_over:
-                return b""
-            # What is in this file was written before the next one was begun; so one more look is enough.
+            # This file was written before the next one was begun; so one more look is enough.
             self.is_over = self.ring.has_more()
             if not self.is_over:
                 self.ring.wait()
 
-    def is_another(self):
-        """Whether the file was written anew: tcpdump -W empties the oldest one and takes its name."""
-        return os.pread(self.file.fileno(), len(self.head), 0) != self.head
-
 
 class Ring:
-    """The captures of a folder, or one, in the order in which they were begun. `reader.idle` is called
-    again and again while there is nothing to read. A capture that gets another name is still the same one.
-
-    Captures all of which is before `since` are left out. `note` is called with what was lost.
-    """
+    """The captures of a folder, or a single one, in the order of their beginnings, without those from before `since`. A
+    capture that gets another name is still the same. `note` is called with each loss."""
 
     def __init__(self, path, reader, note):
         self.path, self.reader, self.note, self.since = path, reader, note, 0
@@ -95,7 +83,7 @@ class Ring:
         self.look()
 
     def paths(self):
-        """The files, each with what changes when it is written to."""
+        """The files, each with its number and what changes with a write."""
         if not os.path.isdir(self.path):
             return {self.path: stamp(os.stat(self.path))}
         with os.scandir(self.path) as entries:
@@ -105,30 +93,24 @@ class Ring:
         """Queues the captures that were begun since the last look."""
         try:
             seen = self.paths()
-        except FileNotFoundError:  # one is gone since the folder was listed
+        except FileNotFoundError:  # a file is gone since the folder was listed
             return
         except OSError as fault:
             raise Unreadable(fault.strerror, self.path) from None
         found, known = [], {(self.seen[path][0], begun): path for path, begun in self.begun.items()}
         for path in seen:
-            if seen[path] == self.seen.get(path):
-                continue
-            begun = beginning(path)
+            begun = self.begun.get(path) if seen[path] == self.seen.get(path) else beginning(path)
             if begun is None or self.begun.get(path) == begun:
                 continue
             self.begun[path] = begun
             before = known.get((seen[path][0], begun))
             if before is None:
                 found.append((begun, path))
-            else:
-                self.rename((begun, before), (begun, path))
+            else:  # it has another name
+                self.queue = deque((begun, path) if each == (begun, before) else each for each in self.queue)
         self.seen = seen
         self.begun = {path: begun for path, begun in self.begun.items() if path in seen}
         self.queue.extend(sorted(found))
-
-    def rename(self, before, after):
-        """Gives another name to a capture that is queued."""
-        self.queue = deque(after if each == before else each for each in self.queue)
 
     def has_more(self):
         self.look()
@@ -139,7 +121,6 @@ class Ring:
         time.sleep(LOOK / SECOND)
 
     def captures(self):
-        """Each capture, as a file that grows."""
         if not self.queue:
             self.note("has no capture with a packet yet")
         while True:
@@ -167,7 +148,7 @@ def stamp(status):
 
 
 def beginning(path):
-    """When the first packet of a capture was captured; None if it has none yet, or is gone."""
+    """The moment of a capture's first packet; None if there is none yet, or the capture is gone."""
     try:
         return first_moment(path)
     except Unreadable:

@@ -8,12 +8,10 @@ FEW = 3  # records that are named
 
 
 def of(reply):
-    """A reply by its server and moment."""
     return f"the reply of {server_text(reply.query)} at {clock(reply.moment)}"
 
 
 def what(part):
-    """A part of an answer by name and type."""
     name = messages.text(part.key)
     if part.form == NAME_ERROR:
         return f"the denial of {name}"
@@ -21,62 +19,55 @@ def what(part):
     return f"{name} {kind}" if part.form == SET else f"the denial of {name} {kind}"
 
 
-class Reasons:
-    """Reasons for each finding."""
+def unlike(part, each):
+    source = of(each.reply) if each.reply else "an earlier answer from before the capture"
+    if each.form != part.form or part.form != SET:
+        return f"{what(part)} is not as {source} has it"
+    rows = ", ".join(data_text(part.kind, row) for row in each.rows[:FEW])
+    more = f" and {len(each.rows) - FEW} more" if len(each.rows) > FEW else ""
+    return f"{what(part)} is {rows}{more} by {source}"
 
-    def unlike(self, part, each):
-        if each.form != part.form or part.form != SET:
-            return f"{what(part)} is not as {self.source(each)} has it"
-        rows = ", ".join(data_text(part.kind, row) for row in each.rows[:FEW])
-        more = f" and {len(each.rows) - FEW} more" if len(each.rows) > FEW else ""
-        return f"{what(part)} is {rows}{more} by {self.source(each)}"
 
-    @staticmethod
-    def source(each):
-        return of(each.reply) if each.reply else "an earlier answer from before the capture"
+def of_route(reply):
+    return f"{of(reply)} has it, which is not of its name's route"
 
-    @staticmethod
-    def of_route(reply):
-        return f"{of(reply)} has it, which is not of its name's route"
 
-    @staticmethod
-    def before_restart(reply, restart):
-        return f"{of(reply)} has it, and the service began anew at {clock(restart.since)} ({restart.shown})"
+def before_restart(reply, restart):
+    return f"{of(reply)} has it, and the service began anew at {clock(restart.since)} ({restart.shown})"
 
-    @staticmethod
-    def untaken(reply):
-        return f"{of(reply)} has it, which was not taken: the same was asked again"
 
-    @staticmethod
-    def replaced(reply, later):
-        return f"{of(reply)} has it, which {of(later)} replaced"
+def untaken(reply):
+    return f"{of(reply)} has it, which was not taken: the same was asked again"
 
-    @staticmethod
-    def expired(reply, ago):
-        return f"{of(reply)} has it, and expired {seconds_text(ago)} before the question"
 
-    @staticmethod
-    def ended(until):
-        return f"what an earlier answer had from before the capture expired by {clock(until)}"
+def replaced(reply, later):
+    return f"{of(reply)} has it, which {of(later)} replaced"
 
-    @staticmethod
-    def lifetime(part, reply, low, high):
-        right = f"{high:,}" if low >= high else f"{low:,} to {high:,}"
-        by = of(reply) if reply else "an earlier answer"
-        return f"{what(part)} has {part.seconds:,} s left, and {right} s by {by}"
 
-    @staticmethod
-    def no_reply(part, forged):
-        if forged:
-            return f"{what(part)} is only in a message that had to be dropped: {forged}"
-        return f"no reply that fits a query carried {what(part)}"
+def expired(reply, ago):
+    return f"{of(reply)} has it, and expired {seconds_text(ago)} before the question"
 
-    @staticmethod
-    def elsewhere(question):
-        return f"it came from {address_text(question.elsewhere)}, which was not asked"
 
-    @staticmethod
-    def expired_without(found):
-        ended = [each.occurrence for each in found if each.occurrence is not None]
-        at = max((each.ends()[1] for each in ended), default=0)
-        return f"its data expired at {clock(at // SECOND * SECOND)}"
+def ended(until):
+    return f"what an earlier answer had from before the capture expired by {clock(until)}"
+
+
+def lifetime(part, reply, low, high):
+    right = f"{high:,}" if low >= high else f"{low:,} to {high:,}"
+    by = of(reply) if reply else "an earlier answer"
+    return f"{what(part)} has {part.seconds:,} s left, and {right} s by {by}"
+
+
+def no_reply(part, forged):
+    if forged:
+        return f"{what(part)} is only in a message that had to be dropped: {forged}"
+    return f"no reply that fits a query carried {what(part)}"
+
+
+def elsewhere(question):
+    return f"it came from {address_text(question.elsewhere)}, which was not asked"
+
+
+def expired_without(found):
+    at = max((each.occurrence.ends()[1] for each in found if each.occurrence is not None), default=0)
+    return f"its data expired at {clock(at // SECOND * SECOND)}"

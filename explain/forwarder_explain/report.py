@@ -3,6 +3,7 @@ import json
 
 from . import judge, messages
 from .clients import DROPPED, REFUSED
+from .story import with_later
 from .times import MILLISECOND, SECOND
 from .wording import clock, code_text, counted, duration, message_text, server_text, shown
 
@@ -10,46 +11,24 @@ VERSION = 2  # of the objects of --json
 
 
 class Row:
-    """A question with its fate, in words, which are made when they are wanted."""
+    """A question with its fate, in words made on demand."""
 
-    __slots__ = ("question", "teller")
+    __slots__ = ("question", "teller", "verdict", "answer", "took")
 
     def __init__(self, question, teller):
-        self.question, self.teller = question, teller
-
-    @property
-    def verdict(self):
-        return self.question.verdict
-
-    @property
-    def answer(self):
-        return self.question.answer
+        self.question, self.teller, self.verdict, self.answer = question, teller, question.verdict, question.answer
+        # Microseconds from the question to its answer, if any.
+        self.took = question.answered - question.moment if question.answer is not None else None
 
     @property
     def code(self):
         return code_text(self.answer) if self.answer is not None else "-"
 
     @property
-    def took(self):
-        """Microseconds from the question to its answer, if it got one."""
-        return self.question.answered - self.question.moment if self.answer is not None else None
-
-    @property
-    def client(self):
-        return shown(self.question.peer)
-
-    @property
-    def transport(self):
-        return "tcp" if self.question.is_over_tcp() else "udp"
-
-    @property
-    def name(self):
-        return messages.text(self.question.asked.name) if self.question.asked else "-"
-
-    @property
-    def kind(self):
-        asked = self.question.asked
-        return messages.kind_text(asked.kind, asked.klass) if asked else "-"
+    def asked(self):
+        question, asked = self.question, self.question.asked
+        name, kind = (messages.text(asked.name), messages.kind_text(asked.kind, asked.klass)) if asked else ("-", "-")
+        return shown(question.peer), "tcp" if question.is_over_tcp() else "udp", name, kind
 
     def is_refused(self):
         return self.question.over is not None and self.question.over[0] is REFUSED and self.answer is None
@@ -62,7 +41,7 @@ class Row:
         return self.verdict.kind == judge.DIFFERENT
 
     def is_asked(self):
-        """Whether what is answered came while the question waited."""
+        """Whether the data of an answer came while the question waited."""
         used = [each for each in self.verdict.used if each is not None]
         return not used or any(each.reply and each.reply.moment >= self.question.moment for each in used)
 
@@ -70,41 +49,35 @@ class Row:
         """Whether `--failures` shows it."""
         if self.question.over and self.question.over[0] is DROPPED:
             return False
-        return self.code not in ("NOERROR", "NXDOMAIN") or self.is_different() or self.verdict.reason == 12
+        if self.answer and len(self.answer) >= messages.HEADER and self.answer[3] & 15 in (judge.NOERROR, judge.NXDOMAIN):
+            return self.is_different() or self.verdict.reason == 12
+        return True
 
     def line(self):
         took = f"{duration(self.took)} ms" if self.took is not None else "-"
-        asked = f"{self.client} {self.transport} {self.name} {self.kind}"
+        asked = " ".join(self.asked)
         return f"{clock(self.question.moment)} {asked} {self.code} {took}: {self.teller.words(self.question)}"
 
     def differs(self):
-        """Why an answer is different, and the answer."""
         yield f"    DIFFERENT: {self.verdict.why}"
         yield f"    captured  {message_text(self.answer)}"
         yield f"              {self.answer.hex()}"
 
     def tries(self):
-        """Each query for a question, with its end."""
-        question = self.question
-        for place, query in enumerate(question.tries):
-            of = query.asked and query.asked.same
-            later = next((each for each in question.tries[place + 1 :] if each.asked and each.asked.same == of), None)
-            yield query, *self.teller.how(question, query, later)
+        for query, later in with_later(self.question):
+            yield query, self.teller.how(self.question, query, later)[0]
 
     def object(self):
-        question = self.question
+        verdict = self.verdict
         said = {
-            "time": question.moment / SECOND,
-            "client": self.client,
-            "transport": self.transport,
-            "name": self.name,
-            "type": self.kind,
+            "time": self.question.moment / SECOND,
+            **dict(zip(("client", "transport", "name", "type"), self.asked)),
             "code": self.code,
             "milliseconds": self.took / MILLISECOND if self.took is not None else None,
-            "verdict": self.verdict.kind,
-            "why": self.verdict.why,
-            "reason": self.verdict.reason,
-            "words": self.teller.words(question),
+            "verdict": verdict.kind,
+            "why": verdict.why,
+            "reason": verdict.reason,
+            "words": self.teller.words(self.question),
             "tries": [
                 {
                     "name": messages.text(query.asked.name) if query.asked else "-",
@@ -114,7 +87,7 @@ class Row:
                     "how": how,
                     **({"unfit": [why for _, why in query.unfit]} if query.unfit else {}),
                 }
-                for query, how, _ in self.tries()
+                for query, how in self.tries()
             ],
         }
         if self.is_different():
@@ -123,12 +96,12 @@ class Row:
 
 
 class Summary:
-    """What is said at the end: of a Tally, and of what explained the packets."""
+    """The end of a run: the counts of a Tally, and remarks."""
 
     def __init__(self, tally, explaining):
         self.tally, self.refused = tally, explaining.traffic.clients.refused
-        self.restarts = [*explaining.history.restarts, *explaining.history.told]
-        self.restarts.sort(key=lambda each: each.since)
+        history = explaining.history
+        self.restarts = sorted([*history.restarts, *history.told], key=lambda each: each.since)
         self.steps, self.side = explaining.clock.steps, explaining.traffic.sides.missing()
 
     def verdict(self):
@@ -138,41 +111,28 @@ class Summary:
         open_ = f"{kinds[judge.OPEN]:,} open, " if kinds[judge.OPEN] else ""
         yield f"{asked}: {kinds[judge.RIGHT]:,} right, {open_}{kinds[judge.DIFFERENT]:,} different"
         for why, count in tally.open.most_common():
-            said = f", {self.side}" if self.side and why == judge.BEFORE else ""
-            yield f"{count:,} open: {why}{said}"
+            yield f"{count:,} open: {why}" + (f", {self.side}" if self.side and why == judge.BEFORE else "")
         for over, count in tally.unanswered.most_common():
             yield f"{counted(count, 'question')} without an answer: {over.removeprefix('no answer: ')}"
         if self.refused:
             yield f"{counted(self.refused, 'connection')} refused: nothing listened"
-        for each in self.restarts:
-            yield restart_text(each)
-        yield from self.queries_text()
-
-    def queries_text(self):
-        """How many queries left, and those that no open question wants."""
-        tally, others = self.tally, self.tally.other_queries
+        yield from map(restart_text, self.restarts)
         for (server, why), count in tally.lacked.most_common():
             yield f"{counted(count, 'query')} that the capture lacks did not reach {server}: {why}"
-        yield f"{counted(tally.queries, 'query')} to servers" + (
-            f", of which no open question wants {others:,}: another program's, or of a question that the capture lacks"
-            if others
-            else ""
-        )
+        unwanted = "another program's, or of a question that the capture lacks"
+        more = f", of which no open question wants {tally.other_queries:,}: {unwanted}" if tally.other_queries else ""
+        yield f"{counted(tally.queries, 'query')} to servers{more}"
         for query in tally.others:
             yield f"    {clock(query.moment)} {server_text(query)} was asked for {query.asked.text()}"
-        if others > len(tally.others):
-            yield f"    and {others - len(tally.others):,} more"
+        if tally.other_queries > len(tally.others):
+            yield f"    and {tally.other_queries - len(tally.others):,} more"
 
     def tables(self):
-        """Counts by reason, by server and by client."""
         tally = self.tally
         yield from table("reason", ("questions", "median ms", "99 % ms"), tally.by_reason())
         yield from table("server", ("queries", "share", "median ms", "99 % ms", "failed", "how"), tally.by_server())
         yield from table("client", ("questions", "from the cache", "failed", "median ms"), tally.by_client())
-        yield "slowest"
-        for _, line in tally.slow:
-            yield f"  {line}"
-        yield ""
+        yield from ("slowest", *(f"  {line}" for _, line in tally.slow), "")
 
     def object(self):
         tally = self.tally
@@ -181,9 +141,7 @@ class Summary:
                 "version": VERSION,
                 "questions": tally.questions,
                 "answers": tally.answers,
-                "right": tally.all[judge.RIGHT],
-                "open": tally.all[judge.OPEN],
-                "different": tally.all[judge.DIFFERENT],
+                **{kind: tally.all[kind] for kind in (judge.RIGHT, judge.OPEN, judge.DIFFERENT)},
                 "unanswered": tally.unanswered.total(),
                 "refused": tally.refused,
                 "refused_connections": self.refused,
@@ -196,25 +154,22 @@ class Summary:
 
 
 def restart_text(restart):
-    """That the service began anew, and what shows it."""
     if restart.begun is None:
         return f"the service had ended by {clock(restart.since)}: {restart.shown}"
     return f"the service has begun anew by {clock(restart.begun)}: {restart.shown} at {clock(restart.since)}"
 
 
 def table(title, heads, rows):
-    """Lines of a table, with columns as wide as what is in them."""
+    """The lines of a table, each column as wide as its longest cell; text is at the left, numbers at the right."""
     cells = [(title, *heads), *((name, *values) for name, values in rows)]
     if len(cells) == 1:
         return
-    widths = [max(len(str(row[place])) for row in cells) for place in range(len(heads) + 1)]
+    widths = [max(len(str(cell)) for cell in column) for column in zip(*cells)]
     for row in cells:
-        shown_ = [str(row[0]).ljust(widths[0])]
-        shown_ += [
-            str(cell).ljust(width) if head == "how" else str(cell).rjust(width)
-            for cell, width, head in zip(row[1:], widths[1:], heads)
-        ]
-        yield "  ".join(shown_).rstrip()
+        said = (
+            f"{cell:{'<' if head in (title, 'how') else '>'}{width}}" for cell, width, head in zip(row, widths, cells[0])
+        )
+        yield "  ".join(said).rstrip()
     yield ""
 
 

@@ -1,24 +1,23 @@
-"""Streams of TCP, put together by sequence numbers and cut into messages by their lengths (RFC 1035
-4.2.2)."""
+"""Streams of TCP, put together by sequence numbers and cut into messages by their lengths (RFC 1035 4.2.2)."""
 import struct
 
-from .packets import FIN, RST, SYN
+from .packets import SYN
+
+MOST_WAITING = 64  # segments after a gap
 
 
 class Side:
-    """One direction of a connection."""
+    """One direction of a connection: `next` is the expected sequence number, `waiting` has segments after a gap."""
 
     def __init__(self):
         self.next, self.buffer, self.waiting = None, b"", {}
-        self.gaps, self.moment = 0, 0
+        self.gaps = self.moment = 0
 
     def take(self, segment):
-        """The messages that this segment completes."""
         octets, sequence = segment.octets, segment.sequence
         if segment.flags & SYN:
-            self.next = (sequence + 1) & 0xFFFFFFFF
+            sequence = self.next = (sequence + 1) & 0xFFFFFFFF
             self.buffer, self.waiting = b"", {}
-            sequence = self.next
         elif self.next is None:  # the capture began later than the connection
             if not octets or not begins_message(octets):
                 return []
@@ -26,31 +25,33 @@ class Side:
         if octets:
             self.waiting[sequence] = segment.moment, octets
             self.join()
-            if len(self.waiting) > 64:
+            if len(self.waiting) > MOST_WAITING:
                 self.skip_gap()
         return list(self.messages())
 
+    def in_order(self):
+        return sorted(self.waiting, key=lambda at: (at - self.next) & 0xFFFFFFFF)
+
     def join(self):
-        """Moves what follows on into the buffer; drops what was there before."""
+        """Moves the next octets into the buffer, and drops octets from before."""
         moved = True
         while moved and self.waiting:
             moved = False
-            for sequence in sorted(self.waiting, key=lambda at: (at - self.next) & 0xFFFFFFFF):
+            for sequence in self.in_order():
                 ahead = (sequence - self.next + 0x80000000 & 0xFFFFFFFF) - 0x80000000
                 if ahead > 0:
                     continue
                 moment, octets = self.waiting.pop(sequence)
                 octets = octets[-ahead:] if ahead else octets
-                if not octets:
-                    continue
-                self.buffer += octets
-                self.moment = max(self.moment, moment)
-                self.next = (self.next + len(octets)) & 0xFFFFFFFF
-                moved = True
+                if octets:
+                    self.buffer += octets
+                    self.moment = max(self.moment, moment)
+                    self.next = (self.next + len(octets)) & 0xFFFFFFFF
+                    moved = True
 
     def skip_gap(self):
-        """Goes on after octets that the capture lacks, where a segment begins a message."""
-        for sequence in sorted(self.waiting, key=lambda at: (at - self.next) & 0xFFFFFFFF):
+        """Goes on after a gap, at a segment that begins a message."""
+        for sequence in self.in_order():
             moment, octets = self.waiting.pop(sequence)
             if begins_message(octets):
                 self.gaps += 1
@@ -60,7 +61,6 @@ class Side:
                 return
 
     def messages(self):
-        """The messages that are whole, which leave the buffer."""
         while len(self.buffer) >= 2:
             size = struct.unpack_from(">H", self.buffer)[0]
             if len(self.buffer) < 2 + size:
@@ -70,34 +70,23 @@ class Side:
 
 
 class Connection:
-    """A connection: whoever began it is the client. `fin` and `reset` say how each side ended it.
-
-    `query` is that of a connection to a server, None of a client's; `first` is the sequence number with
-    which it began, if the capture has that; `last` is when its last packet came.
-    """
+    """A connection; the client began it. `query` is that of a connection to a server, None of a client's. `first` is
+    the first sequence number, if known; `last` is the moment of the last packet."""
 
     def __init__(self, client, server, moment):
-        self.client, self.server, self.began, self.last = client, server, moment, moment
+        self.client, self.server, self.last = client, server, moment
         self.sides = {True: Side(), False: Side()}
-        self.fin, self.reset = {}, None
         self.query = self.first = None
         self.is_refused = self.has_gap = False
 
     def take(self, segment):
-        """The messages that this segment completes, and whether the client sent them."""
         from_client = segment.source == self.client
         self.last = segment.moment
         self.has_gap |= segment.is_cut
-        messages = self.sides[from_client].take(segment)
-        if segment.flags & RST:
-            self.reset = self.reset or (segment.moment, from_client)
-        if segment.flags & FIN and from_client not in self.fin:
-            self.fin[from_client] = segment.moment
-        return from_client, messages
+        return from_client, self.sides[from_client].take(segment)
 
     def finish(self):
-        """The messages after gaps that nothing filled: when each came, whether the client sent it,
-        and its octets."""
+        """The messages after gaps: moment, whether the client sent it, octets."""
         found = []
         for from_client, side in self.sides.items():
             self.has_gap |= bool(side.waiting)

@@ -1,4 +1,5 @@
 """Numbers, moments, peers and records in words."""
+import functools
 import time
 
 from . import messages
@@ -21,22 +22,16 @@ def seconds_text(micros):
     return f"{micros / SECOND:,.1f} s"
 
 
-CLOCKS = {}  # seconds since 1970 as the clock shows them: many packets come in one second
+@functools.lru_cache(maxsize=1000)
+def time_of_day(seconds):
+    return time.strftime("%H:%M:%S", time.localtime(seconds))
 
 
 def clock(micros):
-    """A moment as the clock of this machine shows it."""
-    whole, rest = divmod(micros, SECOND)
-    shown = CLOCKS.get(whole)
-    if shown is None:
-        if len(CLOCKS) > 1000:
-            CLOCKS.clear()
-        shown = CLOCKS[whole] = time.strftime("%H:%M:%S", time.localtime(whole))
-    return f"{shown}.{rest // MILLISECOND:03}"
+    return f"{time_of_day(micros // SECOND)}.{micros % SECOND // MILLISECOND:03}"
 
 
 def moment_text(micros):
-    """A moment with its date, as an option has it."""
     return time.strftime("%Y-%m-%dT", time.localtime(micros // SECOND)) + clock(micros)
 
 
@@ -45,6 +40,7 @@ def shown(peer):
     return f"{address_text(peer[0])}:{peer[1]}"
 
 
+@functools.lru_cache(maxsize=10_000)
 def address_text(octets):
     return "%d.%d.%d.%d" % tuple(octets)
 
@@ -54,17 +50,15 @@ def server_text(query):
 
 
 def code_text(octets):
-    """The result code of a message; one that is too short has none."""
+    """The result code of a message, or the octets of one too short."""
     return messages.CODES[messages.code(octets)] if len(octets) >= messages.HEADER else f"{len(octets)} octets"
 
 
 def message_text(octets):
     """A message in short: code, flags, and the records of its first two sections."""
-    if len(octets) < messages.HEADER:
-        return f"{len(octets)} octets"
     parts = [code_text(octets), *(["cut"] if messages.is_cut(octets) else [])]
     try:
-        for record in messages.records(octets):
+        for record in messages.records(octets) if len(octets) >= messages.HEADER else ():
             kind = messages.kind_text(record.kind, record.klass)
             parts.append(f"{messages.text(record.owner)} {record.seconds} {kind} {data_text(record.kind, record.data)}")
     except messages.Malformed:

@@ -404,7 +404,7 @@ def nothing_grows(program):
             explaining = follower.run and follower.run.explaining
             if explaining:
                 kept = explaining.traffic.clients.count + len(explaining.due) + len(explaining.sent)
-                largest[0] = max(largest[0], kept + len(explaining.held) + len(follower.waiting))
+                largest[0] = max(largest[0], kept + len(explaining.held) + len(follower.order.waiting))
 
         put = following.Follower.take
         calls = iter(range(10**9))

@@ -1,11 +1,12 @@
 """Tests by table: what is said of each reason, of each code of ICMP, and of each end of a try."""
 from types import SimpleNamespace
 
-from forwarder_explain.configuration import UNREACHABLE, Configuration
+from forwarder_explain.configuration import Configuration
 from forwarder_explain.events import Query, Question
 from forwarder_explain.judge import NOT_SEEN, OPEN, RIGHT, Verdict
 from forwarder_explain.messages import question_of
 from forwarder_explain.story import Teller
+from forwarder_explain.upstream import UNREACHABLE
 from making import asked, peer
 from office import FIRST, OFFICE, ONE, QUERY, SECOND
 from repository.packing import message
