@@ -114,8 +114,9 @@ class Capture:
         elif kind == SIMPLE_PACKET:
             self.note("packets without a time (simple packet blocks) are left out")
         elif kind == STATISTICS:  # which count since the beginning of the capture
-            counts = {code: struct.unpack_from(order + "Q", value)[0] for code, value in options_of(order, body[12:]) if code in LOST}
-            self.lost[struct.unpack_from(order + "I", body)[0]] = sum(counts.values())
+            counts = (value for code, value in options_of(order, body[12:]) if code in LOST)
+            lost = sum(struct.unpack_from(order + "Q", value)[0] for value in counts)
+            self.lost[struct.unpack_from(order + "I", body)[0]] = lost
         return None
 
 
@@ -124,12 +125,8 @@ def counts_losses(file):
     beginning."""
     if not file.seekable():
         return False
-    begins = file.read(4)
-    file.seek(0)
-    if begins != SECTION:
-        return False
     capture = Capture(file)
-    for _ in capture.packets():
+    for _ in capture.packets() if capture.begins == SECTION else ():
         pass
     file.seek(0)
     return any(capture.lost.values())

@@ -2,7 +2,7 @@
 restart, not replaced, and with a right lifetime."""
 from typing import NamedTuple
 
-from . import reasons
+from . import wording
 from .content import NAME_ERROR
 from .times import DOUBT, ORDER, SECOND, TICK
 
@@ -12,8 +12,7 @@ STALE_SECONDS = 30  # the lifetime of expired data in answers (RFC 8767)
 
 
 class Finding(NamedTuple):
-    """How the best occurrence fits a part, and why not better. If the lifetime alone is wrong, `shift` has the bounds of
-    the time by which the capture's clock must have been set back."""
+    """How the best occurrence fits a part, and why not better. `shift` is given if the lifetime alone is wrong."""
 
     rank: int
     occurrence: object = None
@@ -46,22 +45,21 @@ class Carriers:
         return best
 
     def fit(self, part, key, each, question, stale):
-        """How an occurrence at a name fits a part."""
         reply, used = each.reply, question.answered
         if each.form != part.form or reply is not None and reply.moment > used:
             return NOTHING
         if each.rows != part.rows:
-            return Finding(UNLIKE, each, reasons.unlike(part, each))
+            return Finding(UNLIKE, each, wording.unlike(part, each))
         if reply is None:
             return self.fit_older(part, each, question, stale)
         route_of = self.history.configuration.route_of
         route = route_of(part.key)
         if route is None or reply.query.server not in route.servers or route_of(reply.query.asked.key) is not route:
-            return Finding(ROUTE, each, reasons.of_route(reply))
+            return Finding(ROUTE, each, wording.of_route(reply))
         if restart := self.history.restart_between(reply.moment, used):
-            return Finding(RESTARTED, each, reasons.before_restart(reply, restart))
+            return Finding(RESTARTED, each, wording.before_restart(reply, restart))
         if reply.is_untaken and reply.doubt is None:
-            return Finding(UNTAKEN, each, reasons.untaken(reply))
+            return Finding(UNTAKEN, each, wording.untaken(reply))
         waited = reply.moment >= question.moment
         if not waited or stale is not None:
             later = None if waited or stale is not None else self.own_reply(part, question)
@@ -70,7 +68,7 @@ class Carriers:
                 found = self.history.replaced_by((key, part.klass, part.kind), each, before)
                 later = found and found.reply
             if later:
-                return Finding(REPLACED, each, reasons.replaced(reply, later))
+                return Finding(REPLACED, each, wording.replaced(reply, later))
         return self.fit_seconds(part, each, question, waited, stale)
 
     @staticmethod
@@ -84,8 +82,7 @@ class Carriers:
         return None
 
     def fit_seconds(self, part, each, question, waited, stale):
-        """How the lifetime fits: between the seconds left at the question's and at the answer's moment, with a second of
-        doubt."""
+        """How the lifetime fits: between the seconds left at question and answer, with a second of doubt."""
         reply, (since, until) = each.reply, each.ends()
         least, most = self.clock.between(reply.moment, question.answered)
         low = max(0, since - question.answered - most) // SECOND
@@ -97,19 +94,19 @@ class Carriers:
             return self.fit_stale(part, each, left)
         late = ORDER if reply.taken is not None and least == most else DOUBT
         if not waited and until + late <= question.moment + least:
-            why = reasons.expired(reply, question.moment + least - until)
+            why = wording.expired(reply, question.moment + least - until)
             return Finding(EXPIRED, each, why, self.shift(part, each, question))
         if low - 1 <= part.seconds <= min(high + 1, whole):
             return Finding(RIGHT, each)
-        why = reasons.lifetime(part, reply, low, high)
+        why = wording.lifetime(part, reply, low, high)
         return Finding(LIFETIME, each, why, None if waited else self.shift(part, each, question))
 
     def fit_stale(self, part, each, left):
         """How expired data fit: with 30 seconds, and within the window after their end."""
         if part.seconds != STALE_SECONDS:
-            return Finding(LIFETIME, each, reasons.lifetime(part, each.reply, STALE_SECONDS, STALE_SECONDS))
+            return Finding(LIFETIME, each, wording.lifetime(part, each.reply, STALE_SECONDS, STALE_SECONDS))
         if left + self.history.stale + DOUBT <= 0:
-            return Finding(EXPIRED, each, reasons.expired(each.reply, -left))
+            return Finding(EXPIRED, each, wording.expired(each.reply, -left))
         return Finding(RIGHT, each)
 
     def fit_older(self, part, each, question, stale):
@@ -117,16 +114,16 @@ class Carriers:
         since, until = each.since, each.until
         if stale is not None and part.seconds == STALE_SECONDS:
             is_within = question.answered <= until + self.history.stale + DOUBT
-            return Finding(OLDER if is_within else EXPIRED, each, reasons.ended(until))
+            return Finding(OLDER if is_within else EXPIRED, each, wording.ended(until))
         low = max(0, since - question.answered) // SECOND - 1
         high = max(0, until - question.moment) // SECOND + 1
         if until + DOUBT <= question.moment:
-            return Finding(EXPIRED, each, reasons.ended(until))
+            return Finding(EXPIRED, each, wording.ended(until))
         if low <= part.seconds <= high:
             each.since = max(since, question.moment + part.seconds * SECOND - DOUBT)
             each.until = min(until, question.answered + (part.seconds + 1) * SECOND + DOUBT)
             return Finding(OLDER, each)
-        return Finding(LIFETIME, each, reasons.lifetime(part, None, max(0, low + 1), max(0, high - 1)))
+        return Finding(LIFETIME, each, wording.lifetime(part, None, max(0, low + 1), max(0, high - 1)))
 
     @staticmethod
     def shift(part, each, question):

@@ -1,8 +1,9 @@
 """Questions of clients and their answers."""
+import copy
 import itertools
 
 from . import messages
-from .events import Question
+from .events import Bounded, Question
 from .messages import HEADER
 from .times import AT_ONCE
 
@@ -17,14 +18,12 @@ class Clients:
 
     def __init__(self, tell):
         self.tell, self.open, self.count = tell, {}, 0
-        self.last, self.connections, self.resets = {}, set(), []
+        self.last, self.connections, self.resets = Bounded(MOST_KNOWN), set(), []
         self.left_out = self.refused = 0
 
     def question(self, moment, client, peer, octets):
         asked = messages.question_of(octets) if len(octets) >= HEADER else None
         question = self.last[client] = Question(moment, client, peer, octets, asked)
-        if len(self.last) > MOST_KNOWN:
-            del self.last[next(iter(self.last))]
         if len(octets) < HEADER or octets[2] >= 128:
             question.over = DROPPED, moment
         else:
@@ -45,30 +44,25 @@ class Clients:
         """Takes a message to a client, from another address than was asked if `sender` is given."""
         waiting = self.open.get((client, octets[:2]), ())
         fitting = [each for each in waiting if is_to(octets, each)]
+        question = next((each for each in fitting or waiting if fitting or each.answer is None), None)
+        if len(fitting) > 1:
+            question = self.one_of(fitting, moment, octets, sender)
+        if question is None or fitting and question.answer is not None:  # no question, or a second answer
+            self.left_out += 1
+        if question is not None:
+            question.answer, question.answered, question.elsewhere = octets, moment, sender if fitting else None
         if fitting:
-            question = fitting[0] if len(fitting) == 1 else self.one_of(fitting, moment, octets, sender)
-            if question.answer is not None:
-                self.left_out += 1  # a message that fits no question came before
-            question.answer, question.answered, question.elsewhere = octets, moment, sender
             self.close(question)
             self.tell.answered(question)
-            return
-        question = next((each for each in waiting if each.answer is None), None)
-        if question is None:
-            self.left_out += 1
-        else:
-            question.answer, question.answered = octets, moment
 
     def one_of(self, fitting, moment, octets, sender):
         """The question of an answer, of several equal ones: the youngest for which the answer is right. An older one
         may have been lost, or waited as the service ended."""
         fitting.sort(key=lambda each: (each.over is not None, -each.moment))
         for question in fitting:
-            before = question.answer, question.answered, question.elsewhere
-            question.answer, question.answered, question.elsewhere = octets, moment, sender
-            is_right = self.tell.is_right(question)
-            question.answer, question.answered, question.elsewhere = before
-            if is_right:
+            trial = copy.copy(question)
+            trial.answer, trial.answered, trial.elsewhere = octets, moment, sender
+            if self.tell.is_right(trial):
                 return question
         return fitting[0]
 
@@ -81,7 +75,7 @@ class Clients:
             question = Question(news.moment, news.source, news.source, b"", None)
             self.tell.asked(question)
         question.over = REFUSED, news.moment
-        self.tell.waits_no_more(question)
+        self.tell.upstream.leave(question)
         self.tell.refused(news.moment, "port unreachable")
 
     def reset(self, connection, moment, from_client, was_open):

@@ -1,5 +1,6 @@
 """The capture's clock: the steps by which it was set, as the order of packets and all lifetimes show them."""
 from collections import deque
+from types import SimpleNamespace
 
 from .times import LEAP, LEAST_STEP, LONGEST_STEP, OUT_OF_ORDER
 from .wording import moment_text, seconds_text
@@ -18,8 +19,8 @@ class InOrder:
     def put(self, packet):
         moment = packet.moment + self.offset
         if moment < self.latest - LEAP:
-            back = seconds_text(self.latest - moment)
-            self.notes.append(f"the clock was set back by {back} or more at {moment_text(packet.moment)}: times are moved")
+            back, at = seconds_text(self.latest - moment), moment_text(packet.moment)
+            self.notes.append(f"the clock was set back by {back} or more at {at}: times are moved")
             self.offset += self.latest + 1 - moment
             self.steps.append((self.latest + 1, self.latest - moment, packet.moment))
             moment = self.latest + 1
@@ -39,16 +40,9 @@ class InOrder:
             waiting = self.waiting
 
 
-class Step:
-    """The clock was set at a moment: later times were moved `by` some, and between `least` and `most` more time has
-    passed than they say. `at` is the time of the first packet after it."""
-
-    def __init__(self, moment, least, most, by, at):
-        self.moment, self.least, self.most, self.by, self.at = moment, least, most, by, at
-
-
 class Clock:
-    """The known steps of the capture's clock. `ask` is how long a query waits.
+    """The known steps of the capture's clock. `ask` is how long a query waits. At the moment of a step later times are
+    moved `by` some, and between `least` and `most` more time has passed than they say; `at` is the first packet's time.
 
     Wrong lifetimes are suspects, with common `bounds`: a step makes all lifetimes wrong by an equal time. `gaps` are
     times without a packet, in which a step forward may hide; `hints` are those in which a late reply was accepted;
@@ -58,6 +52,9 @@ class Clock:
         self.ask, self.steps, self.notes = ask, [], []
         self.suspects, self.bounds, self.gaps, self.last, self.sure = [], None, deque(maxlen=MOST_GAPS), None, 0
         self.hints = []
+
+    def put(self, moment, least, most, by, at):
+        self.steps.append(SimpleNamespace(moment=moment, least=least, most=most, by=by, at=at))
 
     def crossed(self, since, until):
         return [each for each in self.steps if since < each.moment <= until]
@@ -69,9 +66,9 @@ class Clock:
         crossed = self.crossed(since, until)
         return sum(each.least for each in crossed), sum(each.most for each in crossed)
 
-    def loosen(self, moment, by, at):
+    def loosen(self, moved, moment, by, at):
         """The order of packets shows a step back at a moment: how long no packet came there is unknown."""
-        self.steps.append(Step(moment, -LONGEST_STEP, LONGEST_STEP, by, at))
+        self.put(moment + moved, -LONGEST_STEP, LONGEST_STEP, by, at)
 
     def pass_on(self, moment):
         if self.last is not None and moment - self.last >= LEAST_STEP:
@@ -97,8 +94,7 @@ class Clock:
                 self.sure = until
 
     def suspect(self, question, reply, bounds):
-        """Takes a wrong lifetime. Gives the step that the suspects show, if any: its moment, and the time by which later
-        times are to be moved."""
+        """Takes a wrong lifetime. Gives the step that the suspects show, if any: its moment, and its size."""
         if self.bounds:
             common = max(bounds[0], self.bounds[0]), min(bounds[1], self.bounds[1])
             if common[0] > common[1]:
@@ -123,10 +119,9 @@ class Clock:
         return self.step(moment, by, bounds[0] - by, bounds[1] - by)
 
     def step(self, moment, by, least, most):
-        """Notes a step; gives its moment, and the time by which later times are to be moved."""
         way, size = "back" if by > 0 else "forward", seconds_text(abs(by))
         self.notes.append(f"the clock was set {way} by {size} before {moment_text(moment)}: times are moved")
-        self.steps.append(Step(moment + min(by, 0), least, most, by, moment))
+        self.put(moment + min(by, 0), least, most, by, moment)
         self.suspects, self.bounds, self.hints, self.last = [], None, [], None
         self.gaps.clear()
         return moment, by

@@ -36,7 +36,6 @@ class Configuration:
         self._found = {}
 
     def route_of(self, key):
-        """The route of a name in lower case, or None."""
         try:
             return self._found[key]
         except KeyError:
@@ -48,13 +47,11 @@ class Configuration:
 
 
 def peer(text):
-    """Address in four octets, and port."""
     address, _, port = text.partition(":")
     return bytes(map(int, address.split("."))), int(port)
 
 
 def read(path, program):
-    """The configuration in a file, once the program accepts it."""
     try:
         checked = subprocess.run([program, "check", path], capture_output=True)
     except OSError as fault:

@@ -2,7 +2,7 @@
 from typing import NamedTuple
 
 from . import messages
-from .messages import ANSWER, AUTHORITY, CNAME, HEADER, NS, SOA
+from .messages import CNAME, HEADER, NS, SOA
 
 LONGEST, LONGEST_DENIAL = 604_800, 10_800  # seconds
 MOST_ALIASES = 8
@@ -29,14 +29,13 @@ class Piece(NamedTuple):
 
 
 class Walk(NamedTuple):
-    """The pieces of a reply. `leads_to` is a name left open; a lame reply neither answers nor denies."""
+    """The pieces of a reply; `leads_to` is a name left open."""
 
     pieces: tuple
     leads_to: object = None
-    lame: bool = False
 
 
-LAME = Walk((), None, True)
+LAME = Walk(None)  # a reply that neither answers nor denies
 
 
 def lifetime(seconds):
@@ -48,14 +47,12 @@ class Walking:
 
     def __init__(self, configuration, octets, asked):
         self.configuration, self.asked = configuration, asked
-        self.code, self.authoritative = messages.code(octets), messages.is_authoritative(octets)
-        self.sets, self.authority, self.pieces = {}, [], []
+        self.code, self.authoritative = messages.code(octets), bool(octets[2] & 4)
+        self.sets, self.pieces = {}, []
         is_written = octets[4:6] == b"\0\1" and octets[HEADER : HEADER + len(asked.written)] == asked.written
-        for record in messages.records(octets, asked if is_written else None):
-            if record.section == ANSWER:
-                self.sets.setdefault((record.key, record.klass, record.kind), []).append(record)
-            elif record.section == AUTHORITY:
-                self.authority.append(record)
+        answers, self.authority = messages.records(octets, asked if is_written else None)
+        for record in answers:
+            self.sets.setdefault((record.key, record.klass, record.kind), []).append(record)
         self.route = configuration.route_of(asked.key)
 
     def walk(self):
@@ -81,7 +78,6 @@ class Walking:
         self.pieces.append(Piece(form, name, self.asked.klass, kind, rows, seconds, rank))
 
     def denial(self, name, spelled):
-        """The end of a walk at a name with neither set nor alias."""
         klass = self.asked.klass
         fitting = (each for each in self.authority if each.kind == SOA and each.klass == klass)
         soa = next((each for each in fitting if messages.is_under(name, each.key)), None)
@@ -113,12 +109,7 @@ class Walking:
 
 
 def distinct(rows):
-    """The data of records in order, without repetitions."""
     return (rows[0].data,) if len(rows) == 1 else tuple(dict.fromkeys(each.data for each in rows))
-
-
-def walk(configuration, octets, asked):
-    return Walking(configuration, octets, asked).walk()
 
 
 def is_unserved(asked):

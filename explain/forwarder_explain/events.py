@@ -2,6 +2,20 @@
 from typing import NamedTuple
 
 
+class Bounded(dict):
+    """A dictionary whose oldest value goes if there are too many."""
+
+    def __init__(self, most):
+        super().__init__()
+        self.most = most
+
+    def __setitem__(self, key, value):
+        self.pop(key, None)
+        super().__setitem__(key, value)
+        if len(self) > self.most:
+            del self[next(iter(self))]
+
+
 class Question:
     """A client's message, and its fate.
 
@@ -11,9 +25,8 @@ class Question:
     another was asked. `told`: the line is due."""
 
     __slots__ = (
-        "moment", "client", "peer", "octets", "asked", "answer", "answered", "tries", "wanted", "joined",
-        "others", "over", "verdict", "told", "elsewhere",
-    )  # fmt: skip
+        "moment client peer octets asked answer answered tries wanted joined others over verdict told elsewhere"
+    ).split()
 
     def __init__(self, moment, client, peer, octets, asked):
         self.moment, self.client, self.peer, self.octets, self.asked = moment, client, peer, octets, asked
@@ -33,9 +46,9 @@ class Query:
     of it."""
 
     __slots__ = (
-        "moment", "transport", "server", "source", "identifier", "asked", "number", "how", "ended", "reply",
-        "unfit", "is_wanted", "is_shared", "is_lacked", "late",
-    )  # fmt: skip
+        "moment transport server source identifier asked number how ended reply unfit late is_wanted is_shared "
+        "is_lacked"
+    ).split()
 
     def __init__(self, moment, transport, server, source, identifier=None, asked=None):
         self.moment, self.transport, self.server, self.source = moment, transport, server, source
@@ -61,9 +74,9 @@ class Origin(NamedTuple):
 
 
 class Reply:
-    """A reply that fits its query. `taken` is the moment of the first answer with its content; an `untaken` reply was
-    not used: the question was asked again while a client waited, or failed, the question in `doubt`. `leads` is the name
-    that its aliases leave open."""
+    """A reply that fits its query. `taken` is the moment of the first answer with its content; an untaken reply was not
+    used: its question was asked again while a client waited, or failed, and is in `doubt`. `leads` is the name that its
+    aliases leave open."""
 
     __slots__ = ("query", "moment", "pieces", "leads", "taken", "is_untaken", "doubt")
 

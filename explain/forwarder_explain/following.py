@@ -5,8 +5,7 @@ import time
 
 from .capture import Capture, Unreadable
 from .clock import InOrder
-from .files import opened
-from .growing import Pipe, Ring
+from .files import Pipe, Ring, opened
 from .options import span_of
 from .packets import Decoder
 from .running import Run
@@ -76,7 +75,7 @@ class Follower:
                 self.run = Run(self.options, self.settings, packet.moment, False, self.note, True)
             explaining = self.run.explaining
             if self.order.steps:
-                explaining.loosen(*self.order.steps.pop(0))
+                explaining.clock.loosen(explaining.moved, *self.order.steps.pop(0))
             explaining.take(packet)
             if explaining.clock.notes:
                 self.note(explaining.clock.notes.pop(0))
@@ -99,7 +98,7 @@ class Follower:
         if quiet > 2 * LOOK:
             self.go_on(True)
             if self.run is not None:
-                self.run.explaining.let_pass(quiet)
+                self.run.explaining.pass_time(self.run.explaining.now + quiet, True)
                 self.run.show_restarts()
         if not self.is_told and self.run is not None and now() - self.began >= UNHEARD:
             self.is_told = True
@@ -121,7 +120,6 @@ class Follower:
         return self.run.finish()
 
     def end_at_once(self):
-        """Reports the questions left out; gives whether an answer is different."""
         explaining = self.run.explaining if self.run else None
         count = explaining.traffic.clients.count + len(explaining.held) if explaining else 0
         self.note(f"a second signal ended the run: left out {counted(count, 'question')}")

@@ -45,10 +45,9 @@ class Restart:
 
 
 class History:
-    """`begins` is the first moment of the capture, `is_lossy`: by its own count it lost packets. `asked` are the
-    questions for which the service sent a query, `forged` the records of dropped messages, `missing` the questions
-    whose reply lacks a part, `orphans` those of early replies without a query. `shown` are restarts that were told
-    and that a query shows."""
+    """`begins` is the first moment of the capture, `is_lossy`: by its own count it lost packets. `asked` are hashes of
+    questions with a query, `forged` the records of dropped messages, `missing` the questions whose reply lacks a part,
+    `orphans` those of early replies without a query, `shown` restarts that were told and that a query shows."""
 
     def __init__(self, configuration, begins, is_lossy):
         self.configuration, self.begins, self.is_lossy = configuration, begins, is_lossy
@@ -85,7 +84,6 @@ class History:
         self.touch(occurrence)
 
     def prune(self, found, moment):
-        """Drops occurrences that no later answer can have."""
         kept = []
         for place, each in enumerate(found):
             later = next((other for other in found[place + 1 :] if replaces(other, each)), None)
@@ -103,12 +101,6 @@ class History:
         occurrence = Occurrence(piece, None, False, since, until)
         self.slots.setdefault(piece.slot(), []).insert(0, occurrence)
         return occurrence
-
-    def note_query(self, key):
-        self.asked.add(hash(key))
-
-    def was_asked(self, key):
-        return hash(key) in self.asked
 
     def forge(self, records, why):
         for each in records:
@@ -130,7 +122,7 @@ class History:
     def alias(self, key, klass, moment):
         for each in reversed(self.slots.get((key, klass, CNAME), ())):
             if each.form == SET and each.ends()[1] + DOUBT > moment:
-                return each.rows[0].lower()
+                return each
         return None
 
     def replaced_by(self, slot, occurrence, before):
@@ -146,7 +138,6 @@ class History:
         return None
 
     def is_evicted(self, occurrence):
-        """Whether it may have left a full cache."""
         return self.touches - occurrence.touched >= self.configuration.limits["cache"]
 
     def restart_between(self, carried, used):
@@ -179,10 +170,8 @@ class History:
             return False
         if each.ends()[0] <= moment + DOUBT or self.is_evicted(each):
             return False
-        # A better set that was cached then is not replaced.
-        return each.rank == 3 or not any(
-            other.rank > each.rank and other.moment() < reply.moment < other.ends()[1] + DOUBT for other in self.at(slot)
-        )
+        better = (other for other in self.at(slot) if other.rank > each.rank)  # which is not replaced while it lives
+        return not any(other.moment() < reply.moment < other.ends()[1] + DOUBT for other in better)
 
     def may_be_older(self, form, seconds, moment):
         """Whether the lifetime in an answer allows for data from before the capture."""
@@ -190,7 +179,6 @@ class History:
 
 
 def replaces(later, earlier):
-    """Whether a later occurrence took the place of an earlier one in its slot."""
     if not later.is_sure or later.reply.is_untaken:
         return False
     return later.rank >= earlier.rank or later.form == NAME_ERROR

@@ -1,15 +1,17 @@
-"""Judges an answer by what the forwarder claims: right, different, or open."""
+"""Judges an answer by what the forwarder claims, and SERVFAIL by its cause: right, different, or open."""
 from typing import NamedTuple
 
-from . import carriers, content, messages, reasons
+from . import carriers, content, messages, wording
 from .carriers import STALE_SECONDS, Carriers, Finding
 from .content import MOST_ALIASES, NAME_ERROR, NO_DATA, SET, Piece
-from .messages import ANSWER, AUTHORITY, CNAME, HEADER, SOA
-from .times import DOUBT, SAME_MOMENT, SECOND
+from .events import Bounded
+from .messages import CNAME, HEADER, SOA
+from .times import DOUBT, MILLISECOND, ORDER, SAME_MOMENT, SECOND, TICK
 
 RIGHT, DIFFERENT, OPEN = "right", "different", "open"
 NOERROR, FORMERR, SERVFAIL, NXDOMAIN, NOTIMP, REFUSED = range(6)
 MOST_OF_A_DATAGRAM, LARGE = 512, 400  # octets of a message, and of a set that makes one too large
+LARGE_REPLY = 50_000  # octets of a reply that may be too large for an answer over TCP
 MOST_LATEST = 10_000  # questions whose last answer is remembered
 BEFORE = "from before the capture began"
 LOSSY = "packets are missing, by the capture's own count"
@@ -17,7 +19,6 @@ IN_PART = "the capture lacks a part of a reply"
 NO_PORT = "no packet of its servers' port is in the capture"
 NOT_SEEN = "not all of its tries are in the capture"
 NOT_TAKEN = "a reply came in time, and was not taken"
-IN_TIME = "a reply came in time"
 
 
 class Verdict(NamedTuple):
@@ -36,6 +37,126 @@ class Different(Exception):
     """Why an answer is different."""
 
 
+class Failures:
+    """Judges failures by the limits of a configuration: of `clients` and `upstream` it takes how many wait."""
+
+    def __init__(self, configuration, history, clients, upstream):
+        self.history, self.clients, self.upstream = history, clients, upstream
+        self.limits = limits = configuration.limits
+        self.route_of = configuration.route_of
+        self.ask, self.deadline = limits["ask_ms"] * MILLISECOND, limits["deadline_ms"] * MILLISECOND
+
+    def judge(self, question, living):
+        if living is not None and not any(each.moment >= question.moment for each in question.tries):
+            raise Different(f"{living.reply.query.asked.text()} is in the cache")
+        waited, accepted = question.answered - question.moment, self.accepted(question)
+        if waited >= self.deadline - TICK:
+            is_late = accepted and question.answered - accepted.moment > ORDER
+            return Verdict(OPEN, NOT_TAKEN, 9) if is_late else Verdict(RIGHT, reason=9)
+        if self.has_too_many_aliases(question):
+            return Verdict(RIGHT, reason=10)
+        if accepted:
+            return self.with_reply(question, accepted)
+        if waited < ORDER and (full := self.full(question)):
+            return full
+        kind, why = self.tries_failed(question)
+        if kind != DIFFERENT:
+            return Verdict(kind, why, 8)
+        if self.tries_of(question):
+            raise Different(why)
+        return Verdict(OPEN, NOT_SEEN, 8)
+
+    @staticmethod
+    def has_too_many_aliases(question):
+        """Whether aliases lead back to a name, or are more than a question may have."""
+        wanted = [key[0] for key in question.wanted]
+        replies = [each.reply for each in question.tries if each.reply]
+        counts, last = {}, -1
+        for name in wanted:
+            lead = next((each for each in replies if each.leads == name), None)
+            last = counts[name] = last + 1 if lead is None else counts.get(lead.query.asked.key, 0) + aliases_in(lead)
+        most = max([last, *(counts.get(each.query.asked.key, 0) + aliases_in(each) for each in replies)])
+        return most > MOST_ALIASES or len(set(wanted)) < len(wanted)
+
+    @staticmethod
+    def tries_of(question):
+        tries = [each for each in question.tries if each.asked]
+        if not tries or tries[-1].reply and tries[-1].reply.leads:
+            return []
+        return [each for each in tries if each.asked.same == tries[-1].asked.same]
+
+    def accepted(self, question):
+        tries = self.tries_of(question)
+        reply = tries[-1].reply if tries else None
+        return reply if reply and reply.moment <= question.answered and not reply.is_untaken else None
+
+    def may_be_untaken(self, question):
+        """Whether the reply to the last try may have been read too late."""
+        reply = self.accepted(question)
+        return bool(reply) and question.answered - reply.moment > ORDER and self.has_time_passed(question)
+
+    def with_reply(self, question, reply):
+        """The verdict despite a reply: it is too large, or was not taken within its time."""
+        if question.is_over_tcp() and sum(len(row) for piece in reply.pieces for row in piece.rows) > LARGE_REPLY:
+            return Verdict(RIGHT, reason=11)
+        if reply.taken is None and (question.answered - reply.moment > ORDER or self.has_time_passed(question)):
+            return Verdict(OPEN, NOT_TAKEN, 8)
+        raise Different("a reply came in time")
+
+    def tries_failed(self, question):
+        """Whether all tries for the name that is wanted last have failed, as far as packets show."""
+        tries, now, most = self.tries_of(question), question.answered, self.limits["tries"]
+        seen = max([each.number for each in tries] + [len(tries)])
+        if tries and not self.has_failed(tries[-1], now) and not self.has_time_passed(question):
+            return DIFFERENT, "its last try had not failed"
+        if seen >= most:
+            return RIGHT, ""
+        if tries and tries[-1].reply is not None:
+            return OPEN, NOT_TAKEN
+        began = tries[-1].ended or tries[-1].moment + self.ask if tries else question.moment
+        if not tries and self.were_asked(question):
+            return DIFFERENT, "no try failed: its servers were asked for other names meanwhile"
+        if tries or now - began >= (most - seen) * self.ask - TICK or self.history.is_lossy:
+            return OPEN, NOT_SEEN
+        return DIFFERENT, "no try failed"
+
+    def has_time_passed(self, question):
+        """Whether the time of the last try may be over: by the service's clock it begins as the try before ends, and a
+        slow service sends it later."""
+        tries, began = self.tries_of(question), question.moment
+        if question.joined:
+            began = min(began, question.tries[0].moment)
+        for query in tries[:-1]:
+            has_ended = query.how is not None and query.reply is None
+            began = max(began, query.ended) if has_ended else began + self.ask
+        return question.answered - began >= self.ask - TICK
+
+    def were_asked(self, question):
+        """Whether queries for other names left to all servers of a name's route while a question waited: its own would
+        have left, too."""
+        route = self.route_of(question.wanted[-1][0]) if question.wanted else None
+        return bool(route and route.servers) and all(
+            self.upstream.sent.get(server, 0) >= question.moment - self.ask for server in route.servers
+        )
+
+    def has_failed(self, query, now):
+        is_over = now - query.moment >= self.ask - TICK
+        if query.reply is None:
+            return query.how is not None or is_over
+        return query.reply.is_untaken or query.reply.taken is None and now - query.reply.moment > ORDER and is_over
+
+    def full(self, question):
+        if self.clients.count >= self.limits["questions"]:
+            return Verdict(RIGHT, reason=5)
+        if not question.tries and self.upstream.asking(question.answered) >= self.limits["inquiries"]:
+            return Verdict(RIGHT, reason=6)
+        return None
+
+
+def aliases_in(reply):
+    return sum(piece.kind == CNAME != reply.query.asked.kind for piece in reply.pieces)
+
+
 class Judge:
     """Judges answers by a history, and failures by `failures`. No packet came from the `unseen` ports; `sides` has the
     sides of the traffic in the capture."""
@@ -43,7 +164,7 @@ class Judge:
     def __init__(self, configuration, history, clock, failures):
         self.configuration, self.history, self.failures = configuration, history, failures
         self.carriers = Carriers(history, clock)
-        self.clock, self.latest, self.unseen, self.sides = clock, {}, set(), None
+        self.clock, self.latest, self.unseen, self.sides = clock, Bounded(MOST_LATEST), set(), None
 
     def judge(self, question):
         try:
@@ -76,7 +197,7 @@ class Judge:
     def expect_header(self, question, octets):
         """The flags are the question's RD and operation, RA and QR (RFC 1035 4.1.1)."""
         if question.elsewhere:
-            raise Different(reasons.elsewhere(question))
+            raise Different(wording.elsewhere(question))
         if len(octets) < HEADER:
             raise Different(f"it has {len(octets)} octets")
         wanted = 0x8000 | (question.octets[2] & 0x79) << 8 | 0x80
@@ -86,11 +207,9 @@ class Judge:
             raise Different("it is cut, over TCP or with records")
 
     def failed(self, question, code, counts):
-        """The verdict on an answer whose code is neither of a set nor of a denial."""
         if counts[2:] != bytes(6):
             raise Different("it fails, and has records")
-        if self.denied_here(question.asked.key):
-            raise Different(f"the configuration denies {messages.text(question.asked.key)}")
+        self.expect_served(question.asked.key)
         if code == REFUSED:
             if any(self.configuration.route_of(key[0]) is None for key in question.wanted[1:]):
                 return Verdict(RIGHT, "", 4)
@@ -125,16 +244,13 @@ class Judge:
     # Answers with content.
 
     def by_content(self, question, code, octets):
-        """The verdict on an answer with a set or a denial, after any aliases."""
         asked = question.asked
         try:
-            records = messages.records(octets, asked)
+            rows, authority = messages.records(octets, asked)
         except messages.Malformed:
             raise Different("its records can't be read") from None
         if octets[10:12] != b"\0\0":
             raise Different("it has additional records")
-        rows = [each for each in records if each.section == ANSWER]
-        authority = [each for each in records if each.section == AUTHORITY]
         parts, name, rest = self.aliases(asked, rows)
         if rest and (code == NXDOMAIN or authority):
             raise Different("it has a set, and is a denial")
@@ -173,7 +289,7 @@ class Judge:
         found = [self.of(part, question) for part in parts]
         worst = max(found, key=lambda each: each.rank, default=None)
         if worst is not None and worst.rank > carriers.OLDER:
-            return self.stale(question, parts, found) or self.wrong(question, parts, found)
+            return self.stale(question, parts) or self.wrong(question, parts, found)
         used = tuple(each.occurrence for each in found)
         if worst is not None and worst.rank == carriers.OLDER:
             return Verdict(OPEN, self.missing(question, parts) or BEFORE, reason, used, None, parts)
@@ -189,7 +305,7 @@ class Judge:
         if found.rank < carriers.UNLIKE:
             return found
         if not self.is_from_before(part, question, stale):
-            return found if found.why else found._replace(why=reasons.no_reply(part, self.forged(part)))
+            return found if found.why else found._replace(why=wording.no_reply(part, self.forged(part)))
         lasts = part.seconds * SECOND
         ends = question.moment + lasts - DOUBT, question.answered + lasts + 2 * DOUBT
         if stale is not None and part.seconds == STALE_SECONDS:
@@ -210,12 +326,12 @@ class Judge:
             return False
         if stale is not None and part.seconds == STALE_SECONDS:
             return not history.at(slot)
-        if self.is_of_own_reply(slot, question) or history.was_asked((part.key, question.asked.kind, part.klass)):
+        if self.is_of_own_reply(slot, question) or hash((part.key, question.asked.kind, part.klass)) in history.asked:
             return False
         older = [each for each in history.at(slot) if each.reply is None]
         if any(each.since > question.moment for each in older):
             return False  # an earlier answer had other data from before the capture
-        if self.sides.has_one():
+        if not self.sides.queries or not self.sides.replies:
             return True
         if older or not history.may_be_older(part.form, part.seconds, question.answered):
             return False
@@ -223,7 +339,14 @@ class Judge:
             return question.asked.same in history.orphans
         if part.form != SET and any(True for _ in history.denials(part.key, part.klass)):
             return False
-        return not any(each.is_sure and each.rank == 3 and each.form == SET for each in history.at(slot))
+        return not any(
+            each.is_sure and each.form == SET and (each.rank == 3 or self.has_lifetime_of(each, part, question))
+            for each in history.at(slot)
+        )
+
+    def has_lifetime_of(self, each, part, question):
+        """Whether a part has the lifetime of an occurrence with other data, as a changed answer has."""
+        return bool(each.reply) and self.carriers.fit_seconds(part, each, question, False, None).rank == carriers.RIGHT
 
     @staticmethod
     def is_of_own_reply(slot, question):
@@ -237,7 +360,6 @@ class Judge:
         )
 
     def wrong(self, question, parts, found):
-        """The verdict on an answer with a wrong part."""
         if missing := self.missing(question, parts):
             return Verdict(OPEN, missing, 0, (), None, parts)
         wrong = [each for each in found if each.rank > carriers.OLDER]
@@ -257,11 +379,10 @@ class Judge:
         return IN_PART if any((name, kind, klass) in self.history.missing for name in names) else None
 
     def is_unseen(self, name):
-        """Whether the capture has no packet of a port at which a name's servers are asked."""
         route = self.configuration.route_of(name)
         return route is not None and any(port in self.unseen for _, port in route.servers)
 
-    def stale(self, question, parts, found):
+    def stale(self, question, parts):
         """The verdict on expired data, which are answered after all tries failed; None if they are not expired."""
         if not self.history.stale or parts[-1].form != SET:
             return None
@@ -276,7 +397,7 @@ class Judge:
         if kind == DIFFERENT:
             if missing := self.missing(question, parts):
                 return Verdict(OPEN, missing, 12, (), None, parts)
-            return Verdict(DIFFERENT, f"{reasons.expired_without(found)}, and {why}")
+            return Verdict(DIFFERENT, f"{wording.expired_without(found)}, and {why}")
         if any(each.rank == carriers.OLDER for each in found):
             kind, why = OPEN, BEFORE
         return Verdict(kind, why, 12, tuple(each.occurrence for each in found), None, parts)
@@ -296,15 +417,12 @@ class Judge:
             self.latest.pop(key, None)
             return
         last, self.latest[key] = self.latest.get(key), (question.answered, rows)
-        if len(self.latest) > MOST_LATEST:
-            del self.latest[next(iter(self.latest))]
         if last and question.answered - last[0] < SAME_MOMENT and last[1] != rows:
             raise Different("an equal question got another answer at one moment")
 
     # Answers that are cut.
 
     def cut(self, question, code):
-        """The verdict on an answer without records, as one with more octets than a datagram may have."""
         key, kind, klass = question.asked.same
         owner, rows, used, last, is_denied = question.asked.name, [], [], None, False
         self.expect_served(key)
@@ -328,22 +446,18 @@ class Judge:
         if last and size > MOST_OF_A_DATAGRAM and is_denied == (code == NXDOMAIN):
             return Verdict(RIGHT, "", 0, tuple(used))
         missing = self.missing(question, ())
-        is_asked = len(used) > MOST_ALIASES or self.history.was_asked((key, kind, klass))
-        if missing or not last and not is_asked:
+        is_known = last or len(used) > MOST_ALIASES or hash((key, kind, klass)) in self.history.asked
+        if missing or not is_known:
             return Verdict(OPEN, missing or BEFORE, 0)
         raise Different("it is cut, and no reply carried so much")
 
     def largest(self, question, slot):
         """The latest large occurrence that may be in an answer, or the latest one."""
-        found = [
-            each
-            for each in self.history.at(slot)
-            if each.reply and each.reply.moment <= question.answered and each.form != NAME_ERROR
-        ]
-        return max(found, key=lambda each: (sum(len(row) + 12 for row in each.rows) > LARGE, each.moment()), default=None)
+        found = (each for each in self.history.at(slot) if each.reply and each.reply.moment <= question.answered)
+        sizes = ((sum(len(row) + 12 for row in each.rows) > LARGE, each.moment(), id(each), each) for each in found)
+        return max(sizes, default=[None])[-1]
 
     def denial(self, question, key):
-        """The latest denial of a name that may be in an answer."""
         found = (each for _, each in self.history.denials(key, question.asked.klass) if each.reply)
         return next((each for each in found if each.reply.moment <= question.answered), None)
 

@@ -21,15 +21,15 @@ KINDS = (
     "250 TSIG,251 IXFR,252 AXFR,255 ANY,256 URI,257 CAA"
 )
 TYPES = {int(number): name for number, name in (pair.split(" ") for pair in KINDS.split(","))}
-CODES = (
-    *"NOERROR FORMERR SERVFAIL NXDOMAIN NOTIMP REFUSED YXDOMAIN YXRRSET NXRRSET NOTAUTH NOTZONE".split(" "),
-    *(f"code {number}" for number in range(11, 16)),
-)
+CODES = "NOERROR FORMERR SERVFAIL NXDOMAIN NOTIMP REFUSED YXDOMAIN YXRRSET NXRRSET NOTAUTH NOTZONE".split(" ")
+CODES += (f"code {number}" for number in range(11, 16))
 NS, CNAME, SOA = 2, 5, 6
-ANSWER, AUTHORITY = 0, 1
 HEADER = 12  # octets
 COUNTS, HEAD = struct.Struct(">4H").unpack_from, struct.Struct(">2HIH").unpack_from
-PLAIN = frozenset(b"abcdefghijklmnopqrstuvwxyzABCDEFGHIJKLMNOPQRSTUVWXYZ0123456789-_")  # letters of a name
+# Of a name, each octet as RFC 1035 5.1 has it.
+LETTERS = [f"\\{chr(octet)}" if 33 <= octet < 127 else f"\\{octet:03}" for octet in range(256)]
+for plain in b"abcdefghijklmnopqrstuvwxyzABCDEFGHIJKLMNOPQRSTUVWXYZ0123456789-_":
+    LETTERS[plain] = chr(plain)
 
 
 class Malformed(Exception):
@@ -47,14 +47,12 @@ class Question(NamedTuple):
     written: bytes
 
     def text(self):
-        """Name and type, as a person writes them."""
         return f"{text(self.name)} {kind_text(self.kind, self.klass)}"
 
 
 class Record(NamedTuple):
     """A record; the names in `data` are written out."""
 
-    section: int
     owner: bytes
     key: bytes
     kind: int
@@ -63,16 +61,8 @@ class Record(NamedTuple):
     data: bytes
 
 
-def is_response(octets):
-    return octets[2] >= 128
-
-
 def is_cut(octets):
     return len(octets) >= HEADER and bool(octets[2] & 2)
-
-
-def is_authoritative(octets):
-    return len(octets) >= HEADER and bool(octets[2] & 4)
 
 
 def operation(octets):
@@ -90,11 +80,11 @@ def name_at(octets, at):
     try:
         while size := octets[at]:
             if size >= 192:
-                target = (size & 63) << 8 | octets[at + 1]
-                end = at + 2 if end is None else end
-                if target >= start:
+                end = end or at + 2
+                at = (size & 63) << 8 | octets[at + 1]
+                if at >= start:
                     raise Malformed("a pointer leads forward")
-                at = start = target
+                start = at
                 continue
             total += size + 1
             if size > 63 or total > 255 or at + 1 + size > len(octets):
@@ -103,17 +93,15 @@ def name_at(octets, at):
             at += 1 + size
     except IndexError:
         raise Malformed("a name") from None
-    return b"".join(parts) + b"\0", at + 1 if end is None else end
+    return b"".join(parts) + b"\0", end or at + 1
 
 
 @functools.lru_cache(maxsize=5_000)
 def question_in(body):
-    """The only question of a message without its identifier, or None."""
     return read_question(b"\0\0" + body)
 
 
 def read_question(octets):
-    """The only question of a message, or None."""
     if len(octets) < HEADER or octets[4:6] != b"\0\1":
         return None
     try:
@@ -126,19 +114,15 @@ def read_question(octets):
 
 
 def question_of(octets):
-    """The only question of any message, or None. A pointer may lead to the identifier, so nothing is remembered then."""
-    if max(octets[HEADER : HEADER + 255], default=0) >= 0xC0:
-        return read_question(octets)
-    found = question_in(octets[2:512])
-    return found if found or len(octets) <= 512 else question_in(octets[2:])
+    """The only question of any message, or None. With a pointer, perhaps to the identifier, nothing is remembered."""
+    return question_in(octets[2:]) if octets[HEADER : HEADER + 255].isascii() else read_question(octets)
 
 
 def records(octets, asked=None):
-    """The records of the answer and authority sections, or Malformed. `asked` is the question if its octets are at
-    their place."""
+    """The records of the answer and of the authority section, or Malformed. `asked` is the question, if well placed."""
     if len(octets) < HEADER:
         raise Malformed("a header")
-    counts, at, found = COUNTS(octets, 4), HEADER, []
+    counts, at, sections = COUNTS(octets, 4), HEADER, ([], [], [])
     known = None if asked is None else b"\xc0\x0c"
     try:
         if asked is not None:
@@ -146,8 +130,8 @@ def records(octets, asked=None):
         else:
             for _ in range(counts[0]):
                 at = name_at(octets, at)[1] + 4
-        for section in range(3):
-            for _ in range(counts[section + 1]):
+        for found, count in zip(sections, counts[1:]):
+            for _ in range(count):
                 if octets[at : at + 2] == known:
                     owner, key, at = asked.name, asked.key, at + 2
                 else:
@@ -158,32 +142,30 @@ def records(octets, asked=None):
                 if at > len(octets):
                     raise Malformed("a record")
                 data = written_out(octets, kind, start, at) if kind in SHAPES else octets[start:at]
-                if section < 2:
-                    found.append(Record(section, owner, key, kind, klass, seconds, data))
+                found.append(Record(owner, key, kind, klass, seconds, data))
     except (struct.error, IndexError):
         raise Malformed("a record") from None
-    return found
+    return sections[:2]
 
 
 def written_out(octets, kind, start, end):
     """The RDATA between two offsets with its names written out."""
-    parts, at = [], start
+    found, at = b"", start
     for part in SHAPES[kind]:
         if part is NAME:
-            name, after = name_at(octets, at)
-            parts.append(name)
+            name, at = name_at(octets, at)
+            found += name
         else:
-            after = at + (1 + octets[at] if part is STRING else part)
-            parts.append(octets[at:after])
-        at = after
+            size = 1 + octets[at] if part is STRING else part
+            found, at = found + octets[at : at + size], at + size
     if at != end:
         raise Malformed("RDATA")
-    return b"".join(parts)
+    return found
 
 
 def size_with(asked, rows):
-    """The octets of the forwarder's message with a question and records, each owner, kind and data: the longest suffix of
-    a name that was written before is a pointer (RFC 1035 4.1.4)."""
+    """How many octets the forwarder's message has with a question and records, each owner, kind and data. The longest
+    suffix of a name that was written before is a pointer (RFC 1035 4.1.4)."""
     size, places = HEADER + 4, set()
 
     def name_size(name):
@@ -212,23 +194,11 @@ def size_with(asked, rows):
 
 @functools.lru_cache(maxsize=5_000)
 def text(name):
-    """A name in letters, with the escapes of RFC 1035 5.1."""
-    labels, at = [], 0
-    while size := name[at]:
-        label = name[at + 1 : at + 1 + size]
-        labels.append("".join(map(letter, label)))
-        at += 1 + size
-    return ".".join(labels) or "."
-
-
-def letter(octet):
-    if octet in PLAIN:
-        return chr(octet)
-    return f"\\{chr(octet)}" if 33 <= octet < 127 else f"\\{octet:03}"
+    labels = (above[1 : 1 + above[0]] for above in parents(name) if above[0])
+    return ".".join("".join(map(LETTERS.__getitem__, label)) for label in labels) or "."
 
 
 def from_text(words):
-    """The octets of a plain name in lower case, or None."""
     labels = [] if words == "." else words.rstrip(".").lower().split(".")
     if any(not 1 <= len(label) <= 63 for label in labels):
         return None
@@ -236,7 +206,6 @@ def from_text(words):
 
 
 def parents(key):
-    """The name and each name above, in octets."""
     while key != b"\0":
         yield key
         key = key[1 + key[0] :]

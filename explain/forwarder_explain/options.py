@@ -11,23 +11,15 @@ from .wording import address_text, shown
 
 FORMS = ("%H:%M:%S.%f", "%H:%M:%S", "%H:%M")  # of times; a date may come before
 ABOUT = (
-    "Explain what the DNS forwarder did, from a capture of its traffic: say what became of each question, and judge each "
-    "answer by what the forwarder claims."
+    "Explain what the DNS forwarder did, from a capture of its traffic: say what became of each question, and judge "
+    "each answer by what the forwarder claims."
 )
 STATUS = "Status: 0 if no answer is different, 1 if one is, 2 if something can't be read. See forwarder-explain(1)."
-ARGUMENTS = (  # names, value, help
+ARGUMENTS = (  # name with any other goal, value, help
     ("configuration", "CONFIG", "the configuration that the forwarder had"),
-    (
-        "capture",
-        "CAPTURE",
-        "a file of tcpdump -w, in pcap or pcapng; - for standard input; or a folder with the files of a ring",
-    ),
+    ("capture", "CAPTURE", "a file of tcpdump -w, in pcap or pcapng; - for standard input; or a folder of such files"),
     ("--at", "TIME", "questions of this minute, 14:03, or of this second, 14:03:02"),
-    (
-        "--from since",
-        "TIME",
-        "questions from this time on: 14:03, 14:03:02.5, 2026-11-28T14:03, or seconds since 1970",
-    ),
+    ("--from since", "TIME", "questions from then on: 14:03, 14:03:02.5, 2026-11-28T14:03, or seconds since 1970"),
     ("--to until", "TIME", "questions before this time"),
     ("--client", "ADDRESS", "questions of this client alone: 10.0.0.7 or 10.0.0.7:40000"),
     ("--name", "NAME", "questions for this name and those below it alone"),
@@ -86,7 +78,6 @@ def span_of_text(text, first):
 
 
 def span_of(options, first):
-    """The bounds of the chosen questions' moments, each in microseconds since 1970 or None."""
     since = span_of_text(options.since, first)[0] if options.since else None
     until = span_of_text(options.until, first)[0] if options.until else None
     if options.at:
@@ -103,6 +94,9 @@ def chooser(options, first):
     suffix = messages.from_text(options.name) if options.name else None
     if options.name and suffix is None:
         raise Unreadable("is no name", options.name)
+
+    if (since, until, options.client, suffix) == (None,) * 4:
+        return lambda question: True
 
     def is_chosen(question):
         if since is not None and question.moment < since or until is not None and question.moment >= until:

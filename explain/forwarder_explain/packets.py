@@ -120,8 +120,8 @@ class Decoder:
 
     def is_double(self, moment, link, octets):
         """Whether the packet was just seen on another interface (`tcpdump -i any`), or on a bridge."""
-        octets = hash(octets[:8] + octets[9:10] + octets[12:])  # without the fields that routers change
-        last, self.seen[octets] = self.seen.get(octets, 0), moment
+        key = hash((octets[:8], octets[9], octets[12:]))  # without the fields that routers change
+        last, self.seen[key] = self.seen.get(key, 0), moment
         if len(self.seen) > MOST_SEEN:
             self.seen = {key: when for key, when in self.seen.items() if moment - when <= SAME_PACKET}
         return moment - last <= (SAME_PACKET if link in ANY_INTERFACE else SAME_FRAME)

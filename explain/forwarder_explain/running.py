@@ -1,11 +1,9 @@
 """A run over packets: explains, counts and shows the questions that the options choose."""
 from . import page
 from .explaining import Explaining
-from .groups import Groups
 from .options import chooser, span_of_text
-from .report import Row, Summary, restart_text, written
+from .report import Row, Summary, Teller, restart_text, written
 from .scripts import Scripts
-from .story import Teller
 from .tally import Tally
 from .times import SECOND
 
@@ -22,7 +20,7 @@ class Run:
             self.explaining.history.tell(*span_of_text(text, begins))
         self.teller = Teller(settings, self.explaining.history)
         self.is_chosen = chooser(options, begins)
-        self.groups = Groups() if options.html else None
+        self.groups = page.Groups() if options.html else None
         self.scripts = self.explaining.upstream.record = Scripts(options.script, settings) if options.script else None
         self.span, self.has_chosen, self.said = None, False, 0
 
@@ -43,17 +41,12 @@ class Run:
             self.groups.add(row)
 
     def show(self, row):
-        options = self.options
+        options, is_different = self.options, row.is_different()
         is_listed = not options.summary and not options.html
-        if options.json:
-            if is_listed:
-                print(written(row.object()))
-            return
-        is_different = row.is_different()
-        if is_listed or is_different:
-            print(row.line())
-        if is_different:
-            print("\n".join(row.differs()))
+        if options.json and is_listed:
+            print(written(row.object()))
+        elif not options.json and (is_listed or is_different):
+            print("\n".join([row.line(), *(row.differs() if is_different else ())]))
 
     def show_restarts(self):
         """Prints that the service began anew, once for each restart."""
@@ -66,7 +59,6 @@ class Run:
         return [*self.explaining.clock.notes, *self.explaining.traffic.notes()]
 
     def finish(self):
-        """Writes files and prints counts; gives whether an answer is different."""
         summary = Summary(self.tally, self.explaining)
         if self.scripts:
             self.scripts.write()

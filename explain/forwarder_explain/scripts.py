@@ -11,7 +11,7 @@ from .times import MILLISECOND, SECOND
 from .wording import clock, shown
 
 MOST_LINES = 8000  # of a script, which may have 8,191
-QUESTION, QUERY, REPLY, ENDING, ANSWER = range(5)
+QUESTION, QUERY, REPLY, ENDING, ANSWER = "question", "query", "reply", "ending", "answer"  # methods of Script
 LAST_PORT = 65535
 
 
@@ -46,7 +46,6 @@ class Scripts:
         self.put(REPLY, moment, query.asked, query, sender, octets, octets[:2] == query.identifier, fits)
 
     def lead(self, reply):
-        """Notes the name to which the aliases of a reply lead."""
         if reply.leads:
             self.leads[reply.query.asked.key].add(reply.leads)
 
@@ -74,21 +73,16 @@ class Scripts:
             found |= {lead for name in found for lead in self.leads.get(name, ())}
         return found
 
-    def events(self):
-        self.file.seek(0)
-        while True:
-            try:
-                yield pickle.load(self.file)
-            except EOFError:
-                return
-
     def write(self):
-        names, scripts = self.names(), []
-        for event in self.events():
+        names, scripts, size = self.names(), [], self.file.tell()
+        self.file.seek(0)
+        while self.file.tell() < size:
+            event = pickle.load(self.file)
             if event[2][0] in names:
                 if not scripts or len(scripts[-1].lines) > MOST_LINES:
                     scripts.append(Script(self.settings))
-                scripts[-1].add(*event)
+                kind, *rest = event
+                getattr(scripts[-1], kind)(*rest)
         chosen = [each for each in scripts if each.at.keys() & self.different.keys()] or scripts
         for number, script in enumerate(chosen, 1):
             path = self.path if len(chosen) == 1 else f"{self.path}.{number}"
@@ -110,9 +104,6 @@ class Script:
         self.base = moment if self.base is None else self.base
         self.lines.append(f"{1000 + max(0, moment - self.base) // MILLISECOND} {text}")
         return len(self.lines)
-
-    def add(self, kind, moment, key, number, *rest):
-        (self.question, self.query, self.reply, self.ending, self.answer)[kind](moment, key, number, *rest)
 
     def question(self, moment, key, number, client, octets):
         self.at[number] = line = self.put(moment, f"client {client} {octets.hex() or '-'}")

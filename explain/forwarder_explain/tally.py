@@ -2,6 +2,7 @@
 from collections import Counter, defaultdict
 
 from . import judge
+from .times import MILLISECOND
 from .upstream import ANSWERED, REPLIED
 from .wording import address_text, duration, server_text
 
@@ -23,23 +24,22 @@ class Times:
         self.counts, self.number = {}, 0
 
     def add(self, micros):
-        unit = round(micros / FINEST) if micros < FINE else 1000 * round(micros / 1000)
-        least, count = self.counts.get(unit, (micros, 0))
-        self.counts[unit] = micros if micros < least else least, count + 1
+        unit = FINEST * round(micros / FINEST) if micros < FINE else MILLISECOND * round(micros / MILLISECOND)
+        self.counts[unit] = self.counts.get(unit, 0) + 1
         self.number += 1
 
     def spread(self):
         if not self.number:
             return "-", "-"
-        in_order = sorted(self.counts.values())
+        in_order = sorted(self.counts.items())
         return self.at(in_order, self.number // 2), self.at(in_order, min(self.number - 1, self.number * 99 // 100))
 
     @staticmethod
     def at(in_order, place):
-        for least, count in in_order:
+        for micros, count in in_order:
             place -= count
             if place < 0:
-                return duration(least)
+                return duration(micros)
 
 
 class Group:
@@ -55,7 +55,7 @@ class Group:
 
 
 class Tally:
-    """All counts of a run. `kinds` counts answers by verdict, `all` questions by verdict, `open` open answers by reason."""
+    """All counts of a run: `kinds` of answers by verdict, `all` of questions, `open` of open answers by reason."""
 
     def __init__(self):
         self.questions = self.answers = self.refused = self.queries = self.other_queries = 0
@@ -135,7 +135,6 @@ def reason_of(row):
 
 
 def reason_text(reason, is_asked):
-    """The row of a reason in a table."""
     if reason == 0:
         return f"0 {REASONS[0]} {'by a server' if is_asked else 'from the cache'}"
     return f"{reason} {REASONS[reason]}" if reason > 0 else "- no reason is shown"

@@ -37,6 +37,5 @@ FORGET = 2 * SECOND  # between two rounds of forgetting
 # Of this program's own waiting, by the clock of this machine.
 LOOK = SECOND // 10  # between two looks for more packets
 PAUSE = 3 * SECOND // 10  # between two measurements of the delay
-PROGRESS = SECOND  # before progress is shown
 BEHIND = 5 * SECOND  # the least delay that is reported
 UNHEARD = 30 * SECOND  # without a question, before a remark

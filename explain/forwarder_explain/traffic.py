@@ -1,43 +1,130 @@
-"""The senders of packets: clients with questions, servers with replies, and the forwarder with its messages to both."""
-from collections import OrderedDict
+"""The senders of packets: clients with questions, servers with replies, and the forwarder with its messages to both.
+Streams of TCP are put together by sequence numbers and cut into messages by their lengths (RFC 1035 4.2.2)."""
+import struct
 
 from . import messages
 from .clients import Clients
+from .events import Bounded
 from .messages import HEADER
 from .packets import FIN, RST, SYN, Datagram, Segment
-from .streams import Connection, begins_message
 from .times import IDLE, STREAM_LATE
 from .upstream import MISSING
 from .wording import counted, shown
 
 ACK, PORT_CLOSED = 16, 3
 ANY_ADDRESS = bytes(4)
+BEGUN_BEFORE = "left out: {} to servers that began before the capture, or of which it lost the beginning"
 MOST_ELSEWHERE = 50_000  # connections of other programs, and their questions
+MOST_WAITING = 64  # segments after a gap
+
+
+class Side:
+    """One direction of a connection: `next` is the expected sequence number, `waiting` has segments after a gap."""
+
+    def __init__(self):
+        self.next, self.buffer, self.waiting = None, b"", {}
+        self.gaps = self.moment = 0
+
+    def take(self, segment):
+        octets, sequence = segment.octets, segment.sequence
+        if segment.flags & SYN:
+            sequence = self.next = (sequence + 1) & 0xFFFFFFFF
+            self.buffer, self.waiting = b"", {}
+        elif self.next is None:  # the capture began later than the connection
+            if not octets or not begins_message(octets):
+                return []
+            self.next = sequence
+        if octets:
+            self.waiting[sequence] = segment.moment, octets
+            self.join()
+            if len(self.waiting) > MOST_WAITING:
+                self.skip_gap()
+        return list(self.messages())
+
+    def in_order(self):
+        return sorted(self.waiting, key=lambda at: (at - self.next) & 0xFFFFFFFF)
+
+    def join(self):
+        moved = True
+        while moved and self.waiting:
+            moved = False
+            for sequence in self.in_order():
+                ahead = (sequence - self.next + 0x80000000 & 0xFFFFFFFF) - 0x80000000
+                if ahead > 0:
+                    continue
+                moment, octets = self.waiting.pop(sequence)
+                octets = octets[-ahead:] if ahead else octets
+                if octets:
+                    self.buffer += octets
+                    self.moment = max(self.moment, moment)
+                    self.next = (self.next + len(octets)) & 0xFFFFFFFF
+                    moved = True
+
+    def skip_gap(self):
+        """Goes on after a gap, at a segment that begins a message."""
+        for sequence in self.in_order():
+            moment, octets = self.waiting.pop(sequence)
+            if begins_message(octets):
+                self.gaps += 1
+                self.buffer, self.next = b"", sequence
+                self.waiting[sequence] = moment, octets
+                self.join()
+                return
+
+    def messages(self):
+        while len(self.buffer) >= 2:
+            size = struct.unpack_from(">H", self.buffer)[0]
+            if len(self.buffer) < 2 + size:
+                return
+            yield self.buffer[2 : 2 + size]
+            self.buffer = self.buffer[2 + size :]
+
+
+class Connection:
+    """A connection; the client began it. `query` is that of a connection to a server, None of a client's. `first` is
+    the first sequence number, if known; `last` is the moment of the last packet."""
+
+    def __init__(self, client, server, moment):
+        self.client, self.server, self.last, self.sides = client, server, moment, {True: Side(), False: Side()}
+        self.query = self.first = None
+        self.is_refused = self.has_gap = False
+
+    def take(self, segment):
+        from_client = segment.source == self.client
+        self.last = segment.moment
+        self.has_gap |= segment.is_cut
+        return from_client, self.sides[from_client].take(segment)
+
+    def finish(self):
+        """The messages after gaps: moment, whether the client sent it, octets."""
+        found = []
+        for from_client, side in self.sides.items():
+            self.has_gap |= bool(side.waiting)
+            while side.waiting:
+                side.skip_gap()
+                found += [(side.moment, from_client, message) for message in side.messages()]
+        return sorted(found, key=lambda each: each[0])
+
+
+def begins_message(octets):
+    """Whether a message of the DNS with one question seems to begin here."""
+    return len(octets) >= 14 and struct.unpack_from(">H", octets)[0] >= 12 and octets[6:8] == b"\0\1"
 
 
 class Sides:
     """The sides of the traffic in a capture: counts of messages."""
 
-    def __init__(self):
-        self.questions = self.answers = self.queries = self.replies = 0
-
-    def has_one(self):
-        """Whether no query, or no reply, was captured so far."""
-        return not self.queries or not self.replies
+    questions = answers = queries = replies = 0
 
     def missing(self):
         """The missing part of a capture, in words; None if nothing is missing."""
-        if self.questions and not self.queries and not self.replies:
-            return "captured on the clients' side alone"
-        if self.queries and not self.questions:
-            return "captured on the servers' side alone"
-        if self.questions and not self.answers and self.queries:
-            return "captured without the answers to clients"
-        if self.replies and not self.queries:
-            return "captured without the queries to servers"
-        if self.queries and not self.replies:
-            return "captured without the replies of servers"
-        return None
+        if not self.queries and not self.replies:
+            return "captured on the clients' side alone" if self.questions else None
+        parts = (
+            (self.questions, "on the servers' side alone"), (self.answers, "without the answers to clients"),
+            (self.queries, "without the queries to servers"), (self.replies, "without the replies of servers"),
+        )  # fmt: skip
+        return next((f"captured {how}" for count, how in parts if not count), None)
 
 
 class Traffic:
@@ -47,8 +134,8 @@ class Traffic:
     def __init__(self, configuration, tell, upstream, history):
         self.listen, self.servers = configuration.listen, configuration.servers
         self.clients, self.upstream, self.history = Clients(tell), upstream, history
-        self.connections, self.late, self.gaps, self.own, self.sides = {}, set(), 0, {}, Sides()
-        self.elsewhere, self.is_any = OrderedDict(), self.listen[0] == ANY_ADDRESS
+        self.connections, self.late, self.gaps, self.own, self.sides = {}, set(), 0, Bounded(MOST_ELSEWHERE), Sides()
+        self.elsewhere, self.is_any = Bounded(MOST_ELSEWHERE), self.listen[0] == ANY_ADDRESS
         self.unseen = {port for _, port in (configuration.listen, *self.servers)}
         self.ports = frozenset(self.unseen)
 
@@ -64,7 +151,6 @@ class Traffic:
             self.unreachable(packet)
 
     def is_service(self, peer):
-        """Whether a peer is the forwarder."""
         return peer[1] == self.listen[1] and peer not in self.servers if self.is_any else peer == self.listen
 
     def datagram(self, moment, source, target, octets, is_cut):
@@ -74,7 +160,7 @@ class Traffic:
             return
         if self.is_service(target) and not (self.is_any and is_response(octets)):
             if self.is_any:
-                remember(self.own, source, target[0])
+                self.own[source] = target[0]
             self.sides.questions += 1
             self.clients.question(moment, source, source, octets)
         elif self.is_service(source) and (is_response(octets) or not self.is_any and target not in self.servers):
@@ -89,7 +175,7 @@ class Traffic:
                 self.sides.replies += 1
                 self.upstream.reply(moment, query, source, octets, is_cut)
         elif not is_response(octets):
-            remember(self.elsewhere, (target, source), None)
+            self.elsewhere[target, source] = None
         elif (source, target) not in self.elsewhere:
             self.unmatched(moment, source, target, octets)
 
@@ -124,11 +210,9 @@ class Traffic:
         from_client, found = connection.take(packet)
         for octets in found:
             self.message(packet.moment, connection, from_client, octets)
-        if packet.flags & (RST | FIN):
-            self.ended(packet, connection, from_client, opened)
-
-    def ended(self, packet, connection, from_client, opened):
         is_reset = bool(packet.flags & RST)
+        if not is_reset and not packet.flags & FIN:
+            return
         if connection.server in self.servers:
             if connection.query and not from_client:
                 why = "connection reset" if is_reset and opened else "port closed" if is_reset else "connection closed"
@@ -163,8 +247,7 @@ class Traffic:
             self.sides.queries += 1
             self.upstream.connect(connection, packet.moment)
         else:
-            if len(self.late) < MOST_ELSEWHERE:
-                self.late.add(found)
+            self.late |= {found} if len(self.late) < MOST_ELSEWHERE else set()
             return None
         self.connections[found] = connection
         return connection
@@ -193,10 +276,9 @@ class Traffic:
             self.upstream.reply(moment, connection.query, connection.server, octets, False)
 
     def finish(self, connection):
-        """Reads the messages after gaps, and ends the query of a connection."""
         for moment, from_client, octets in connection.finish():
             self.message(moment, connection, from_client, octets)
-        gaps = connection.gaps()
+        gaps = sum(side.gaps for side in connection.sides.values())
         self.gaps += gaps
         if connection.query and (connection.has_gap or gaps):
             self.upstream.end(connection.query, MISSING, connection.last)
@@ -216,16 +298,14 @@ class Traffic:
                         side.gaps = 0
 
     def notes(self):
-        if self.upstream.foreign:
-            foreign = counted(self.upstream.foreign, "query")
-            yield f"left out: {foreign} to servers, not of the forwarder's form: another program's"
-        if self.clients.left_out:
-            yield f"left out: {counted(self.clients.left_out, 'answer')} without a question in the capture"
-        if self.gaps:
-            yield f"{counted(self.gaps, 'gap')} in streams over TCP: messages are missing"
-        if self.late:
-            late = counted(len(self.late), "connection")
-            yield f"left out: {late} to servers that began before the capture, or of which it lost the beginning"
+        for count, noun, text in (
+            (self.upstream.foreign, "query", "left out: {} to servers, not of the forwarder's form: another program's"),
+            (self.clients.left_out, "answer", "left out: {} without a question in the capture"),
+            (self.gaps, "gap", "{} in streams over TCP: messages are missing"),
+            (len(self.late), "connection", BEGUN_BEFORE),
+        ):
+            if count:
+                yield text.format(counted(count, noun))
         if self.unseen != self.ports:
             for port in sorted(self.unseen):
                 yield f"no packet of port {port}, which the configuration names"
@@ -235,12 +315,5 @@ class Traffic:
             yield missing
 
 
-def remember(found, key, value):
-    """Puts a value into a dictionary, whose oldest value goes if there are too many."""
-    found[key] = value
-    if len(found) > MOST_ELSEWHERE:
-        del found[next(iter(found))]
-
-
 def is_response(octets):
-    return len(octets) >= HEADER and messages.is_response(octets)
+    return len(octets) >= HEADER and octets[2] >= 128

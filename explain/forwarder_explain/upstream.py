@@ -1,8 +1,6 @@
 """Queries to servers and their replies."""
-from collections import OrderedDict
-
 from . import content, messages
-from .events import Query, Reply
+from .events import Bounded, Query, Reply
 from .messages import HEADER
 from .times import CUT_WAITS, LATE_REPLY, MILLISECOND, ORDER, TICK
 from .wording import duration, shown
@@ -13,19 +11,13 @@ ANSWERED, CUT, MALFORMED, REFERRAL, LAME = "answered", "cut", "malformed", "refe
 UNTAKEN, MISSING = "replied and not taken", "not captured whole"
 REPLIED = {ANSWERED, CUT, MALFORMED, REFERRAL, LAME, UNTAKEN, *messages.CODES}
 UNREACHABLE = {  # by the codes of ICMP (RFC 792; RFC 1122, 3.2.2.1; RFC 1812, 5.2.7.1)
-    0: "network unreachable",
-    1: "host unreachable",
-    2: "no such protocol",
-    3: "port closed",
-    4: "too large for the way",
-    9: "network forbidden",
-    10: "host forbidden",
-    13: "forbidden by a packet filter",
-}
+    0: "network unreachable", 1: "host unreachable", 2: "no such protocol", 3: "port closed",
+    4: "too large for the way", 9: "network forbidden", 10: "host forbidden", 13: "forbidden by a packet filter",
+}  # fmt: skip
 
 
 class Upstream:
-    """The servers' side. `waiting` has the questions that wait for each name and type, `latest` the last query for each,
+    """The servers' side. `waiting` has the questions that wait for each name and type, `latest` the last query for it,
     `open` the queries whose time is not over, `history` the content of replies. The service last sent a packet at
     `seen`, and a query to each server at `sent`. `record` keeps all for a script, if one is wanted."""
 
@@ -33,7 +25,7 @@ class Upstream:
         self.configuration, self.history, self.waiting = configuration, history, {}
         self.clock, self.tell = clock, tell
         self.ask = configuration.limits["ask_ms"] * MILLISECOND
-        self.paths, self.latest, self.open, self.cuts = OrderedDict(), OrderedDict(), OrderedDict(), []
+        self.paths, self.latest, self.open, self.cuts = Bounded(MOST_PATHS), Bounded(MOST_PATHS), {}, []
         self.foreign, self.seen, self.record, self.sent = 0, 0, None, {}
 
     # Queries.
@@ -44,7 +36,7 @@ class Upstream:
             self.foreign += 1
         else:
             query = Query(moment, "udp", target, source, octets[:2], asked)
-        put_last(self.paths, ("udp", source), query)
+        self.paths["udp", source] = query
         if query is not None:
             self.begin(query)
 
@@ -55,15 +47,34 @@ class Upstream:
         if before is not None and waiting:
             self.follow(before, query, waiting)
         if waiting and not query.is_shared:
-            self.history.note_query(key)
-        for question in waiting:
+            self.history.asked.add(hash(key))
+        for question in list(waiting):
             question.tries.append(query)
+            self.want_alone(question, key)
         self.open[id(query)] = query
         self.seen = query.moment
         if not query.is_lacked:
             self.sent[query.server] = query.moment
-        put_last(self.latest, key, query)
+        self.latest[key] = query
         self.tell(query)
+
+    def want_alone(self, question, key):
+        """A query for a name leaves: so no alias of the name is cached, and its target is not yet wanted."""
+        place = question.wanted.index(key) + 1
+        leads = {each.reply.leads for each in question.tries if each.reply}
+        if place < len(question.wanted) and question.wanted[place][0] not in leads:
+            self.leave(question, place)
+            del question.wanted[place:]
+            question.tries = [each for each in question.tries if each.asked.same in question.wanted]
+
+    def leave(self, question, place=0):
+        """A question no longer waits for the names that it wants from a place on."""
+        for key in set(question.wanted[place:]) - set(question.wanted[:place]):
+            waiting = self.waiting.get(key)
+            if waiting and question in waiting:
+                waiting.remove(question)
+                if not waiting:
+                    del self.waiting[key]
 
     def follow(self, before, query, waiting):
         """A query follows another for the same question: the next try of an inquiry, or another program's."""
@@ -81,7 +92,6 @@ class Upstream:
             query.number = before.number + 1
 
     def asking(self, now):
-        """How many queries wait for a reply."""
         while self.open:
             key, query = next(iter(self.open.items()))
             if query.is_open(now, self.ask):
@@ -99,7 +109,6 @@ class Upstream:
     # Replies.
 
     def reply(self, moment, query, source, octets, is_cut):
-        """Takes a message on the path of a query, from any sender."""
         if is_cut and source == query.server and len(octets) >= HEADER:
             self.end(query, MISSING, moment)
             return
@@ -128,24 +137,23 @@ class Upstream:
         return False
 
     def fitting(self, moment, query, octets):
-        code = messages.code(octets)
+        how, code, found = ANSWERED, messages.code(octets), None
         if messages.is_cut(octets):
-            self.end(query, CUT, moment)
+            how = CUT
+        elif code not in (0, 3):
+            how = messages.CODES[code]
+        else:
+            try:
+                found = content.Walking(self.configuration, octets, query.asked).walk()
+            except messages.Malformed:
+                how = MALFORMED
+        if found is content.LAME:
+            how = LAME if octets[6:8] != b"\0\0" else REFERRAL
+        self.end(query, how, moment)
+        if how is CUT:
             self.cuts = [each for each in self.cuts if each.ended > moment - CUT_WAITS] + [query]
-            return
-        if code not in (0, 3):
-            self.end(query, messages.CODES[code], moment)
-            return
-        try:
-            found = content.walk(self.configuration, octets, query.asked)
-        except messages.Malformed:
-            self.end(query, MALFORMED, moment)
-            return
-        if found.lame:
-            self.end(query, LAME if octets[6:8] != b"\0\0" else REFERRAL, moment)
-            return
-        self.end(query, ANSWERED, moment)
-        self.accept(query, Reply(query, moment, found.pieces, found.leads_to and found.leads_to.lower()))
+        elif how is ANSWERED:
+            self.accept(query, Reply(query, moment, found.pieces, found.leads_to and found.leads_to.lower()))
 
     def accept(self, query, reply):
         """Takes the content of a reply, and has the questions wait for the name to which it leads."""
@@ -167,22 +175,25 @@ class Upstream:
             question.wanted.append(key)
             if again:
                 return
-            self.join(question, key, moment)
-            name = self.history.alias(name, klass, moment)
-            if name is None:
+            under_way = self.join(question, key, moment)
+            alias = self.history.alias(name, klass, moment)
+            if alias is None or under_way is not None and alias.moment() < under_way.moment:
                 return
+            name = alias.rows[0].lower()
 
     def join(self, question, key, moment):
-        """Puts a question among those that wait for a name and type; it joins a query under way."""
         self.waiting.setdefault(key, []).append(question)
         under_way = self.latest.get(key)
-        if under_way is not None and under_way.is_open(moment, self.ask):
-            question.joined |= not question.tries
-            question.tries.append(under_way)
+        if under_way is None or not under_way.is_open(moment, self.ask):
+            return None
+        question.joined |= not question.tries
+        question.tries.append(under_way)
+        return under_way
 
     def drop(self, octets, why):
         try:
-            self.history.forge(messages.records(octets), why)
+            answers, authority = messages.records(octets)
+            self.history.forge(answers + authority, why)
         except messages.Malformed:
             pass
 
@@ -251,16 +262,7 @@ class Upstream:
                 del found[key]
 
 
-def put_last(found, key, value):
-    """Puts a value at the end of a dictionary, whose first value goes if there are too many."""
-    found[key] = value
-    found.move_to_end(key)
-    if len(found) > MOST_PATHS:
-        found.popitem(last=False)
-
-
 def asked_in(octets):
-    """The question of a message in the forwarder's form, or None."""
     return messages.question_in(octets[2:]) if octets[2:12] == QUERY_FLAGS else None
 
 
@@ -274,7 +276,7 @@ def strangeness(query, source, octets):
         return "before the query"
     if octets[:2] != query.identifier:
         return "with another identifier"
-    if not messages.is_response(octets):
+    if octets[2] < 128:
         return "as a question"
     if messages.operation(octets):
         return "of another operation"
