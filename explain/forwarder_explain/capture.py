@@ -121,8 +121,7 @@ class Capture:
 
 
 def counts_losses(file):
-    """Whether a capture says that it lost packets, by its own count, perhaps at its end. The file is left at its
-    beginning."""
+    """Whether a capture counts lost packets, perhaps at its end. The file is left at its beginning."""
     if not file.seekable():
         return False
     capture = Capture(file)

@@ -62,7 +62,7 @@ class Carriers:
             return Finding(UNTAKEN, each, wording.untaken(reply))
         waited = reply.moment >= question.moment
         if not waited or stale is not None:
-            later = None if waited or stale is not None else self.own_reply(part, question)
+            later = None if waited or stale is not None else self.own_reply(part.slot(), question)
             if later is None:
                 before = question.moment if stale is None else stale
                 found = self.history.replaced_by((key, part.klass, part.kind), each, before)
@@ -72,12 +72,11 @@ class Carriers:
         return self.fit_seconds(part, each, question, waited, stale)
 
     @staticmethod
-    def own_reply(part, question):
-        """The reply to a query of a question's own for a part, from before its answer, or None."""
-        for query in question.tries if part.key == question.asked.key else ():
-            reply = query.reply
-            if reply and query.asked.key == part.key and query.moment >= question.moment and not query.is_shared:
-                if not reply.is_untaken and not reply.leads and reply.moment <= question.answered:
+    def own_reply(slot, question):
+        """The reply to a query of a question's own with data in a slot, from before its answer, or None."""
+        for reply in (query.reply for query in question.tries if query.reply and not query.is_shared):
+            if not reply.is_untaken and question.moment <= reply.moment <= question.answered:
+                if any(piece.slot() == slot for piece in reply.pieces):
                     return reply
         return None
 
@@ -127,8 +126,7 @@ class Carriers:
 
     @staticmethod
     def shift(part, each, question):
-        """How much more time must have passed than the capture says for a right lifetime, at least and at most: less
-        than none if the clock was set forward."""
+        """How much more time must have passed for a right lifetime, at least and at most."""
         since, until = each.ends()
         most = until - question.moment - part.seconds * SECOND + TICK
         return since - question.answered - (part.seconds + 1) * SECOND - TICK, most

@@ -4,7 +4,7 @@ import itertools
 
 from . import messages
 from .events import Bounded, Question
-from .messages import HEADER
+from .messages import HEADER, OPERATION
 from .times import AT_ONCE
 
 REPEATED = 0x79  # in the third octet of a question: operation and RD, which an answer repeats
@@ -62,7 +62,7 @@ class Clients:
         for question in fitting:
             trial = copy.copy(question)
             trial.answer, trial.answered, trial.elsewhere = octets, moment, sender
-            if self.tell.is_right(trial):
+            if self.tell.judge.judge(trial).kind != "different":
                 return question
         return fitting[0]
 
@@ -101,11 +101,10 @@ class Clients:
 
 
 def is_to(octets, question):
-    """Whether an answer repeats the operation and RD of a question, and the question, or none if it is not served
-    (forwarder(8))."""
+    """Whether an answer repeats operation, RD and question, or has none if it is not served (forwarder(8))."""
     if len(octets) < HEADER or (octets[2] ^ question.octets[2]) & REPEATED:
         return False
-    if question.asked is None or messages.operation(question.octets):
+    if question.asked is None or question.octets[2] & OPERATION:
         return octets[4:6] == b"\0\0"
     written = question.asked.written
     return octets[4:6] == b"\0\1" and octets[HEADER : HEADER + len(written)] == written

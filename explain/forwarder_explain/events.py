@@ -24,9 +24,8 @@ class Question:
     this time. `over` is the reason for a missing answer, with its moment; `elsewhere` is the address that answered, if
     another was asked. `told`: the line is due."""
 
-    __slots__ = (
-        "moment client peer octets asked answer answered tries wanted joined others over verdict told elsewhere"
-    ).split()
+    __slots__ = "moment client peer octets asked answer answered tries wanted joined others over verdict".split()
+    __slots__ += ["told", "elsewhere"]
 
     def __init__(self, moment, client, peer, octets, asked):
         self.moment, self.client, self.peer, self.octets, self.asked = moment, client, peer, octets, asked
@@ -45,10 +44,8 @@ class Query:
     it. `is_shared`: another program may have asked the same at that time. `is_lacked`: the capture has only ICMP's news
     of it."""
 
-    __slots__ = (
-        "moment transport server source identifier asked number how ended reply unfit late is_wanted is_shared "
-        "is_lacked"
-    ).split()
+    __slots__ = "moment transport server source identifier asked number how ended reply unfit late".split()
+    __slots__ += ["is_wanted", "is_shared", "is_lacked"]
 
     def __init__(self, moment, transport, server, source, identifier=None, asked=None):
         self.moment, self.transport, self.server, self.source = moment, transport, server, source

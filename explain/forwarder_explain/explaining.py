@@ -83,8 +83,10 @@ class Explaining:
                 self.wait(question, asked)
         until = question.moment + self.history.configuration.limits["deadline_ms"] * MILLISECOND + UNANSWERED
         self.due.append([until, question, PACKETS_LATER])
-        if len(self.pending) > MOST_PENDING:
-            self.give_up_oldest()
+        if len(self.pending) > MOST_PENDING:  # the oldest keeps too many others from having their lines
+            oldest = self.pending[0]
+            self.held = deque(each for each in self.held if each[1] is not oldest)
+            (self.without_answer if oldest.verdict is None else self.close)(oldest)
 
     def wait(self, question, asked):
         others = self.upstream.waiting.get(asked.same)
@@ -102,9 +104,6 @@ class Explaining:
             self.history.ask((key, klass, kind), query.moment)
         if self.upstream.record and not query.is_lacked:
             self.upstream.record.query(query)
-
-    def is_right(self, question):
-        return self.judge.judge(question).kind != judge.DIFFERENT
 
     def answered(self, question):
         self.upstream.leave(question)
@@ -204,7 +203,7 @@ class Explaining:
     def judge_again(self):
         waiting, self.held = self.held, deque()
         for until, question in waiting:
-            if question.verdict.why != judge.NOT_TAKEN:
+            if question.verdict.why not in (judge.NOT_TAKEN, judge.UNEQUAL):
                 question.verdict = self.judge.judge(question)
             if is_doubtful(question.verdict):
                 self.held.append((until, question))
@@ -238,8 +237,7 @@ class Explaining:
     # What is known.
 
     def pass_time(self, now, is_quiet=False):
-        """Settles questions that have waited for long enough. The clock may just have been set, so some packets have to
-        come before a question has no answer."""
+        """Settles questions that have waited long, and for some packets: the clock may just have been set."""
         while self.due and self.due[0][0] < now:
             _, question, left = self.due[0]
             is_open = not question.told and question.verdict is None
@@ -251,11 +249,6 @@ class Explaining:
                 self.without_answer(question)
         while self.held and self.held[0][0] < now:
             self.close(self.held.popleft()[1])
-
-    def give_up_oldest(self):
-        oldest = self.pending[0]
-        self.held = deque(each for each in self.held if each[1] is not oldest)
-        (self.without_answer if oldest.verdict is None else self.close)(oldest)
 
     def without_answer(self, question):
         self.upstream.leave(question)

@@ -21,8 +21,7 @@ def opened(path, buffering=-1):
 
 
 def captures_in(path, until):
-    """The names of the captures of a path, by their first packets; of a folder only those that begin before a moment,
-    if any is given."""
+    """The names of the captures of a path, by their first packets; of a folder those that begin before a moment."""
     if path == "-" or not os.path.isdir(path):
         return [path]
     found = []

@@ -17,13 +17,12 @@ class Stopped(Exception):
     """A signal asks for the end of the run."""
 
 
-class Ended(BaseException):
-    """A second signal asks for the end at once. Nothing else may catch this."""
+class Ended(BaseException):  # which nothing else may catch
+    """A second signal asks for the end at once."""
 
 
 class Behind:
-    """Reports how far a run is behind the capture: by how much more time has passed than at any moment before by the
-    times of the packets."""
+    """Reports the delay of a run: by how much more time has passed than at best, by the times of the packets."""
 
     def __init__(self, note):
         self.note, self.least, self.said = note, float("inf"), 0
@@ -132,8 +131,7 @@ def now():
 
 
 def follow(options, settings, note):
-    """Follows a capture until its end, SIGINT or SIGTERM; gives whether an answer is different. A second signal ends
-    the run at once."""
+    """Follows a capture until its end or a signal; gives whether an answer is different."""
     if hasattr(sys.stdout, "reconfigure"):
         sys.stdout.reconfigure(line_buffering=True)
     follower = Follower(options, settings, note)
@@ -163,8 +161,7 @@ def read(options, follower):
 
 
 def files_of(options, follower):
-    """The captures, each as a file that grows. Of files only questions from now on are shown, unless the options give a
-    time."""
+    """The captures, each as a file that grows. Of files only questions from now on are shown, or from a time."""
     if options.capture == "-":
         return [Pipe(opened("-"), follower)]
     ring = Ring(options.capture, follower, follower.note)

@@ -5,17 +5,14 @@ from collections import OrderedDict
 
 from .content import NAME_ERROR, SET
 from .messages import CNAME, parents
-from .times import DAY, DOUBT, EXPIRED, ORDER, REMEMBERED, SECOND
+from .times import DOUBT, EXPIRED, ORDER, REMEMBERED, SECOND
 
-LONGEST = {True: 7 * DAY, False: DAY // 8}  # the longest lifetimes, of sets and of denials
-MOST_FORGED = 100_000  # records of dropped messages
 SHOWN = 9  # the rank of a record that refutes a denied name, in the slot of the denial
 MOST_OF_SLOT, MOST_KEPT = 4, 64  # occurrences in a slot before some are dropped, and afterwards
 
 
 class Occurrence:
-    """A piece in a reply. Data from before the capture have no reply: an answer says that they end between `since` and
-    `until`."""
+    """A piece in a reply, or data from before the capture, which end between `since` and `until`."""
 
     __slots__ = ("rows", "form", "life", "rank", "reply", "since", "until", "is_sure", "touched")
 
@@ -102,11 +99,6 @@ class History:
         self.slots.setdefault(piece.slot(), []).insert(0, occurrence)
         return occurrence
 
-    def forge(self, records, why):
-        for each in records:
-            if len(self.forged) < MOST_FORGED:
-                self.forged.setdefault((each.key, each.kind, each.data), why)
-
     # What is known of a moment.
 
     def at(self, slot):
@@ -137,9 +129,6 @@ class History:
                     return each
         return None
 
-    def is_evicted(self, occurrence):
-        return self.touches - occurrence.touched >= self.configuration.limits["cache"]
-
     def restart_between(self, carried, used):
         """The last restart between a reply and an answer, or None."""
         if not self.restarts and not self.told:
@@ -168,14 +157,11 @@ class History:
             return False
         if reply.taken is None or reply.taken >= moment:
             return False
-        if each.ends()[0] <= moment + DOUBT or self.is_evicted(each):
+        is_evicted = self.touches - each.touched >= self.configuration.limits["cache"]
+        if is_evicted or each.ends()[0] <= moment + DOUBT:
             return False
         better = (other for other in self.at(slot) if other.rank > each.rank)  # which is not replaced while it lives
         return not any(other.moment() < reply.moment < other.ends()[1] + DOUBT for other in better)
-
-    def may_be_older(self, form, seconds, moment):
-        """Whether the lifetime in an answer allows for data from before the capture."""
-        return seconds * SECOND + moment - self.begins <= LONGEST[form == SET]
 
 
 def replaces(later, earlier):

@@ -5,20 +5,20 @@ from . import carriers, content, messages, wording
 from .carriers import STALE_SECONDS, Carriers, Finding
 from .content import MOST_ALIASES, NAME_ERROR, NO_DATA, SET, Piece
 from .events import Bounded
-from .messages import CNAME, HEADER, SOA
+from .messages import CNAME, HEADER, OPERATION, SOA
 from .times import DOUBT, MILLISECOND, ORDER, SAME_MOMENT, SECOND, TICK
 
 RIGHT, DIFFERENT, OPEN = "right", "different", "open"
 NOERROR, FORMERR, SERVFAIL, NXDOMAIN, NOTIMP, REFUSED = range(6)
 MOST_OF_A_DATAGRAM, LARGE = 512, 400  # octets of a message, and of a set that makes one too large
-LARGE_REPLY = 50_000  # octets of a reply that may be too large for an answer over TCP
-MOST_LATEST = 10_000  # questions whose last answer is remembered
+LARGE_REPLY = 50_000  # octets: it may be too large for an answer over TCP
 BEFORE = "from before the capture began"
 LOSSY = "packets are missing, by the capture's own count"
 IN_PART = "the capture lacks a part of a reply"
 NO_PORT = "no packet of its servers' port is in the capture"
 NOT_SEEN = "not all of its tries are in the capture"
 NOT_TAKEN = "a reply came in time, and was not taken"
+UNEQUAL = "an equal question got another answer at one moment"
 
 
 class Verdict(NamedTuple):
@@ -57,8 +57,8 @@ class Failures:
             return Verdict(RIGHT, reason=10)
         if accepted:
             return self.with_reply(question, accepted)
-        if waited < ORDER and (full := self.full(question)):
-            return full
+        if waited < ORDER and (reason := self.full(question)):
+            return Verdict(RIGHT, reason=reason)
         kind, why = self.tries_failed(question)
         if kind != DIFFERENT:
             return Verdict(kind, why, 8)
@@ -121,8 +121,7 @@ class Failures:
         return DIFFERENT, "no try failed"
 
     def has_time_passed(self, question):
-        """Whether the time of the last try may be over: by the service's clock it begins as the try before ends, and a
-        slow service sends it later."""
+        """Whether the time of the last try may be over, by the service's clock: it begins as the try before ends."""
         tries, began = self.tries_of(question), question.moment
         if question.joined:
             began = min(began, question.tries[0].moment)
@@ -132,8 +131,7 @@ class Failures:
         return question.answered - began >= self.ask - TICK
 
     def were_asked(self, question):
-        """Whether queries for other names left to all servers of a name's route while a question waited: its own would
-        have left, too."""
+        """Whether all servers of a name's route were asked for other names while a question waited."""
         route = self.route_of(question.wanted[-1][0]) if question.wanted else None
         return bool(route and route.servers) and all(
             self.upstream.sent.get(server, 0) >= question.moment - self.ask for server in route.servers
@@ -147,10 +145,9 @@ class Failures:
 
     def full(self, question):
         if self.clients.count >= self.limits["questions"]:
-            return Verdict(RIGHT, reason=5)
-        if not question.tries and self.upstream.asking(question.answered) >= self.limits["inquiries"]:
-            return Verdict(RIGHT, reason=6)
-        return None
+            return 5
+        is_full = not question.tries and self.upstream.asking(question.answered) >= self.limits["inquiries"]
+        return 6 if is_full else None
 
 
 def aliases_in(reply):
@@ -158,13 +155,12 @@ def aliases_in(reply):
 
 
 class Judge:
-    """Judges answers by a history, and failures by `failures`. No packet came from the `unseen` ports; `sides` has the
-    sides of the traffic in the capture."""
+    """Judges answers by a history. No packet came from `unseen` ports; `sides` are those in the capture."""
 
     def __init__(self, configuration, history, clock, failures):
         self.configuration, self.history, self.failures = configuration, history, failures
         self.carriers = Carriers(history, clock)
-        self.clock, self.latest, self.unseen, self.sides = clock, Bounded(MOST_LATEST), set(), None
+        self.clock, self.latest, self.unseen, self.sides = clock, Bounded(10_000), set(), None
 
     def judge(self, question):
         try:
@@ -176,7 +172,7 @@ class Judge:
         """The verdict if the question alone decides; otherwise by the content."""
         asked = question.asked
         self.expect_header(question, octets)
-        code, counts, operation = octets[3] & 15, octets[4:12], messages.operation(question.octets)
+        code, counts, operation = octets[3] & 15, octets[4:12], question.octets[2] & OPERATION
         if asked is None or operation:
             wanted, reason = (NOTIMP, 2) if operation else (FORMERR, 1)
             if (code, counts) != (wanted, bytes(8)):
@@ -326,37 +322,25 @@ class Judge:
             return False
         if stale is not None and part.seconds == STALE_SECONDS:
             return not history.at(slot)
-        if self.is_of_own_reply(slot, question) or hash((part.key, question.asked.kind, part.klass)) in history.asked:
+        asked = part.key, question.asked.kind, part.klass
+        if self.carriers.own_reply(slot, question) or hash(asked) in history.asked:
             return False
         older = [each for each in history.at(slot) if each.reply is None]
         if any(each.since > question.moment for each in older):
             return False  # an earlier answer had other data from before the capture
         if not self.sides.queries or not self.sides.replies:
             return True
-        if older or not history.may_be_older(part.form, part.seconds, question.answered):
+        whole = part.seconds * SECOND + question.answered - history.begins
+        if older or whole > (content.LONGEST if part.form == SET else content.LONGEST_DENIAL) * SECOND:
             return False
         if not part.rows:  # such a denial is not cached
             return question.asked.same in history.orphans
         if part.form != SET and any(True for _ in history.denials(part.key, part.klass)):
             return False
+        fit = self.carriers.fit_seconds  # the lifetime of other data is a sign of changed data
         return not any(
-            each.is_sure and each.form == SET and (each.rank == 3 or self.has_lifetime_of(each, part, question))
+            each.is_sure and each.form == SET and (each.rank == 3 or fit(part, each, question, False, None).rank == 0)
             for each in history.at(slot)
-        )
-
-    def has_lifetime_of(self, each, part, question):
-        """Whether a part has the lifetime of an occurrence with other data, as a changed answer has."""
-        return bool(each.reply) and self.carriers.fit_seconds(part, each, question, False, None).rank == carriers.RIGHT
-
-    @staticmethod
-    def is_of_own_reply(slot, question):
-        """Whether a reply to a question's own query has other data in a slot: its content is the answer."""
-        return any(
-            piece.slot() == slot
-            for query in question.tries
-            if query.reply and not query.is_shared and not query.reply.is_untaken
-            for piece in query.reply.pieces
-            if question.moment <= query.reply.moment <= question.answered
         )
 
     def wrong(self, question, parts, found):
@@ -384,7 +368,8 @@ class Judge:
 
     def stale(self, question, parts):
         """The verdict on expired data, which are answered after all tries failed; None if they are not expired."""
-        if not self.history.stale or parts[-1].form != SET:
+        has_expired = any(part.seconds == STALE_SECONDS for part in parts)
+        if not self.history.stale or parts[-1].form != SET or not has_expired:
             return None
         found = self.expired(question, parts, question.answered)
         if found is None and self.failures.may_be_untaken(question):
@@ -416,9 +401,10 @@ class Judge:
         if any(each.reply is None or each.reply.moment >= question.moment for each in used):
             self.latest.pop(key, None)
             return
-        last, self.latest[key] = self.latest.get(key), (question.answered, rows)
-        if last and question.answered - last[0] < SAME_MOMENT and last[1] != rows:
-            raise Different("an equal question got another answer at one moment")
+        known = max((each.reply.latest() for each in used), default=0) + ORDER  # surely by then
+        last, self.latest[key] = self.latest.get(key), (question.answered, rows, known)
+        if last and question.answered - last[0] < SAME_MOMENT and last[1] != rows and max(known, last[2]) < last[0]:
+            raise Different(UNEQUAL)
 
     # Answers that are cut.
 
@@ -449,7 +435,8 @@ class Judge:
         is_known = last or len(used) > MOST_ALIASES or hash((key, kind, klass)) in self.history.asked
         if missing or not is_known:
             return Verdict(OPEN, missing or BEFORE, 0)
-        raise Different("it is cut, and no reply carried so much")
+        is_small = not last or size <= MOST_OF_A_DATAGRAM
+        raise Different(f"it is cut, and {'no reply carried so much' if is_small else 'has not the code of its data'}")
 
     def largest(self, question, slot):
         """The latest large occurrence that may be in an answer, or the latest one."""

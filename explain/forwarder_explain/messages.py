@@ -24,7 +24,7 @@ TYPES = {int(number): name for number, name in (pair.split(" ") for pair in KIND
 CODES = "NOERROR FORMERR SERVFAIL NXDOMAIN NOTIMP REFUSED YXDOMAIN YXRRSET NXRRSET NOTAUTH NOTZONE".split(" ")
 CODES += (f"code {number}" for number in range(11, 16))
 NS, CNAME, SOA = 2, 5, 6
-HEADER = 12  # octets
+HEADER, OPERATION = 12, 0x78  # octets; the bits of the operation in the third octet
 COUNTS, HEAD = struct.Struct(">4H").unpack_from, struct.Struct(">2HIH").unpack_from
 # Of a name, each octet as RFC 1035 5.1 has it.
 LETTERS = [f"\\{chr(octet)}" if 33 <= octet < 127 else f"\\{octet:03}" for octet in range(256)]
@@ -63,10 +63,6 @@ class Record(NamedTuple):
 
 def is_cut(octets):
     return len(octets) >= HEADER and bool(octets[2] & 2)
-
-
-def operation(octets):
-    return octets[2] >> 3 & 15
 
 
 def code(octets):

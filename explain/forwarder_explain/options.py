@@ -10,10 +10,7 @@ from .times import MINUTE, SECOND
 from .wording import address_text, shown
 
 FORMS = ("%H:%M:%S.%f", "%H:%M:%S", "%H:%M")  # of times; a date may come before
-ABOUT = (
-    "Explain what the DNS forwarder did, from a capture of its traffic: say what became of each question, and judge "
-    "each answer by what the forwarder claims."
-)
+ABOUT = "Say what became of each question to the DNS forwarder in a capture, and judge each answer by the claim."
 STATUS = "Status: 0 if no answer is different, 1 if one is, 2 if something can't be read. See forwarder-explain(1)."
 ARGUMENTS = (  # name with any other goal, value, help
     ("configuration", "CONFIG", "the configuration that the forwarder had"),
@@ -94,9 +91,6 @@ def chooser(options, first):
     suffix = messages.from_text(options.name) if options.name else None
     if options.name and suffix is None:
         raise Unreadable("is no name", options.name)
-
-    if (since, until, options.client, suffix) == (None,) * 4:
-        return lambda question: True
 
     def is_chosen(question):
         if since is not None and question.moment < since or until is not None and question.moment >= until:

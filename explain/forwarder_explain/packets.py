@@ -120,7 +120,7 @@ class Decoder:
 
     def is_double(self, moment, link, octets):
         """Whether the packet was just seen on another interface (`tcpdump -i any`), or on a bridge."""
-        key = hash((octets[:8], octets[9], octets[12:]))  # without the fields that routers change
+        key = hash((octets[:8], octets[9:10], octets[12:]))  # without the fields that routers change
         last, self.seen[key] = self.seen.get(key, 0), moment
         if len(self.seen) > MOST_SEEN:
             self.seen = {key: when for key, when in self.seen.items() if moment - when <= SAME_PACKET}
@@ -163,8 +163,7 @@ class Decoder:
 
 
 def plain_datagram(link, octets):
-    """The IP packet of a whole UDP datagram that is no fragment, as most packets are; else None. dpkt takes ten times
-    as long."""
+    """The IP packet of a whole UDP datagram that is no fragment, ten times as fast as by dpkt; else None."""
     if link not in PLAIN_LINKS:
         return None
     kind, at = PLAIN_LINKS[link]

@@ -26,11 +26,9 @@ border-left:.5em solid #ddd}li pre{margin:0;white-space:pre-wrap}.chosen{display
 .key{display:inline-block;width:.8em;height:.8em;margin-right:.4em}.note{color:#666}"""
 CLASS, TEXTS = ' class="text"', ("name", "type", "reason", "how")  # of columns
 POLICY = "default-src 'none'; style-src 'unsafe-inline'"
-HEAD = (
-    '<!DOCTYPE html>\n<html lang="en"><head><meta charset="utf-8">\n'
-    f'<meta http-equiv="Content-Security-Policy" content="{POLICY}">\n'
-    '<meta name="viewport" content="width=device-width">'
-)
+HEAD = f'''<!DOCTYPE html>
+<html lang="en"><head><meta charset="utf-8"><meta http-equiv="Content-Security-Policy" content="{POLICY}">
+<meta name="viewport" content="width=device-width">'''
 WIDTH, HEIGHT, LEFT, MOST_LABELS = 900, 180, 50, 6  # of the bars over time
 MOST_LINES, MOST_OF_BAR = 100, 20  # lines of a number, and of a part of a bar
 MOST_BARS = 75

@@ -32,8 +32,10 @@ WITHOUT_ANSWER = {
     DROPPED: DROPPED,
     ENDED: "no answer: the service ended first",
     GONE: "no answer: the connection ended first",
+    REFUSED: "refused: nothing listened",
     None: "no answer was captured",
 }
+FILTERED = "refused: by a packet filter, since the service went on"
 
 
 class Teller:
@@ -62,10 +64,8 @@ class Teller:
 
     def outcome(self, question):
         over, moment = question.over or (None, None)
-        if over is not REFUSED:
-            return WITHOUT_ANSWER[over]
-        has_ended = any(each.since <= moment <= each.until for each in self.history.restarts)
-        return "refused: nothing listened" if has_ended else "refused: by a packet filter, since the service went on"
+        has_ended = any(each.since <= moment <= each.until for each in self.history.restarts if moment)
+        return WITHOUT_ANSWER[over] if over is not REFUSED or has_ended else FILTERED
 
     def by_reason(self, question, verdict):
         reason, limits = verdict.reason, self.limits
@@ -152,16 +152,13 @@ class Teller:
             return "unfit", f"no reply that fits; {unfit_text(unfit)}"
         if any(query.moment < each.since <= (until or each.since) for each in self.history.restarts):
             return "ended", "given up when the service ended"
-        if until is None:
-            return "open", "no reply"
-        lasted = until - query.moment
+        lasted, text = (until or query.moment) - query.moment, duration((until or query.moment) - query.moment)
         if lasted >= self.ask - TICK:
-            return "silent", f"silent for {duration(lasted)} ms"
+            return "silent", f"silent for {text} ms"
         if later:
-            return "unseen", f"given up after {duration(lasted)} ms, or another program's"
-        if question.verdict.reason == 9:
-            return "deadline", f"silent for {duration(lasted)} ms, up to the deadline"
-        return "open", "no reply"
+            return "unseen", f"given up after {text} ms, or another program's"
+        is_deadline = until is not None and question.verdict.reason == 9
+        return ("deadline", f"silent for {text} ms, up to the deadline") if is_deadline else ("open", "no reply")
 
 
 def with_later(question):

@@ -9,8 +9,7 @@ from .times import SECOND
 
 
 class Run:
-    """The output of a run. `note` takes remarks for standard error, `span` has the moments of the first and the last
-    question."""
+    """The output of a run. `note` takes remarks, `span` has the moments of the first and the last question."""
 
     def __init__(self, options, settings, begins, is_lossy, note, is_live=False):
         self.options, self.settings, self.note, self.tally = options, settings, note, Tally()
@@ -68,4 +67,4 @@ class Run:
             print(written(summary.object()))
         else:
             print("\n".join([*(summary.tables() if self.options.summary else ()), *summary.verdict()]))
-        return self.tally.differs()
+        return self.tally.all["different"] > 0

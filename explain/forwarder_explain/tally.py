@@ -13,7 +13,7 @@ REASONS = (
 )  # fmt: skip
 MOST_SHOWN, MOST_CLIENTS, MOST_SLOW = 10, 20, 5  # of queries that no question wants, of clients, of slow questions
 MOST_COUNTED = 10_000  # clients with counts of their own, and ways in which queries to a server failed
-OTHERS = "others"
+OTHERS, NUMBER = "others", lambda each: -each[1].number  # the latter is the order of groups
 FINE, FINEST = 9_950, 100  # microseconds: shorter times are shown, and so counted, by the finest unit
 
 
@@ -110,22 +110,15 @@ class Tally:
 
     def by_server(self):
         total = sum(group.number for group in self.servers.values())
-        for server, group in most(self.servers):
+        for server, group in sorted(self.servers.items(), key=NUMBER):
             share = f"{100 * group.number / total:.0f} %"
             how = ", ".join(f"{count} {word}" for word, count in group.how.most_common()) or "-"
             yield server, (f"{group.number:,}", share, *group.times.spread(), f"{group.failed:,}", how)
 
     def by_client(self):
-        for client, group in most(self.clients)[:MOST_CLIENTS]:
+        for client, group in sorted(self.clients.items(), key=NUMBER)[:MOST_CLIENTS]:
             cached = f"{100 * group.cached / group.number:.0f} %"
             yield client, (f"{group.number:,}", cached, f"{group.failed:,}", group.times.spread()[0])
-
-    def differs(self):
-        return self.all[judge.DIFFERENT] > 0
-
-
-def most(groups):
-    return sorted(groups.items(), key=lambda each: -each[1].number)
 
 
 def reason_of(row):

@@ -176,17 +176,13 @@ class Traffic:
                 self.upstream.reply(moment, query, source, octets, is_cut)
         elif not is_response(octets):
             self.elsewhere[target, source] = None
-        elif (source, target) not in self.elsewhere:
-            self.unmatched(moment, source, target, octets)
-
-    def unmatched(self, moment, source, target, octets):
-        """Takes a response that is to no query in the capture."""
-        self.sides.replies += source in self.servers
-        if source in self.servers and moment < self.history.begins + self.upstream.ask:
-            asked = messages.question_of(octets)
-            self.history.orphans.add(asked and asked.same)
-        else:
-            self.upstream.drop(octets, f"it came from {shown(source)} to {shown(target)}, where nothing was asked")
+        elif (source, target) not in self.elsewhere:  # it is to no query in the capture
+            self.sides.replies += source in self.servers
+            if source in self.servers and moment < self.history.begins + self.upstream.ask:
+                asked = messages.question_of(octets)
+                self.history.orphans.add(asked and asked.same)
+            else:
+                self.upstream.drop(octets, f"it came from {shown(source)} to {shown(target)}, where nothing was asked")
 
     def unreachable(self, packet):
         """Takes ICMP's news of a query, or of a question if the service's own machine sends it."""

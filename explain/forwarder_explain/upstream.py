@@ -1,12 +1,12 @@
 """Queries to servers and their replies."""
 from . import content, messages
 from .events import Bounded, Query, Reply
-from .messages import HEADER
+from .messages import HEADER, OPERATION
 from .times import CUT_WAITS, LATE_REPLY, MILLISECOND, ORDER, TICK
 from .wording import duration, shown
 
 QUERY_FLAGS = b"\x01\0\0\1\0\0\0\0\0\0"  # RD, and one question, as the forwarder asks
-MOST_PATHS = 20_000
+MOST_PATHS, MOST_FORGED = 20_000, 100_000  # ways of queries, and records of dropped messages, that are remembered
 ANSWERED, CUT, MALFORMED, REFERRAL, LAME = "answered", "cut", "malformed", "referral", "lame"
 UNTAKEN, MISSING = "replied and not taken", "not captured whole"
 REPLIED = {ANSWERED, CUT, MALFORMED, REFERRAL, LAME, UNTAKEN, *messages.CODES}
@@ -192,8 +192,9 @@ class Upstream:
 
     def drop(self, octets, why):
         try:
-            answers, authority = messages.records(octets)
-            self.history.forge(answers + authority, why)
+            for each in sum(messages.records(octets), []):
+                if len(self.history.forged) < MOST_FORGED:
+                    self.history.forged.setdefault((each.key, each.kind, each.data), why)
         except messages.Malformed:
             pass
 
@@ -278,7 +279,7 @@ def strangeness(query, source, octets):
         return "with another identifier"
     if octets[2] < 128:
         return "as a question"
-    if messages.operation(octets):
+    if octets[2] & OPERATION:
         return "of another operation"
     written = query.asked.written
     if octets[4:6] == b"\0\1" and octets[HEADER : HEADER + len(written)] == written:

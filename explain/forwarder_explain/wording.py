@@ -74,9 +74,6 @@ def data_text(kind, data):
     return data.hex() if len(data) <= 24 else f"{data[:24].hex()}.. ({len(data)} octets)"
 
 
-# Why an answer is different.
-
-
 def of(reply):
     return f"the reply of {server_text(reply.query)} at {clock(reply.moment)}"
 

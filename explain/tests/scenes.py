@@ -1,6 +1,7 @@
 """The captures of the tests, as senders, messages and milliseconds. Answers are worked out from the rules, by hand."""
 import sys
 
+import chains
 import filtered
 import hostile
 import losses
@@ -284,5 +285,5 @@ def gaps():
     return capture[:-10]
 
 
-MODULES = (sys.modules[__name__], restarts, outages, stops, hostile, losses, lossy, orders, off, filtered, shown)
-ALL = [scene for module in MODULES for scene in functions_of(module)]
+OTHERS = chains, restarts, outages, stops, hostile, losses, lossy, orders, off, filtered, shown
+ALL = [scene for module in (sys.modules[__name__], *OTHERS) for scene in functions_of(module)]

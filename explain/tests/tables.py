@@ -69,7 +69,8 @@ def question_with(octets, tries, verdict, answered):
 
 def tries(*servers):
     """Queries to servers, one a second."""
-    found = [Query(1_000_000 * place, "udp", peer(server), peer("10.0.0.53:5001")) for place, server in enumerate(servers)]
+    port = peer("10.0.0.53:5001")
+    found = [Query(1_000_000 * place, "udp", peer(server), port) for place, server in enumerate(servers)]
     for each in found:
         each.asked = question_of(WWW)
     return found
