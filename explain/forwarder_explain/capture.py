@@ -1,7 +1,7 @@
 """Captures as tcpdump and Wireshark write them: classic pcap, and pcapng."""
 import struct
 
-from .times import LATEST
+from .times import LATEST, SECOND
 from .wording import counted
 
 MOST_OCTETS = 1 << 18  # of a packet, by any system's limits
@@ -60,7 +60,7 @@ class Capture:
             if len(octets) < kept:
                 break
             self.at += 16 + kept
-            yield whole * 1_000_000 + part * unit // 1000, link, octets, kept < size
+            yield whole * SECOND + part * unit // 1000, link, octets, kept < size
         if head:
             self.note("the capture ends within a packet; what is before it was read")
 
@@ -107,7 +107,7 @@ class Capture:
             if kind == OLD_PACKET:
                 number = struct.unpack_from(order + "H", body)[0]
             link, (units, per), offset = interfaces[number]
-            moment = (high << 32 | low) * units // per + struct.unpack(order + "q", offset)[0] * 1_000_000
+            moment = (high << 32 | low) * units // per + struct.unpack(order + "q", offset)[0] * SECOND
             if 0 <= moment < LATEST:
                 return moment, link, body[20 : 20 + kept], kept < size
             self.note("packets with a time that can't be are left out")
@@ -146,5 +146,5 @@ def resolution(option):
     """The factor and the divisor from an interface's units of time to microseconds."""
     exponent = option[0] & 0x7F
     if option[0] & 0x80:
-        return 1_000_000, 1 << exponent
+        return SECOND, 1 << exponent
     return (10 ** (6 - exponent), 1) if exponent <= 6 else (1, 10 ** (exponent - 6))

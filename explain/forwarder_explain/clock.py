@@ -41,15 +41,16 @@ class InOrder:
 
 
 class Clock:
-    """The known steps of the capture's clock. `ask` is how long a query waits. At the moment of a step later times are
-    moved `by` some, and between `least` and `most` more time has passed than they say; `at` is the first packet's time.
+    """The known steps of the capture's clock. `ask` is how long a query waits. Later packets are `moved`. At the
+    moment of a step later times are moved `by` some, and between `least` and `most` more time has passed than they say;
+    `at` is the first packet's time.
 
     Wrong lifetimes are suspects, with common `bounds`: a step makes all lifetimes wrong by an equal time. `gaps` are
     times without a packet, in which a step forward may hide; `hints` are those in which a late reply was accepted;
     `sure` is the last moment of a right lifetime."""
 
     def __init__(self, ask):
-        self.ask, self.steps, self.notes = ask, [], []
+        self.ask, self.steps, self.notes, self.moved = ask, [], [], 0
         self.suspects, self.bounds, self.gaps, self.last, self.sure = [], None, deque(maxlen=MOST_GAPS), None, 0
         self.hints = []
 
@@ -66,9 +67,9 @@ class Clock:
         crossed = self.crossed(since, until)
         return sum(each.least for each in crossed), sum(each.most for each in crossed)
 
-    def loosen(self, moved, moment, by, at):
+    def loosen(self, moment, by, at):
         """The order of packets shows a step back at a moment: how long no packet came there is unknown."""
-        self.put(moment + moved, -LONGEST_STEP, LONGEST_STEP, by, at)
+        self.put(moment + self.moved, -LONGEST_STEP, LONGEST_STEP, by, at)
 
     def pass_on(self, moment):
         if self.last is not None and moment - self.last >= LEAST_STEP:

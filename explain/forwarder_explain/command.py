@@ -59,7 +59,7 @@ def run(options, settings, files):
             found = Run(options, settings, packet.moment, packets.is_lossy, say)
             take = found.explaining.take
         if steps:
-            found.explaining.clock.loosen(found.explaining.moved, *steps.pop(0))
+            found.explaining.clock.loosen(*steps.pop(0))
         take(packet)
     for text in packets.notes():
         say(text)

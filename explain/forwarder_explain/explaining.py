@@ -30,7 +30,7 @@ class Explaining:
         self.judge = Judge(configuration, self.history, self.clock, failures)
         self.judge.unseen, self.judge.sides = self.traffic.unseen, self.traffic.sides
         self.due, self.held, self.sent = deque(), deque(), deque()
-        self.now, self.forgotten, self.moved = begins, begins, 0
+        self.now = self.forgotten = begins
         self.count_query = self.current = None
 
     def close(self, question):
@@ -50,8 +50,8 @@ class Explaining:
 
     def take(self, packet):
         moment = packet.moment
-        if self.moved:
-            moment += self.moved
+        if self.clock.moved:
+            moment += self.clock.moved
             packet = packet._replace(moment=moment)
         if moment > self.now:
             self.clock.pass_on(moment)
@@ -174,7 +174,7 @@ class Explaining:
 
     def move(self, since, by):
         """Moves all times from a moment on, as the clock was set there, and judges the held questions again."""
-        self.moved += by
+        self.clock.moved += by
         self.now += by
         self.forgotten = self.now
         for each, names in self.timed():

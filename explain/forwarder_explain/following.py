@@ -74,7 +74,7 @@ class Follower:
                 self.run = Run(self.options, self.settings, packet.moment, False, self.note, True)
             explaining = self.run.explaining
             if self.order.steps:
-                explaining.clock.loosen(explaining.moved, *self.order.steps.pop(0))
+                explaining.clock.loosen(*self.order.steps.pop(0))
             explaining.take(packet)
             if explaining.clock.notes:
                 self.note(explaining.clock.notes.pop(0))

@@ -105,7 +105,7 @@ def read_question(octets):
         kind, klass = struct.unpack_from(">2H", octets, at)
     except (Malformed, struct.error):
         return None
-    key = name.lower()
+    key = name if name.islower() else name.lower()  # mostly one object: there are many
     return Question(name, key, kind, klass, (key, kind, klass), name + octets[at : at + 4])
 
 

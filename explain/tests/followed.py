@@ -18,6 +18,7 @@ from types import SimpleNamespace
 import many
 from forwarder_explain import command, configuration, files, following, times
 from forwarder_explain.capture import Capture
+from leaving_out import packets_of
 from making import START, asked
 from office import FIRST, ONE, OTHER, SECOND, Scene
 from repository.packing import address
@@ -113,16 +114,6 @@ def through_a_pipe(program):
         errors = stored(name, "errors").replace(f"{name}.pcap", "-")
         met = sorted(printed), sorted(said.splitlines()), status
         yield name, met, (sorted(wanted), sorted(errors.splitlines()), int("DIFFERENT" in "".join(wanted)))
-
-
-def packets_of(octets):
-    """A classic capture's header, and its packets with the heads of each."""
-    packets, at = [], 24
-    while at < len(octets):
-        size = 16 + int.from_bytes(octets[at + 8 : at + 12], "little")
-        packets.append(octets[at : at + size])
-        at += size
-    return octets[:24], packets
 
 
 def in_a_folder(program):
