@@ -1,125 +1,99 @@
 """Captures as tcpdump and Wireshark write them: classic pcap, and pcapng."""
 import struct
 
-from .times import LATEST
+from .times import LATEST, SECOND
 from .wording import counted
 
-MOST_OCTETS = 1 << 18  # of one packet, by any system's limits
+MOST_OCTETS = 1 << 18  # of a packet, by any system's limits
 BLOCK = 12  # octets of a block of pcapng at least
 INTERFACE, OLD_PACKET, SIMPLE_PACKET, STATISTICS, PACKET = 1, 2, 3, 5, 6
-LOST = (5, 7)  # options of a block of statistics: what the interface and the system dropped
+LOST = (5, 7)  # options of a block of statistics: dropped by the interface, by the system
 SECTION = b"\x0a\x0d\x0d\x0a"  # in either order
-# Classic pcap by its first octets: the order of octets, and nanoseconds in a unit of its time.
+# Classic pcap by its first octets: the order of octets, and nanoseconds in a unit of time.
 CLASSIC = {
-    b"\xd4\xc3\xb2\xa1": ("<", 1000),
-    b"\xa1\xb2\xc3\xd4": (">", 1000),
-    b"\x4d\x3c\xb2\xa1": ("<", 1),
-    b"\xa1\xb2\x3c\x4d": (">", 1),
-}
+    b"\xd4\xc3\xb2\xa1": ("<", 1000), b"\xa1\xb2\xc3\xd4": (">", 1000),
+    b"\x4d\x3c\xb2\xa1": ("<", 1), b"\xa1\xb2\x3c\x4d": (">", 1),
+}  # fmt: skip
 
 
 class Unreadable(Exception):
-    """What can't be read at all; the text says why."""
-
-
-class Source:
-    """The octets of a capture, from its beginning to its end. `is_short` says that the last read got
-    less than it wanted."""
-
-    def __init__(self, file):
-        self.file, self.at, self.is_short = file, 0, False
-        self.ahead = file.read(4)
-
-    def read(self, size):
-        octets = self.file.read(size - len(self.ahead)) if len(self.ahead) < size else b""
-        if self.ahead:
-            octets, self.ahead = self.ahead[:size] + octets, self.ahead[size:]
-        self.is_short = len(octets) < size
-        self.at += len(octets)
-        return octets
+    """Nothing can be read; the text says why."""
 
 
 class Capture:
-    """The packets of a capture, each with its moment in microseconds since 1970, its link type, its
-    octets, and whether the capture kept less than all. `notes` has a line for each thing that was
-    wrong, `lost` the packets that each interface lost by its own count."""
+    """The packets of a capture: moment in microseconds since 1970, link type, octets, and whether octets are missing.
+
+    `notes` has a line for each fault, `lost` the packets that each interface lost by the capture's own count, `at` how
+    many octets were read."""
 
     def __init__(self, file):
-        self.source, self.notes, self.lost = Source(file), [], {}
-        begins = self.source.ahead
-        if not begins:
+        self.file, self.at, self.notes, self.lost = file, 0, [], {}
+        self.begins = file.read(4)
+        if not self.begins:
             raise Unreadable("is empty")
-        if begins == SECTION:
-            self.reader = self._next_generation
-        elif begins in CLASSIC:
-            self.reader = self._classic
-        else:
+        if self.begins != SECTION and self.begins not in CLASSIC:
             raise Unreadable("is no capture: neither pcap nor pcapng")
 
     def packets(self):
-        """Each packet, in the order of the file."""
-        yield from self.reader()
+        yield from self._next_generation() if self.begins == SECTION else self._classic()
         if any(self.lost.values()):
-            lost = counted(sum(self.lost.values()), "packet")
-            self.notes.append(f"the capture lost {lost}, by its own count")
+            self.note(f"the capture lost {counted(sum(self.lost.values()), 'packet')}, by its own count")
+
+    def note(self, text):
+        if text not in self.notes:
+            self.notes.append(text)
 
     def _classic(self):
-        read, source = self.source.read, self.source
-        head = read(24)
-        if source.is_short:
+        read = self.file.read
+        head = read(20)
+        if len(head) < 20:
             raise Unreadable("ends within its header")
-        order, unit = CLASSIC[head[:4]]
-        link = struct.unpack_from(order + "I", head, 20)[0] & 0xFFFF
-        fields = struct.Struct(order + "4I").unpack
-        while head := read(16):
-            if source.is_short:
-                break
+        order, unit = CLASSIC[self.begins]
+        link = struct.unpack_from(order + "I", head, 16)[0] & 0xFFFF
+        fields, self.at = struct.Struct(order + "4I").unpack, 24
+        while len(head := read(16)) == 16:
             whole, part, kept, size = fields(head)
             if kept > MOST_OCTETS:
-                self.notes.append(f"a packet of {kept} octets can't be: reading stops at octet {source.at - 16}")
+                self.note(f"a packet of {kept} octets can't be: reading stops at octet {self.at}")
                 return
             octets = read(kept)
-            if source.is_short:
+            if len(octets) < kept:
                 break
-            yield whole * 1_000_000 + part * unit // 1000, link, octets, kept < size
-        else:
-            return
-        self.notes.append("the capture ends within a packet; what is before it was read")
+            self.at += 16 + kept
+            yield whole * SECOND + part * unit // 1000, link, octets, kept < size
+        if head:
+            self.note("the capture ends within a packet; what is before it was read")
 
     def _next_generation(self):
-        order, interfaces = "<", []
-        while True:
-            at = self.source.at
-            head = self.source.read(BLOCK)
-            if not head:
-                return
-            if len(head) < BLOCK:
-                break
+        order, interfaces, head = "<", [], self.begins + self.file.read(BLOCK - 4)
+        while len(head) == BLOCK:
             if head[:4] == SECTION:
-                order = ">" if head[8:] == b"\x1a\x2b\x3c\x4d" else "<"
-                interfaces = []
+                order, interfaces = ">" if head[8:] == b"\x1a\x2b\x3c\x4d" else "<", []
             kind, size = struct.unpack_from(order + "2I", head)
             if size < BLOCK or size % 4 or size > 16 * MOST_OCTETS:
-                self.notes.append(f"a block of {size} octets can't be: reading stops at octet {at}")
+                self.note(f"a block of {size} octets can't be: reading stops at octet {self.at}")
                 return
-            body = (head[8:] + self.rest(size - BLOCK))[: size - BLOCK]
-            if self.source.is_short:
+            body = head[8:] + self.rest(size - BLOCK)
+            if len(body) < size - 8:
                 break
             try:
-                packet = self._block(order, kind, body, interfaces)
+                packet = self._block(order, kind, body[:-4], interfaces)
             except (struct.error, IndexError):
-                self.notes.append(f"the block at octet {at} can't be read")
+                self.note(f"the block at octet {self.at} can't be read")
                 packet = None
+            self.at += size
             if packet is not None:
                 yield packet
-        self.notes.append("the capture ends within a block; what is before it was read")
+            head = self.file.read(BLOCK)
+        if head:
+            self.note("the capture ends within a block; what is before it was read")
 
     def rest(self, size):
         """The next octets; a block may have more than a packet."""
         parts = []
-        while size > 0 and not self.source.is_short:
-            parts.append(self.source.read(min(size, MOST_OCTETS)))
-            size -= len(parts[-1])
+        while size > 0 and (more := self.file.read(min(size, MOST_OCTETS))):
+            parts.append(more)
+            size -= len(more)
         return b"".join(parts)
 
     def _block(self, order, kind, body, interfaces):
@@ -133,34 +107,25 @@ class Capture:
             if kind == OLD_PACKET:
                 number = struct.unpack_from(order + "H", body)[0]
             link, (units, per), offset = interfaces[number]
-            moment = ((high << 32) | low) * units // per + struct.unpack(order + "q", offset)[0] * 1_000_000
+            moment = (high << 32 | low) * units // per + struct.unpack(order + "q", offset)[0] * SECOND
             if 0 <= moment < LATEST:
                 return moment, link, body[20 : 20 + kept], kept < size
-            self.note_once("packets with a time that can't be are left out")
+            self.note("packets with a time that can't be are left out")
         elif kind == SIMPLE_PACKET:
-            self.note_once("packets without a time (simple packet blocks) are left out")
-        elif kind == STATISTICS:
-            counts = {code: value for code, value in options_of(order, body[12:]) if code in LOST}
-            lost = sum(struct.unpack_from(order + "Q", value)[0] for value in counts.values())
-            self.lost[struct.unpack_from(order + "I", body)[0]] = lost  # since the beginning of the capture
+            self.note("packets without a time (simple packet blocks) are left out")
+        elif kind == STATISTICS:  # which count since the beginning of the capture
+            counts = (value for code, value in options_of(order, body[12:]) if code in LOST)
+            lost = sum(struct.unpack_from(order + "Q", value)[0] for value in counts)
+            self.lost[struct.unpack_from(order + "I", body)[0]] = lost
         return None
-
-    def note_once(self, text):
-        if text not in self.notes:
-            self.notes.append(text)
 
 
 def counts_losses(file):
-    """Whether a capture says that it lost packets, by its own count, which may come at its end. The file
-    is read from its beginning, and is at its beginning afterwards."""
+    """Whether a capture counts lost packets, perhaps at its end. The file is left at its beginning."""
     if not file.seekable():
         return False
-    begins = file.read(4)
-    file.seek(0)
-    if begins != SECTION:
-        return False
     capture = Capture(file)
-    for _ in capture.packets():
+    for _ in capture.packets() if capture.begins == SECTION else ():
         pass
     file.seek(0)
     return any(capture.lost.values())
@@ -178,8 +143,8 @@ def options_of(order, octets):
 
 
 def resolution(option):
-    """By what a time of an interface is multiplied and divided to be microseconds."""
+    """The factor and the divisor from an interface's units of time to microseconds."""
     exponent = option[0] & 0x7F
     if option[0] & 0x80:
-        return 1_000_000, 1 << exponent
+        return SECOND, 1 << exponent
     return (10 ** (6 - exponent), 1) if exponent <= 6 else (1, 10 ** (exponent - 6))

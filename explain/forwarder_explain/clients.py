@@ -1,99 +1,82 @@
-"""Questions of clients and their answers: which belong together."""
+"""Questions of clients and their answers."""
+import copy
 import itertools
 
 from . import messages
-from .events import Question
-from .messages import HEADER
+from .events import Bounded, Question
+from .messages import HEADER, OPERATION
 from .times import AT_ONCE
 
-REPEATED = 0x79  # in the third octet of a question: its operation and RD, which its answer repeats
+REPEATED = 0x79  # in the third octet of a question: operation and RD, which an answer repeats
 MOST_KNOWN = 10_000  # clients of the last time
 REFUSED, ENDED, GONE, DROPPED = "refused", "ended", "gone", "dropped"
 
 
 class Clients:
-    """The clients' side. `open` has the questions without an answer, by client and identifier; `last` the last
-    question of each client; `connections` those that are open; `tell` takes what happens."""
+    """The clients' side. `open` has the questions without an answer, by client and identifier; `last` the last question
+    of each client; `connections` the open connections; `tell` is told of each event."""
 
     def __init__(self, tell):
         self.tell, self.open, self.count = tell, {}, 0
-        self.last, self.connections, self.resets = {}, set(), []
+        self.last, self.connections, self.resets = Bounded(MOST_KNOWN), set(), []
         self.left_out = self.refused = 0
 
     def question(self, moment, client, peer, octets):
-        """Takes a client's message."""
         asked = messages.question_of(octets) if len(octets) >= HEADER else None
-        question = Question(moment, client, peer, octets, asked)
-        self.last[client] = question
-        if len(self.last) > MOST_KNOWN:
-            del self.last[next(iter(self.last))]
-        if len(octets) < HEADER or messages.is_response(octets):
+        question = self.last[client] = Question(moment, client, peer, octets, asked)
+        if len(octets) < HEADER or octets[2] >= 128:
             question.over = DROPPED, moment
         else:
-            self.open.setdefault(client, {}).setdefault(octets[:2], []).append(question)
+            self.open.setdefault((client, octets[:2]), []).append(question)
             self.count += 1
         self.tell.asked(question)
 
     def close(self, question):
-        """A question waits no more."""
-        asked = self.open.get(question.client, {})
-        waiting = asked.get(question.octets[:2], ())
+        key = question.client, question.octets[:2]
+        waiting = self.open.get(key, ())
         if question in waiting:
             waiting.remove(question)
             self.count -= 1
             if not waiting:
-                del asked[question.octets[:2]]
-            if not asked:
-                del self.open[question.client]
+                del self.open[key]
 
     def answer(self, moment, client, octets, sender):
-        """Takes a message to a client."""
-        waiting = self.open.get(client, {}).get(octets[:2])
-        if not waiting:
-            self.left_out += 1
-            return
+        """Takes a message to a client, from another address than was asked if `sender` is given."""
+        waiting = self.open.get((client, octets[:2]), ())
         fitting = [each for each in waiting if is_to(octets, each)]
-        question = self.one_of(fitting, moment, octets, sender) if len(fitting) > 1 else next(iter(fitting), None)
-        if question is None:
-            for each in waiting:
-                if each.answer is None:
-                    each.answer, each.answered = octets, moment
-                    return
+        question = next((each for each in fitting or waiting if fitting or each.answer is None), None)
+        if len(fitting) > 1:
+            question = self.one_of(fitting, moment, octets, sender)
+        if question is None or fitting and question.answer is not None:  # no question, or a second answer
             self.left_out += 1
-            return
-        if question.answer is not None:
-            self.left_out += 1  # a message that fits no question came before
-        question.answer, question.answered, question.elsewhere = octets, moment, sender
-        self.close(question)
-        self.tell.answered(question)
+        if question is not None:
+            question.answer, question.answered, question.elsewhere = octets, moment, sender if fitting else None
+        if fitting:
+            self.close(question)
+            self.tell.answered(question)
 
     def one_of(self, fitting, moment, octets, sender):
-        """The question of an answer, of several equal ones: the youngest one of which it may be. An older one may
-        have been lost, or waited as the service ended."""
+        """The question of an answer, of several equal ones: the youngest for which the answer is right. An older one
+        may have been lost, or waited as the service ended."""
         fitting.sort(key=lambda each: (each.over is not None, -each.moment))
         for question in fitting:
-            before = question.answer, question.answered, question.elsewhere
-            question.answer, question.answered, question.elsewhere = octets, moment, sender
-            is_right = self.tell.is_right(question)
-            question.answer, question.answered, question.elsewhere = before
-            if is_right:
+            trial = copy.copy(question)
+            trial.answer, trial.answered, trial.elsewhere = octets, moment, sender
+            if self.tell.judge.judge(trial).kind != "different":
                 return question
         return fitting[0]
 
     def refuse(self, news):
-        """The service's machine says by ICMP that nothing listens: for the client's last question, if that has
-        just come; otherwise for one that the capture lacks."""
+        """The service's machine says by ICMP that nothing listens. The news is of the client's last question if that is
+        recent, otherwise of a question that the capture lacks."""
         question = self.last.get(news.source)
         is_it = question is not None and question.moment >= news.moment - AT_ONCE and question.answer is None
         if not is_it or news.octets[:2] not in (b"", question.octets[:2]):
             question = Question(news.moment, news.source, news.source, b"", None)
             self.tell.asked(question)
         question.over = REFUSED, news.moment
-        self.tell.waits_no_more(question)
+        self.tell.upstream.leave(question)
         self.tell.refused(news.moment, "port unreachable")
-
-    def connect(self, connection):
-        self.connections.add(connection)
 
     def reset(self, connection, moment, from_client, was_open):
         """A connection ends. If the service resets all connections at once, it has ended."""
@@ -109,20 +92,19 @@ class Clients:
             self.tell.refused(self.resets[0], "all connections were reset at once")
 
     def gone(self, connection, moment):
-        """The client has closed its connection, or it was reset."""
-        for question in itertools.chain.from_iterable(self.open.get(connection, {}).values()):
-            question.over = question.over or (GONE, moment)
+        for question in self.all():
+            if question.client is connection:
+                question.over = question.over or (GONE, moment)
 
     def all(self):
-        return [question for asked in self.open.values() for waiting in asked.values() for question in waiting]
+        return list(itertools.chain.from_iterable(self.open.values()))
 
 
 def is_to(octets, question):
-    """Whether an answer repeats the operation and RD of a question, and all of it, or nothing if it is not
-    served (forwarder(8))."""
+    """Whether an answer repeats operation, RD and question, or has none if it is not served (forwarder(8))."""
     if len(octets) < HEADER or (octets[2] ^ question.octets[2]) & REPEATED:
         return False
-    if question.asked is None or messages.operation(question.octets):
+    if question.asked is None or question.octets[2] & OPERATION:
         return octets[4:6] == b"\0\0"
     written = question.asked.written
     return octets[4:6] == b"\0\1" and octets[HEADER : HEADER + len(written)] == written

@@ -1,9 +1,8 @@
-"""What one reply carries for the question that was asked: the sets and denials that the forwarder
-keeps of it (RFC 1034 5.3.3, RFC 2181 5, RFC 2308)."""
+"""The content of a reply: the sets and denials that the forwarder keeps (RFC 1034 5.3.3, RFC 2181 5, RFC 2308)."""
 from typing import NamedTuple
 
 from . import messages
-from .messages import ANSWER, AUTHORITY, CNAME, HEADER, NS, SOA
+from .messages import CNAME, HEADER, NS, SOA
 
 LONGEST, LONGEST_DENIAL = 604_800, 10_800  # seconds
 MOST_ALIASES = 8
@@ -13,10 +12,9 @@ SET, NO_DATA, NAME_ERROR = "set", "no data", "name error"
 
 
 class Piece(NamedTuple):
-    """A record set, or a denial with its SOA if any: what is kept and answered as a whole.
+    """A record set, or a denial with any SOA: kept and answered as a whole.
 
-    `rows` are the data of a set in order, or the owner and data of the SOA; `kind` is None if the name
-    itself is denied."""
+    `rows` are the data of a set in order, or owner and data of the SOA; `kind` is None if the name itself is denied."""
 
     form: str
     key: bytes
@@ -24,22 +22,20 @@ class Piece(NamedTuple):
     kind: object
     rows: tuple
     seconds: int
-    rank: int
+    rank: int = 3
 
     def slot(self):
         return self.key, self.klass, self.kind
 
 
 class Walk(NamedTuple):
-    """The pieces of a reply; `leads_to` is a name that it leaves open; a lame one neither answers nor
-    denies."""
+    """The pieces of a reply; `leads_to` is a name left open."""
 
     pieces: tuple
-    leads_to: object
-    lame: bool
+    leads_to: object = None
 
 
-LAME = Walk((), None, True)
+LAME = Walk(None)  # a reply that neither answers nor denies
 
 
 def lifetime(seconds):
@@ -47,25 +43,24 @@ def lifetime(seconds):
 
 
 class Walking:
-    """Walks one reply to a question whose name is on a route."""
+    """Walks a reply to a question, from the asked name along aliases."""
 
     def __init__(self, configuration, octets, asked):
         self.configuration, self.asked = configuration, asked
-        self.code, self.authoritative = messages.code(octets), messages.is_authoritative(octets)
-        self.sets, self.authority, self.pieces = {}, [], []
+        self.code, self.authoritative = messages.code(octets), bool(octets[2] & 4)
+        self.sets, self.pieces = {}, []
         is_written = octets[4:6] == b"\0\1" and octets[HEADER : HEADER + len(asked.written)] == asked.written
-        for record in messages.records(octets, asked if is_written else None):
-            if record.section == ANSWER:
-                self.sets.setdefault((record.key, record.klass, record.kind), []).append(record)
-            elif record.section == AUTHORITY:
-                self.authority.append(record)
+        answers, self.authority = messages.records(octets, asked if is_written else None)
+        for record in answers:
+            self.sets.setdefault((record.key, record.klass, record.kind), []).append(record)
         self.route = configuration.route_of(asked.key)
 
     def walk(self):
-        asked, spelled, name = self.asked, self.asked.name, self.asked.key
+        asked, spelled = self.asked, self.asked.name
         while True:
-            if self.configuration.route_of(name) is not self.route:
-                return Walk(tuple(self.pieces), spelled, False)
+            name = spelled.lower()
+            if self.configuration.route_of(name) is not self.route or len(self.pieces) == MOST_ALIASES:
+                return Walk(tuple(self.pieces), spelled)
             found = self.sets.get((name, asked.klass, asked.kind))
             rows = found or (None if asked.kind == CNAME else self.sets.get((name, asked.klass, CNAME)))
             if not rows:
@@ -77,36 +72,30 @@ class Walking:
             if found:
                 return self.ended()
             spelled = data[0]
-            name = spelled.lower()
-            if len(self.pieces) == MOST_ALIASES:
-                return Walk(tuple(self.pieces), spelled, False)
 
     def add(self, form, name, kind, rows, seconds):
         rank = 3 if self.authoritative and name == self.asked.key else 1
         self.pieces.append(Piece(form, name, self.asked.klass, kind, rows, seconds, rank))
 
     def denial(self, name, spelled):
-        """The end of a walk at a name that has neither set nor alias."""
         klass = self.asked.klass
         fitting = (each for each in self.authority if each.kind == SOA and each.klass == klass)
         soa = next((each for each in fitting if messages.is_under(name, each.key)), None)
-        if self.code != 3:
-            if self.pieces and not soa:
-                return Walk(tuple(self.pieces), spelled, False)
-            if not soa and not self.authoritative and any(record.kind == NS for record in self.authority):
+        if self.code != 3 and not soa:
+            if self.pieces:
+                return Walk(tuple(self.pieces), spelled)
+            if not self.authoritative and any(record.kind == NS for record in self.authority):
                 return LAME
-        seconds = 0
+        seconds, rows = 0, ()
         if soa:
             seconds = min(lifetime(soa.seconds), int.from_bytes(soa.data[-4:], "big"), LONGEST_DENIAL)
-        rows = (soa.key, soa.data) if soa else ()
-        if self.code == 3:
-            self.add(NAME_ERROR, name, None, rows, seconds)
-        else:
-            self.add(NO_DATA, name, self.asked.kind, rows, seconds)
+            rows = soa.key, soa.data
+        form, kind = (NAME_ERROR, None) if self.code == 3 else (NO_DATA, self.asked.kind)
+        self.add(form, name, kind, rows, seconds)
         return self.ended()
 
     def ended(self):
-        """The pieces, and with an authoritative reply the name servers of its authority section."""
+        """The pieces, with the name servers in the authority section of an authoritative reply."""
         servers, there = {}, {piece.key for piece in self.pieces}
         for record in self.authority if self.authoritative else ():
             if record.kind == NS and record.klass == self.asked.klass and record.key not in there:
@@ -116,17 +105,11 @@ class Walking:
         for key, rows in servers.items():
             seconds = min(lifetime(each.seconds) for each in rows)
             self.pieces.append(Piece(SET, key, self.asked.klass, NS, distinct(rows), seconds, 2))
-        return Walk(tuple(self.pieces), None, False)
+        return Walk(tuple(self.pieces))
 
 
 def distinct(rows):
-    """The data of records, in order, those that are equal once."""
     return (rows[0].data,) if len(rows) == 1 else tuple(dict.fromkeys(each.data for each in rows))
-
-
-def walk(configuration, octets, asked):
-    """What a reply carries for what was asked; raises `Malformed` where it can't be read."""
-    return Walking(configuration, octets, asked).walk()
 
 
 def is_unserved(asked):

@@ -1,76 +1,61 @@
-"""Explains packets in their order: what became of each question, as soon as it is known."""
+"""Explains packets in their order: the fate of each question, as soon as it is known."""
 import itertools
 from collections import deque
 
 from . import judge
-from .clients import DROPPED, ENDED, GONE, REFUSED
+from .clients import ENDED
 from .clock import Clock
-from .failures import Failures
 from .history import History, Restart
-from .judge import Judge, Verdict
-from .reasons import Reasons
-from .times import DOUBT, FORGET, HELD, LATE_REPLY, MILLISECOND, OUT_OF_ORDER, UNANSWERED
+from .judge import Failures, Judge, Verdict
+from .times import DOUBT, FORGET, HELD, LATE_REPLY, MILLISECOND, UNANSWERED
 from .traffic import Traffic
-from .upstream import UNTAKEN, Upstream
+from .upstream import ANSWERED, UNTAKEN, Upstream
 
 MOST_PENDING = 40_000  # questions that wait for their line
-PACKETS_LATER = 200  # after the deadline, before a question has no answer: the clock may just have been set
-
-
-class Telling:
-    """Has `settled` called with each question once its fate is known: in the order of the questions, or at once
-    if `is_live`."""
-
-    def __init__(self, settled, is_live):
-        self.settled, self.is_live, self.pending = settled, is_live, deque()
-
-    def put(self, question):
-        """Takes a question in its order."""
-        if not self.is_live:
-            self.pending.append(question)
-
-    def close(self, question):
-        """Nothing more is to be known of a question."""
-        question.row = True
-        if self.is_live:
-            self.tell(question)
-            return
-        while self.pending and self.pending[0].row:
-            self.tell(self.pending.popleft())
-
-    def tell(self, question):
-        """Has a question told, and forgets what was remembered of it."""
-        self.settled(question)
-        question.tries = question.wanted = ()
-        question.answer = question.answer and b""
+PACKETS_LATER = 200  # past the deadline, before a question has no answer: the clock may just have been set
 
 
 class Explaining:
-    """Takes packets by time, and has each question told once its fate is known. `count_query` is called with each
-    query whose time is over."""
+    """Takes packets by time. Calls `settled` with each question once its fate is known, in the order of the questions,
+    or at once if `is_live`, and `count_query` with each query whose time is over. `pending` are questions without a
+    line, `held` those whose answer seems different or doubtful: later packets may say more."""
 
     def __init__(self, configuration, begins, is_lossy, settled, is_live=False):
-        self.clock, self.telling = Clock(configuration.limits["ask_ms"] * MILLISECOND), Telling(settled, is_live)
+        self.settled, self.is_live, self.pending = settled, is_live, deque()
+        self.clock = Clock(configuration.limits["ask_ms"] * MILLISECOND)
         self.history = History(configuration, begins, is_lossy)
         self.upstream = Upstream(configuration, self.history, self.clock, self.asked_of)
         self.traffic = Traffic(configuration, self, self.upstream, self.history)
-        failures = Failures(configuration, self.history, self.load, self.upstream.sent)
-        self.judge = Judge(configuration, self.history, self.clock, failures, Reasons())
+        failures = Failures(configuration, self.history, self.traffic.clients, self.upstream)
+        self.judge = Judge(configuration, self.history, self.clock, failures)
         self.judge.unseen, self.judge.sides = self.traffic.unseen, self.traffic.sides
         self.due, self.held, self.sent = deque(), deque(), deque()
-        self.now, self.forgotten, self.moved = begins, begins, 0
+        self.now = self.forgotten = begins
         self.count_query = self.current = None
+
+    def close(self, question):
+        """Nothing more is to be known of a question."""
+        question.told = True
+        if self.is_live:
+            self.tell(question)
+        while self.pending and self.pending[0].told:
+            self.tell(self.pending.popleft())
+
+    def tell(self, question):
+        self.settled(question)
+        question.tries = question.wanted = ()  # which are needed no more
+        question.answer = question.answer and b""
 
     # What comes.
 
     def take(self, packet):
-        """Takes a packet."""
-        if self.moved:
-            packet = packet._replace(moment=packet.moment + self.moved)
         moment = packet.moment
+        if self.clock.moved:
+            moment += self.clock.moved
+            packet = packet._replace(moment=moment)
         if moment > self.now:
             self.clock.pass_on(moment)
-            if moment - self.now > LATE_REPLY:  # perhaps the clock was set: what was asked is not forgotten yet
+            if moment - self.now > LATE_REPLY:  # perhaps the clock was set: queries are not forgotten yet
                 self.forgotten = moment + 2 * self.clock.ask
             self.now = moment
         self.traffic.take(packet)
@@ -84,54 +69,35 @@ class Explaining:
             self.forgotten = now
 
     def count_queries(self, since):
-        """Counts the queries that left before a moment: nothing more is to be known of them."""
         while self.sent and self.sent[0].moment < since:
             self.count_query(self.sent.popleft())
 
-    def loosen(self, moment, by, at):
-        """The clock was set back: nothing says how long no packet came there."""
-        self.clock.loosen(moment + self.moved, by, at)
-
     def asked(self, question):
-        """A question came."""
         if self.upstream.record:
             self.upstream.record.question(question)
-        self.telling.put(question)
+        if not self.is_live:
+            self.pending.append(question)
         asked = question.asked
         if question.over is None and asked is not None and question.octets[2] & 0x78 == 0:
-            route = self.history.configuration.route_of(asked.key)
-            if route is not None:
+            if self.history.configuration.route_of(asked.key) is not None:
                 self.wait(question, asked)
-        limit = self.history.configuration.limits["deadline_ms"] * MILLISECOND
-        self.due.append([question.moment + limit + UNANSWERED, question, PACKETS_LATER])
-        if len(self.telling.pending) > MOST_PENDING:
-            self.give_up_oldest()
+        until = question.moment + self.history.configuration.limits["deadline_ms"] * MILLISECOND + UNANSWERED
+        self.due.append([until, question, PACKETS_LATER])
+        if len(self.pending) > MOST_PENDING:  # the oldest keeps too many others from having their lines
+            oldest = self.pending[0]
+            self.held = deque(each for each in self.held if each[1] is not oldest)
+            (self.without_answer if oldest.verdict is None else self.close)(oldest)
 
     def wait(self, question, asked):
-        """A question waits for its name, and for those to which cached aliases lead."""
         others = self.upstream.waiting.get(asked.same)
         self.upstream.want(question, asked.key, asked.kind, asked.klass, question.moment)
         if others and len(others) > 1:
-            peers = tuple(each.peer for each in others if each is not question)
-            question.others = peers[-3:]
+            question.others = tuple(each.peer for each in others if each is not question)[-3:]
             for each in others[-4:-1]:
                 if len(each.others) < 4:
                     each.others += (question.peer,)
 
-    def waits_no_more(self, question):
-        for key in question.wanted:
-            waiting = self.upstream.waiting.get(key)
-            if waiting and question in waiting:
-                waiting.remove(question)
-                if not waiting:
-                    del self.upstream.waiting[key]
-
-    def load(self, question):
-        """How many other questions wait, and how many queries."""
-        return self.traffic.clients.count, self.upstream.asking(question.answered)
-
     def asked_of(self, query):
-        """A query left."""
         self.sent.append(query)
         if self.history.told and query.is_wanted:
             key, kind, klass = query.asked.same
@@ -139,77 +105,76 @@ class Explaining:
         if self.upstream.record and not query.is_lacked:
             self.upstream.record.query(query)
 
-    def is_right(self, question):
-        """Whether an answer may be that of a question, of several that are equal."""
-        return self.judge.judge(question).kind != judge.DIFFERENT
-
     def answered(self, question):
-        """A question got its answer."""
-        self.waits_no_more(question)
+        self.upstream.leave(question)
         if question.over is not None and question.over[0] is ENDED:
             self.went_on(question)
         self.history.answered(question.answered)
         self.upstream.seen, self.current = question.answered, question
         late = question.tries[-1].late if question.tries else None
-        verdict = question.verdict = self.judge.judge(question)
+        question.verdict = self.judge.judge(question)
         if self.upstream.record:
             self.upstream.record.answer(question)
-        if late and verdict.kind == judge.DIFFERENT and self.has_stepped(question.tries[-1]):
-            verdict = question.verdict = self.judge.judge(question)
-        self.look_at(question, verdict)
+        if late and question.verdict.kind == judge.DIFFERENT and self.has_stepped(question.tries[-1]):
+            question.verdict = self.judge.judge(question)
+        self.look_at(question, question.verdict)
 
     def look_at(self, question, verdict):
-        """Takes the verdict on an answer, which may have to wait for what comes."""
-        self.take_used(question, verdict)
-        if verdict.why == judge.NOT_TAKEN:
-            query = question.tries[-1]
-            query.reply.is_untaken, query.how = True, UNTAKEN
-        if verdict.kind != judge.DIFFERENT:
-            self.telling.close(question)
+        """Takes the verdict on an answer, which may have to wait for later packets."""
+        if not is_doubtful(verdict):
+            self.take_used(question, verdict)
+            self.close(question)
             return
-        self.held.append((self.now + self.hold(), question))
+        self.held.append((self.now + (self.clock.ask + DOUBT if self.is_live else HELD), question))
+        query = question.tries[-1] if question.tries else None
+        if verdict.why == judge.NOT_TAKEN and query.reply:
+            query.reply.is_untaken, query.reply.doubt, query.how = True, question, UNTAKEN
         if verdict.shift:
             reply = next((each.reply for each in verdict.used if each and each.reply), None)
-            step = self.clock.suspect(question, reply, verdict.shift)
-            if step:
+            if step := self.clock.suspect(question, reply, verdict.shift):
                 self.move(*step)
 
-    def hold(self):
-        """How long an answer that seems different waits."""
-        limits = self.history.configuration.limits
-        return limits["ask_ms"] * MILLISECOND + DOUBT if self.telling.is_live else HELD
-
     def take_used(self, question, verdict):
-        """Notes what an answer used: when its reply was read at the latest, and how the clocks agree."""
-        for each in verdict.used if verdict.kind != judge.DIFFERENT else ():
+        """Notes the data in an answer: the last moment at which their reply was read, and how the clocks agree."""
+        for each in verdict.used:
             if each is None:
                 continue
             self.history.touch(each)
             reply = each.reply
-            if reply is not None and reply.taken is None and reply.moment >= question.moment:
+            if reply is None:
+                continue
+            if reply.taken is None and reply.moment >= question.moment:
                 reply.taken = question.answered
+            if reply.doubt is not None and verdict.parts:
+                self.refute(reply)
         if verdict.kind == judge.RIGHT and verdict.shift:
             self.clock.agree(verdict.shift, verdict.used[-1].reply.moment, question.answered)
+
+    def refute(self, reply):
+        """An answer has the content of a reply that a failure left unused: the failure is judged again."""
+        question, reply.doubt, reply.is_untaken = reply.doubt, None, False
+        if not question.told:
+            question.tries[-1].how, reply.taken = ANSWERED, reply.taken or question.answered
+            question.verdict = self.judge.judge(question)
 
     # The clock was set.
 
     def has_stepped(self, query):
         """Whether a late reply shows that the clock was set forward; then all is moved, and judged again."""
         octets, moment = query.late
-        step = None
-        if self.upstream.latest.get(query.asked.same) is query and not query.reply:
-            step = self.clock.step_within(query, moment)
+        is_last = self.upstream.latest.get(query.asked.same) is query and not query.reply
+        step = self.clock.step_within(query, moment) if is_last else None
         if not step:
             return False
         self.move(*step)
-        query.unfit = [each for each in query.unfit if each[0] != query.late[1]]
+        query.unfit = tuple(each for each in query.unfit if each[0] != query.late[1])
         query.late = None
         self.upstream.fitting(moment + step[1], query, octets)
         return True
 
     def move(self, since, by):
-        """Moves all times from a moment on, as the clock was set there, and judges what waits again."""
-        self.moved += by
+        """Moves all times from a moment on, as the clock was set there, and judges the held questions again."""
+        self.clock.moved += by
         self.now += by
         self.forgotten = self.now
         for each, names in self.timed():
@@ -221,12 +186,11 @@ class Explaining:
         self.judge_again()
 
     def timed(self):
-        """All that is remembered and has a moment, each once, with the names of its moments."""
-        waiting = itertools.chain(
-            self.telling.pending, self.traffic.clients.all(), (each for _, each in self.held), [self.current]
-        )
+        """All remembered objects with moments, each once, with the names of its moments."""
+        pending = self.pending
+        waiting = itertools.chain(pending, self.traffic.clients.all(), (each for _, each in self.held), [self.current])
         occurrences = itertools.chain.from_iterable(self.history.slots.values())
-        queries = itertools.chain(self.upstream.latest.values(), (query for each in self.telling.pending for query in each.tries))
+        queries = itertools.chain(self.upstream.latest.values(), (query for each in pending for query in each.tries))
         for found, names in (
             (waiting, ("moment", "answered")),
             (queries, ("moment", "ended")),
@@ -237,20 +201,19 @@ class Explaining:
                 yield each, names
 
     def judge_again(self):
-        """Judges what waits again."""
         waiting, self.held = self.held, deque()
         for until, question in waiting:
-            verdict = question.verdict = self.judge.judge(question)
-            if verdict.kind == judge.DIFFERENT:
+            if question.verdict.why not in (judge.NOT_TAKEN, judge.UNEQUAL):
+                question.verdict = self.judge.judge(question)
+            if is_doubtful(question.verdict):
                 self.held.append((until, question))
             else:
-                self.take_used(question, verdict)
-                self.telling.close(question)
+                self.take_used(question, question.verdict)
+                self.close(question)
 
     # Restarts.
 
     def refused(self, moment, shown):
-        """Packets show that nothing listens."""
         restarts = self.history.restarts
         if restarts and restarts[-1].begun is None:
             restarts[-1].until = moment
@@ -261,9 +224,9 @@ class Explaining:
         restarts.append(Restart(moment, moment, shown, waiting))
 
     def went_on(self, question):
-        """The service answers what it was asked before it seemed to end: it went on."""
+        """The service answers a question from before its seeming end: it went on."""
         for restart in self.history.restarts:
-            if restart.waiting and question in restart.waiting:
+            if question in restart.waiting:
                 self.history.restarts.remove(restart)
                 for each in restart.waiting:
                     if each.over and each.over[0] is ENDED:
@@ -273,69 +236,36 @@ class Explaining:
 
     # What is known.
 
-    def let_pass(self, quiet):
-        """Takes it that no packet came for a time."""
-        self.pass_time(self.now + quiet, True)
-
     def pass_time(self, now, is_quiet=False):
-        """Settles what has waited for long enough. The clock may just have been set, so some packets have to
-        come before a question has no answer."""
+        """Settles questions that have waited long, and for some packets: the clock may just have been set."""
         while self.due and self.due[0][0] < now:
-            entry = self.due[0]
-            question = entry[1]
-            if question.row is None and question.verdict is None and entry[2] > 0 and not is_quiet:
-                entry[2] -= 1
+            _, question, left = self.due[0]
+            is_open = not question.told and question.verdict is None
+            if is_open and left > 0 and not is_quiet:
+                self.due[0][2] -= 1
                 break
             self.due.popleft()
-            if question.row is None and question.verdict is None:
+            if is_open:
                 self.without_answer(question)
         while self.held and self.held[0][0] < now:
-            self.telling.close(self.held.popleft()[1])
-
-    def give_up_oldest(self):
-        """Settles what keeps too many questions from having their lines."""
-        oldest = self.telling.pending[0]
-        self.held = deque(each for each in self.held if each[1] is not oldest)
-        if oldest.verdict is None:
-            self.without_answer(oldest)
-        else:
-            self.telling.close(oldest)
+            self.close(self.held.popleft()[1])
 
     def without_answer(self, question):
-        """A question has no answer by now, or none that fits."""
-        self.waits_no_more(question)
+        self.upstream.leave(question)
         self.traffic.clients.close(question)
         if question.answer is not None:
             question.verdict = self.judge.judge(question)
         else:
-            is_seen = question.over is not None and question.over[0] in (REFUSED, DROPPED, GONE, ENDED)
-            question.verdict = Verdict(judge.RIGHT if is_seen else judge.OPEN, "" if is_seen else "no answer")
-        self.telling.close(question)
+            question.verdict = Verdict(judge.RIGHT) if question.over else Verdict(judge.OPEN, "no answer")
+        self.close(question)
 
     def end(self):
-        """Settles all that is left."""
         self.traffic.forget(self.now + 10 * HELD)
         self.judge_again()
-        while self.held:
-            self.telling.close(self.held.popleft()[1])
-        for _, question, _ in self.due:
-            if question.row is None:
-                self.without_answer(question)
-        self.due.clear()
+        self.pass_time(float("inf"), True)
         self.count_queries(float("inf"))
 
 
-def by_time(packets):
-    """Packets that are in order but for a little, by their times."""
-    waiting, last = deque(), 0
-    for packet in packets:
-        moment = packet.moment
-        if moment < last:
-            waiting.append(packet)
-            waiting = deque(sorted(waiting, key=lambda each: each.moment))
-        else:
-            last = moment
-            waiting.append(packet)
-        while waiting[0].moment < last - OUT_OF_ORDER:
-            yield waiting.popleft()
-    yield from waiting
+def is_doubtful(verdict):
+    """Whether later packets may say more of an answer."""
+    return verdict.kind == judge.DIFFERENT or verdict.why == judge.NOT_TAKEN

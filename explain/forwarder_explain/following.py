@@ -1,37 +1,34 @@
-"""Explains a capture as it grows: each question once it is known what became of it (`--follow`)."""
+"""Explains a capture as it grows: each question once its fate is known (`--follow`)."""
 import signal
 import sys
 import time
-from collections import deque
 
 from .capture import Capture, Unreadable
-from .clock import Straightened
-from .files import opened
-from .growing import Pipe, Ring
+from .clock import InOrder
+from .files import Pipe, Ring, opened
 from .options import span_of
 from .packets import Decoder
 from .running import Run
-from .times import BACK, BEHIND, LOOK, OUT_OF_ORDER, PAUSE, SECOND, UNHEARD
+from .times import BACK, BEHIND, LOOK, PAUSE, SECOND, UNHEARD
 from .wording import counted, shown
 
 
 class Stopped(Exception):
-    """A signal says that the run is to end."""
+    """A signal asks for the end of the run."""
 
 
-class Ended(BaseException):
-    """A second signal says that the run is to end at once. Nothing else may catch this."""
+class Ended(BaseException):  # which nothing else may catch
+    """A second signal asks for the end at once."""
 
 
 class Behind:
-    """Says how far a run is behind what comes: by how much more time has passed than at any moment before by
-    the times of the packets."""
+    """Reports the delay of a run: by how much more time has passed than at best, by the times of the packets."""
 
     def __init__(self, note):
         self.note, self.least, self.said = note, float("inf"), 0
 
     def look(self, passed):
-        """Takes how many microseconds have passed, from any beginning, without those of the packets."""
+        """Takes the microseconds that have passed, from any beginning, without those of the packets."""
         self.least = min(self.least, passed)
         behind = passed - self.least
         if behind >= max(BEHIND, 2 * self.said):
@@ -43,13 +40,12 @@ class Behind:
 
 
 class Follower:
-    """Follows a capture: takes packets as they come, and has them explained in order."""
+    """Follows a capture: takes packets as they come, and has them explained in order. `stops` counts signals."""
 
     def __init__(self, options, settings, note):
         self.options, self.settings, self.note = options, settings, note
-        self.decoder, self.straightened, self.waiting = Decoder(), Straightened(), deque()
-        self.run, self.behind, self.back = None, Behind(note), 0
-        self.stops = 0  # signals that came
+        self.decoder, self.order = Decoder(), InOrder()
+        self.run, self.behind, self.back, self.stops = None, Behind(note), 0, 0
         self.is_last = self.is_told = False
         self.began = self.came = self.looked = now()
 
@@ -61,73 +57,61 @@ class Follower:
     # What comes.
 
     def take(self, packet):
-        """Takes a packet of the capture."""
         if packet[0] < self.back:
             return
         self.came = now()
         found = self.decoder.read(*packet)
         if found is not None:
-            self.waiting.append(self.straightened.put(found))
-        self.go_on(self.waiting[-1].moment - OUT_OF_ORDER if self.waiting else 0)
+            self.order.put(found)
+            self.go_on()
         if self.came - self.looked > PAUSE:
             self.looked = self.came
             self.behind.look(self.came - packet[0])
 
-    def go_on(self, until):
-        """Explains what came up to a moment."""
-        if len(self.waiting) > 1 and self.waiting[-1].moment < self.waiting[-2].moment:
-            self.waiting = deque(sorted(self.waiting, key=lambda each: each.moment))
-        while self.waiting and self.waiting[0].moment <= until:
-            packet = self.waiting.popleft()
+    def go_on(self, is_end=False):
+        for packet in self.order.due(is_end):
             if self.run is None:
                 self.run = Run(self.options, self.settings, packet.moment, False, self.note, True)
-            if self.straightened.steps:
-                self.run.explaining.loosen(*self.straightened.steps.pop(0))
-            self.run.explaining.take(packet)
-            if self.run.explaining.clock.notes:
-                self.note(self.run.explaining.clock.notes.pop(0))
+            explaining = self.run.explaining
+            if self.order.steps:
+                explaining.clock.loosen(*self.order.steps.pop(0))
+            explaining.take(packet)
+            if explaining.clock.notes:
+                self.note(explaining.clock.notes.pop(0))
         if self.run is not None:
             self.run.show_restarts()
-        while self.straightened.notes:
-            self.note(self.straightened.notes.pop(0))
-
-    def flush(self):
-        """Explains all that came."""
-        self.go_on(float("inf"))
+        while self.order.notes:
+            self.note(self.order.notes.pop(0))
 
     def reading(self):
-        """Called before each read. After a signal there is one more: of what was there when it came."""
+        """Called before each read. After a signal there is one more, of the octets from before the signal."""
         if self.stops:
             if self.is_last:
                 raise Stopped
             self.is_last = True
 
     def idle(self):
-        """Called while nothing comes."""
         if self.stops:
             raise Stopped
         quiet = now() - self.came
         if quiet > 2 * LOOK:
-            self.flush()
+            self.go_on(True)
             if self.run is not None:
-                self.run.explaining.let_pass(quiet)
+                self.run.explaining.pass_time(self.run.explaining.now + quiet, True)
                 self.run.show_restarts()
-        self.look_for_questions()
+        if not self.is_told and self.run is not None and now() - self.began >= UNHEARD:
+            self.is_told = True
+            if not self.has_question():
+                self.note(f"has no question to {shown(self.settings.listen)} yet, where the configuration listens")
 
-    def look_for_questions(self):
-        """Says once that there are packets, and no question among them."""
-        if self.is_told or self.run is None or now() - self.began < UNHEARD:
-            return
-        self.is_told = True
-        if not self.run.explaining.traffic.sides.questions:
-            self.note(f"has no question to {shown(self.settings.listen)} yet, where the configuration listens")
+    def has_question(self):
+        return self.run is not None and bool(self.run.explaining.traffic.sides.questions)
 
     # The end.
 
     def end(self):
-        """Explains what is left; gives whether an answer is different."""
-        self.flush()
-        if self.run is None or not self.run.explaining.traffic.sides.questions:
+        self.go_on(True)
+        if not self.has_question():
             raise Unreadable(f"has no question to {shown(self.settings.listen)}, where the configuration listens")
         self.run.explaining.end()
         for text in [*self.decoder.notes(), *self.run.notes()]:
@@ -135,7 +119,6 @@ class Follower:
         return self.run.finish()
 
     def end_at_once(self):
-        """Says what is left out; gives whether an answer is different."""
         explaining = self.run.explaining if self.run else None
         count = explaining.traffic.clients.count + len(explaining.held) if explaining else 0
         self.note(f"a second signal ended the run: left out {counted(count, 'question')}")
@@ -148,8 +131,7 @@ def now():
 
 
 def follow(options, settings, note):
-    """Follows a capture until it ends, or until SIGINT or SIGTERM; gives whether an answer is different. After a
-    second signal it ends at once."""
+    """Follows a capture until its end or a signal; gives whether an answer is different."""
     if hasattr(sys.stdout, "reconfigure"):
         sys.stdout.reconfigure(line_buffering=True)
     follower = Follower(options, settings, note)
@@ -165,7 +147,7 @@ def follow(options, settings, note):
 
 
 def read(options, follower):
-    """Gives a follower all packets, until the capture ends or a signal comes."""
+    """Gives a follower all packets, until the end of the capture or a signal."""
     try:
         for file in files_of(options, follower):
             capture = Capture(file)
@@ -179,8 +161,7 @@ def read(options, follower):
 
 
 def files_of(options, follower):
-    """The captures, each as a file that grows. Of files those questions are shown that come from now
-    on, unless the options say from when on."""
+    """The captures, each as a file that grows. Of files only questions from now on are shown, or from a time."""
     if options.capture == "-":
         return [Pipe(opened("-"), follower)]
     ring = Ring(options.capture, follower, follower.note)

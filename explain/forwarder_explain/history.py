@@ -1,26 +1,24 @@
-"""What replies carried, by slot: name, class and type of a set or of a denial of one type, or name and
-class of a denied name. And since when that counts: restarts, and the beginning of the capture."""
+"""The content of replies, by slot: name, class and type of a set or of a denial of one type, or name and class of a
+denied name. And since when it counts: restarts, and the beginning of the capture."""
 import itertools
 from collections import OrderedDict
 
 from .content import NAME_ERROR, SET
 from .messages import CNAME, parents
-from .times import DAY, DOUBT, EXPIRED, ORDER, REMEMBERED, SECOND
+from .times import DOUBT, EXPIRED, ORDER, REMEMBERED, SECOND
 
-LONGEST = {True: 7 * DAY, False: DAY // 8}  # the longest lifetimes, of sets and of denials
-MOST_FORGED = 100_000  # records of messages that no query wanted
+SHOWN = 9  # the rank of a record that refutes a denied name, in the slot of the denial
+MOST_OF_SLOT, MOST_KEPT = 4, 64  # occurrences in a slot before some are dropped, and afterwards
 
 
 class Occurrence:
-    """A piece that one reply carried. Of data from before the capture there is no reply, and an answer
-    says when they end: between `since` and `until`."""
+    """A piece in a reply, or data from before the capture, which end between `since` and `until`."""
 
     __slots__ = ("rows", "form", "life", "rank", "reply", "since", "until", "is_sure", "touched")
 
-    def __init__(self, piece, reply, is_sure):
+    def __init__(self, piece, reply, is_sure, since=None, until=None):
         self.rows, self.form, self.life, self.rank = piece.rows, piece.form, piece.seconds * SECOND, piece.rank
-        self.reply, self.is_sure, self.touched = reply, is_sure, 0
-        self.since = self.until = None
+        self.reply, self.is_sure, self.touched, self.since, self.until = reply, is_sure, 0, since, until
 
     def moment(self):
         return self.reply.moment if self.reply else 0
@@ -33,9 +31,8 @@ class Occurrence:
 
 
 class Restart:
-    """The service ended at one moment at the earliest, and was there again at another one. What came
-    before the first and is used after the second did not come to the process that uses it. `shown` says
-    what shows it; `open` are the questions that waited as it came."""
+    """The service ended after `since`, and had begun by `until`: data from before the first moment do not count after
+    the second. `shown` says how the restart is known; `waiting` are the questions open at its time."""
 
     def __init__(self, since, until, shown, waiting=()):
         self.since, self.until, self.shown, self.waiting, self.begun = since, until, shown, list(waiting), None
@@ -45,10 +42,9 @@ class Restart:
 
 
 class History:
-    """`begins` is the first moment of the capture; `asked` are the questions for which the service sent a
-    query, as far as packets show that; `is_lossy` says that packets are missing, by the capture's own
-    count; `forged` are records of messages that no query wanted; `missing` are questions of which the capture
-    lacks a part of a reply; `shown` are restarts that were told and that a query shows; `orphans` those of replies at its beginning whose query may be from before it."""
+    """`begins` is the first moment of the capture, `is_lossy`: by its own count it lost packets. `asked` are hashes of
+    questions with a query, `forged` the records of dropped messages, `missing` the questions whose reply lacks a part,
+    `orphans` those of early replies without a query, `shown` restarts that were told and that a query shows."""
 
     def __init__(self, configuration, begins, is_lossy):
         self.configuration, self.begins, self.is_lossy = configuration, begins, is_lossy
@@ -58,19 +54,18 @@ class History:
         self.missing, self.orphans, self.stale = set(), set(), configuration.limits["stale_s"] * SECOND
 
     def tell(self, since, until):
-        """The service was started again within a second of a time, as somebody says who knows."""
+        """The user says that the service was started again within a second of a time."""
         self.told.append(Restart(since - SECOND, max(until, since + SECOND), "told by --restarted"))
 
     # What came.
 
     def put(self, piece, reply, is_sure):
-        """Takes a piece of an accepted reply."""
         self.enter(piece.slot(), Occurrence(piece, reply, is_sure), reply.moment)
         if piece.form != NAME_ERROR:
             for above in parents(piece.key):
                 slot = above, piece.klass, None
                 if slot in self.slots:  # a set or an empty type at or below shows that the name exists
-                    self.enter(slot, Occurrence(piece._replace(form=SET, rank=9), reply, is_sure), reply.moment)
+                    self.enter(slot, Occurrence(piece._replace(form=SET, rank=SHOWN), reply, is_sure), reply.moment)
 
     def enter(self, slot, occurrence, moment):
         found = self.slots.get(slot)
@@ -81,42 +76,28 @@ class History:
         else:
             self.slots.move_to_end(slot)
             found.append(occurrence)
-            if len(found) > 4:
+            if len(found) > MOST_OF_SLOT:
                 self.prune(found, moment)
         self.touch(occurrence)
 
     def prune(self, found, moment):
-        """Drops what no answer to come can have."""
         kept = []
         for place, each in enumerate(found):
             later = next((other for other in found[place + 1 :] if replaces(other, each)), None)
             is_replaced = later is not None and later.moment() < moment - REMEMBERED
             if not is_replaced and each.ends()[1] > moment - self.stale - EXPIRED:
                 kept.append(each)
-        found[:] = kept[-64:]
+        found[:] = kept[-MOST_KEPT:]
 
     def touch(self, occurrence):
         self.touches += 1
         occurrence.touched = self.touches
 
     def put_older(self, piece, since, until):
-        """Takes what an answer has from before the capture, which ends between two moments."""
-        occurrence = Occurrence(piece, None, False)
-        occurrence.since, occurrence.until = since, until
+        """Takes data from before the capture, with the bounds of their end that an answer shows."""
+        occurrence = Occurrence(piece, None, False, since, until)
         self.slots.setdefault(piece.slot(), []).insert(0, occurrence)
         return occurrence
-
-    def note_query(self, key):
-        self.asked.add(hash(key))
-
-    def was_asked(self, key):
-        return hash(key) in self.asked
-
-    def forge(self, records, why):
-        """Notes the records of a message that no query wanted."""
-        for each in records:
-            if len(self.forged) < MOST_FORGED:
-                self.forged.setdefault((each.key, each.kind, each.data), why)
 
     # What is known of a moment.
 
@@ -124,69 +105,66 @@ class History:
         return self.slots.get(slot, ())
 
     def denials(self, key, klass):
-        """Each denied name at or above a name, nearest first, with its occurrences."""
+        """The occurrences of denied names at or above a name, the nearest first."""
         for above in parents(key):
-            found = self.slots.get((above, klass, None))
-            if found:
-                yield from ((above, each) for each in reversed(found) if each.form == NAME_ERROR)
+            for each in reversed(self.slots.get((above, klass, None), ())):
+                if each.form == NAME_ERROR:
+                    yield above, each
 
     def alias(self, key, klass, moment):
-        """Where a cached alias leads, if there is one."""
         for each in reversed(self.slots.get((key, klass, CNAME), ())):
             if each.form == SET and each.ends()[1] + DOUBT > moment:
-                return each.rows[0].lower()
+                return each
         return None
 
     def replaced_by(self, slot, occurrence, before):
-        """The occurrence that took the place of another one in its slot, before a moment; None if none did."""
+        """The occurrence that took the place of another in its slot before a moment, or None."""
         found = self.slots.get(slot, ())
-        later = found[found.index(occurrence) + 1 :] if occurrence in found else ()
-        for each in later:
+        if not found or found[-1] is occurrence or occurrence not in found:
+            return None
+        for each in found[found.index(occurrence) + 1 :]:
             reply = each.reply
             if replaces(each, occurrence) and occurrence.reply.latest() < reply.moment:
                 if (reply.moment + ORDER if reply.taken is None else reply.taken) < before:
                     return each
         return None
 
-    def is_evicted(self, occurrence):
-        """Whether it may have left a full cache."""
-        return self.touches - occurrence.touched >= self.configuration.limits["cache"]
-
     def restart_between(self, carried, used):
-        """The last restart between a reply and an answer; None if there is none."""
+        """The last restart between a reply and an answer, or None."""
         if not self.restarts and not self.told:
             return None
         known = itertools.chain(self.restarts, self.told, reversed(self.shown))
         return next((each for each in known if each.parts(carried, used)), None)
 
     def answered(self, moment):
-        """The service is there at a moment."""
-        for each in itertools.chain(self.restarts, self.told):
-            if each.begun is None and each.until <= moment:
-                each.begun = moment
+        if self.restarts or self.told:
+            for each in itertools.chain(self.restarts, self.told):
+                if each.begun is None and each.until <= moment:
+                    each.begun = moment
 
-    def ask(self, key, moment):
-        """The service asks for what was surely cached: a restart that was told has been since its reply."""
-        for found in self.at(key):
-            if self.is_kept(found, moment):
+    def ask(self, slot, moment):
+        """The service asks for data that were surely cached: a restart that was told came after their reply."""
+        for found in self.at(slot):
+            if self.is_kept(slot, found, moment):
                 carried = found.reply.moment
                 if any(each.since <= moment and each.until > carried for each in self.told):
                     self.shown.append(Restart(carried + 1, moment, "told by --restarted"))
 
-    def is_kept(self, each, moment):
+    def is_kept(self, slot, each, moment):
         """Whether an occurrence is surely in the cache, but for a restart."""
-        if each.reply is None or not each.is_sure or each.reply.taken is None or each.reply.is_untaken:
+        reply = each.reply
+        if reply is None or each.rank == SHOWN or not each.is_sure or reply.is_untaken:
             return False
-        lives = each.reply.taken < moment and each.ends()[0] > moment + DOUBT
-        return lives and each.rank == 3 and not self.is_evicted(each)
-
-    def may_be_older(self, form, seconds, moment):
-        """Whether what is answered at a moment may be from before the capture, by its lifetime."""
-        return seconds * SECOND + moment - self.begins <= LONGEST[form == SET]
+        if reply.taken is None or reply.taken >= moment:
+            return False
+        is_evicted = self.touches - each.touched >= self.configuration.limits["cache"]
+        if is_evicted or each.ends()[0] <= moment + DOUBT:
+            return False
+        better = (other for other in self.at(slot) if other.rank > each.rank)  # which is not replaced while it lives
+        return not any(other.moment() < reply.moment < other.ends()[1] + DOUBT for other in better)
 
 
 def replaces(later, earlier):
-    """Whether what came later took the place of what came earlier in its slot."""
     if not later.is_sure or later.reply.is_untaken:
         return False
     return later.rank >= earlier.rank or later.form == NAME_ERROR

@@ -1,44 +1,35 @@
-"""Messages of the DNS (RFC 1035 4.1), as far as an explanation needs them. Names are in octets, as
-in a message."""
+"""Messages of the DNS (RFC 1035 4.1), as far as an explanation needs them. Names are octets, as in a message."""
 import functools
 import struct
 from typing import NamedTuple
 
-NAME = "name"
-STRING = "string"
-# The parts of RDATA of each type whose names may be compressed, or are written out; numbers are octets.
+NAME, STRING = "name", "string"
+# RDATA with names, by type: a name, a character string, or a number of other octets.
 SHAPES = {
-    **{kind: (NAME,) for kind in (2, 3, 4, 5, 7, 8, 9, 12)},
+    **dict.fromkeys((2, 3, 4, 5, 7, 8, 9, 12), (NAME,)),
+    **dict.fromkeys((14, 17), (NAME, NAME)),
+    **dict.fromkeys((15, 18, 21), (2, NAME)),
     6: (NAME, NAME, 20),
-    14: (NAME, NAME),
-    17: (NAME, NAME),
-    15: (2, NAME),
-    18: (2, NAME),
-    21: (2, NAME),
     26: (2, NAME, NAME),
     33: (6, NAME),
     35: (4, STRING, STRING, STRING, NAME),
 }
-TYPES = {  # by name
-    int(number): name
-    for name, number in (
-        pair.split(" ")
-        for pair in (
-            "A 1,NS 2,CNAME 5,SOA 6,PTR 12,HINFO 13,MX 15,TXT 16,RP 17,AFSDB 18,AAAA 28,LOC 29,SRV 33,"
-            "NAPTR 35,DNAME 39,OPT 41,DS 43,SSHFP 44,RRSIG 46,NSEC 47,DNSKEY 48,NSEC3 50,"
-            "NSEC3PARAM 51,TLSA 52,SVCB 64,HTTPS 65,SPF 99,TSIG 250,IXFR 251,AXFR 252,ANY 255,"
-            "URI 256,CAA 257"
-        ).split(",")
-    )
-}
-CODES = (
-    *"NOERROR FORMERR SERVFAIL NXDOMAIN NOTIMP REFUSED YXDOMAIN YXRRSET NXRRSET NOTAUTH NOTZONE".split(" "),
-    *(f"code {number}" for number in range(11, 16)),
+COMPRESSED = {2, 3, 4, 5, 6, 7, 8, 9, 12, 14, 15}  # types whose names are compressed (RFC 1035 3.3, RFC 3597 4)
+KINDS = (
+    "1 A,2 NS,5 CNAME,6 SOA,12 PTR,13 HINFO,15 MX,16 TXT,17 RP,18 AFSDB,28 AAAA,29 LOC,33 SRV,35 NAPTR,39 DNAME,"
+    "41 OPT,43 DS,44 SSHFP,46 RRSIG,47 NSEC,48 DNSKEY,50 NSEC3,51 NSEC3PARAM,52 TLSA,64 SVCB,65 HTTPS,99 SPF,"
+    "250 TSIG,251 IXFR,252 AXFR,255 ANY,256 URI,257 CAA"
 )
-CNAME, SOA, NS, OPT = 5, 6, 2, 41
-ANSWER, AUTHORITY = 0, 1
-HEADER = 12  # octets
+TYPES = {int(number): name for number, name in (pair.split(" ") for pair in KINDS.split(","))}
+CODES = "NOERROR FORMERR SERVFAIL NXDOMAIN NOTIMP REFUSED YXDOMAIN YXRRSET NXRRSET NOTAUTH NOTZONE".split(" ")
+CODES += (f"code {number}" for number in range(11, 16))
+NS, CNAME, SOA = 2, 5, 6
+HEADER, OPERATION = 12, 0x78  # octets; the bits of the operation in the third octet
 COUNTS, HEAD = struct.Struct(">4H").unpack_from, struct.Struct(">2HIH").unpack_from
+# Of a name, each octet as RFC 1035 5.1 has it.
+LETTERS = [f"\\{chr(octet)}" if 33 <= octet < 127 else f"\\{octet:03}" for octet in range(256)]
+for plain in b"abcdefghijklmnopqrstuvwxyzABCDEFGHIJKLMNOPQRSTUVWXYZ0123456789-_":
+    LETTERS[plain] = chr(plain)
 
 
 class Malformed(Exception):
@@ -46,8 +37,7 @@ class Malformed(Exception):
 
 
 class Question(NamedTuple):
-    """What is asked: `key` is the name in lower case; `same` is what makes questions equal, `written` their
-    octets, the name as it is spelled."""
+    """A question: `key` is the name in lower case, equal questions have an equal `same`, `written` are the octets."""
 
     name: bytes
     key: bytes
@@ -57,14 +47,12 @@ class Question(NamedTuple):
     written: bytes
 
     def text(self):
-        """Name and type, as a person writes them."""
         return f"{text(self.name)} {kind_text(self.kind, self.klass)}"
 
 
 class Record(NamedTuple):
-    """A record; `data` has its names written out."""
+    """A record; the names in `data` are written out."""
 
-    section: int
     owner: bytes
     key: bytes
     kind: int
@@ -73,47 +61,26 @@ class Record(NamedTuple):
     data: bytes
 
 
-def identifier(octets):
-    return struct.unpack_from(">H", octets)[0]
-
-
-def is_response(octets):
-    return octets[2] >= 128
-
-
 def is_cut(octets):
     return len(octets) >= HEADER and bool(octets[2] & 2)
 
 
-def is_authoritative(octets):
-    return len(octets) >= HEADER and bool(octets[2] & 4)
-
-
-def operation(octets):
-    return octets[2] >> 3 & 15
-
-
 def code(octets):
-    """The result code; None of what is too short for a message."""
+    """The result code; None of a message without a whole header."""
     return octets[3] & 15 if len(octets) >= HEADER else None
 
 
 def name_at(octets, at):
-    """The name at an offset, and the offset after it.
-
-    A pointer leads to before the run of labels that it ends."""
+    """The name at an offset, and the offset after. A pointer leads to before its own run of labels."""
     parts, end, total, start = [], None, 1, at
     try:
-        while True:
-            size = octets[at]
-            if size == 0:
-                return b"".join(parts) + b"\0", at + 1 if end is None else end
+        while size := octets[at]:
             if size >= 192:
-                target = ((size & 63) << 8) | octets[at + 1]
-                end = at + 2 if end is None else end
-                if target >= start:
+                end = end or at + 2
+                at = (size & 63) << 8 | octets[at + 1]
+                if at >= start:
                     raise Malformed("a pointer leads forward")
-                at = start = target
+                start = at
                 continue
             total += size + 1
             if size > 63 or total > 255 or at + 1 + size > len(octets):
@@ -122,16 +89,15 @@ def name_at(octets, at):
             at += 1 + size
     except IndexError:
         raise Malformed("a name") from None
+    return b"".join(parts) + b"\0", end or at + 1
 
 
 @functools.lru_cache(maxsize=5_000)
 def question_in(body):
-    """The one question of a message without its identifier, or None."""
     return read_question(b"\0\0" + body)
 
 
 def read_question(octets):
-    """The one question of a message, or None."""
     if len(octets) < HEADER or octets[4:6] != b"\0\1":
         return None
     try:
@@ -139,37 +105,30 @@ def read_question(octets):
         kind, klass = struct.unpack_from(">2H", octets, at)
     except (Malformed, struct.error):
         return None
-    key = name.lower()
+    key = name if name.islower() else name.lower()  # mostly one object: there are many
     return Question(name, key, kind, klass, (key, kind, klass), name + octets[at : at + 4])
 
 
 def question_of(octets):
-    """The first question of a message, where there is exactly one that can be read; else None.
-
-    A pointer in it leads into the header, and so perhaps to the identifier."""
-    if max(octets[HEADER : HEADER + 255], default=0) >= 0xC0:
-        return read_question(octets)
-    found = question_in(octets[2:512])
-    return found if found or len(octets) <= 512 else question_in(octets[2:])
+    """The only question of any message, or None. With a pointer, perhaps to the identifier, nothing is remembered."""
+    return question_in(octets[2:]) if octets[HEADER : HEADER + 255].isascii() else read_question(octets)
 
 
 def records(octets, asked=None):
-    """The records of the answer and authority sections; raises where they can't be read. Of an answer the
-    question is known, which is written out in it."""
+    """The records of the answer and of the authority section, or Malformed. `asked` is the question, if well placed."""
     if len(octets) < HEADER:
         raise Malformed("a header")
-    counts = COUNTS(octets, 4)
-    at, found, known = HEADER, [], None
+    counts, at, sections = COUNTS(octets, 4), HEADER, ([], [], [])
+    known = None if asked is None else b"\xc0\x0c"
     try:
         if asked is not None:
             at += len(asked.written)
-            known = b"\xc0\x0c"
         else:
             for _ in range(counts[0]):
                 at = name_at(octets, at)[1] + 4
-        for section in range(3):
-            for _ in range(counts[section + 1]):
-                if known is not None and octets[at : at + 2] == known:
+        for found, count in zip(sections, counts[1:]):
+            for _ in range(count):
+                if octets[at : at + 2] == known:
                     owner, key, at = asked.name, asked.key, at + 2
                 else:
                     owner, at = name_at(octets, at)
@@ -179,52 +138,63 @@ def records(octets, asked=None):
                 if at > len(octets):
                     raise Malformed("a record")
                 data = written_out(octets, kind, start, at) if kind in SHAPES else octets[start:at]
-                if section < 2:
-                    found.append(Record(section, owner, key, kind, klass, seconds, data))
+                found.append(Record(owner, key, kind, klass, seconds, data))
     except (struct.error, IndexError):
         raise Malformed("a record") from None
-    return found
+    return sections[:2]
 
 
 def written_out(octets, kind, start, end):
     """The RDATA between two offsets with its names written out."""
-    parts, at = [], start
+    found, at = b"", start
     for part in SHAPES[kind]:
         if part is NAME:
-            name, after = name_at(octets, at)
-            parts.append(name)
+            name, at = name_at(octets, at)
+            found += name
         else:
-            after = at + (1 + octets[at] if part is STRING else part)
-            parts.append(octets[at:after])
-        at = after
+            size = 1 + octets[at] if part is STRING else part
+            found, at = found + octets[at : at + size], at + size
     if at != end:
         raise Malformed("RDATA")
-    return b"".join(parts)
+    return found
+
+
+def size_with(asked, rows):
+    """How many octets the forwarder's message has with a question and records, each owner, kind and data. The longest
+    suffix of a name that was written before is a pointer (RFC 1035 4.1.4)."""
+    size, places = HEADER + 4, set()
+
+    def name_size(name):
+        written = 0
+        for suffix in parents(name):
+            if suffix in places:
+                return written + 2
+            if suffix == b"\0":
+                return written + 1
+            places.add(suffix)
+            written += 1 + suffix[0]
+
+    size += name_size(asked.name)
+    for owner, kind, data in rows:
+        size += name_size(owner) + 10
+        shape, at = SHAPES.get(kind, ()) if kind in COMPRESSED else (), 0
+        for part in shape:
+            if part is NAME:
+                name, at = name_at(data, at)
+                size += name_size(name)
+            else:
+                size, at = size + part, at + part
+        size += len(data) - at
+    return size
 
 
 @functools.lru_cache(maxsize=5_000)
 def text(name):
-    """A name in letters; what is no letter, digit, hyphen or underscore is escaped as RFC 1035 5.1
-    has it."""
-    labels, at = [], 0
-    while name[at]:
-        label = name[at + 1 : at + 1 + name[at]]
-        labels.append(
-            "".join(
-                chr(o)
-                if 48 <= o < 58 or 65 <= o < 91 or 97 <= o < 123 or o in b"-_"
-                else f"\\{chr(o)}"
-                if 33 <= o < 127
-                else f"\\{o:03}"
-                for o in label
-            )
-        )
-        at += 1 + name[at]
-    return ".".join(labels) or "."
+    labels = (above[1 : 1 + above[0]] for above in parents(name) if above[0])
+    return ".".join("".join(map(LETTERS.__getitem__, label)) for label in labels) or "."
 
 
 def from_text(words):
-    """The octets of a plain name in lower case, or None."""
     labels = [] if words == "." else words.rstrip(".").lower().split(".")
     if any(not 1 <= len(label) <= 63 for label in labels):
         return None
@@ -232,16 +202,14 @@ def from_text(words):
 
 
 def parents(key):
-    """The name and each name above it, in octets."""
-    while True:
+    while key != b"\0":
         yield key
-        if key == b"\0":
-            return
         key = key[1 + key[0] :]
+    yield key
 
 
 def is_under(key, suffix):
-    return key == suffix or key.endswith(suffix) and any(above == suffix for above in parents(key))
+    return key == suffix or key.endswith(suffix) and suffix in parents(key)
 
 
 def kind_text(kind, klass=1):

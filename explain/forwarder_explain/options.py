@@ -9,82 +9,46 @@ from .capture import Unreadable
 from .times import MINUTE, SECOND
 from .wording import address_text, shown
 
-# Of times: the form, and whether it has a date.
-FORMS = (
-    ("%Y-%m-%dT%H:%M:%S.%f", True),
-    ("%Y-%m-%dT%H:%M:%S", True),
-    ("%Y-%m-%dT%H:%M", True),
-    ("%H:%M:%S.%f", False),
-    ("%H:%M:%S", False),
-    ("%H:%M", False),
+FORMS = ("%H:%M:%S.%f", "%H:%M:%S", "%H:%M")  # of times; a date may come before
+ABOUT = "Say what became of each question to the DNS forwarder in a capture, and judge each answer by the claim."
+STATUS = "Status: 0 if no answer is different, 1 if one is, 2 if something can't be read. See forwarder-explain(1)."
+ARGUMENTS = (  # name with any other goal, value, help
+    ("configuration", "CONFIG", "the configuration that the forwarder had"),
+    ("capture", "CAPTURE", "a file of tcpdump -w, in pcap or pcapng; - for standard input; or a folder of such files"),
+    ("--at", "TIME", "questions of this minute, 14:03, or of this second, 14:03:02"),
+    ("--from since", "TIME", "questions from then on: 14:03, 14:03:02.5, 2026-11-28T14:03, or seconds since 1970"),
+    ("--to until", "TIME", "questions before this time"),
+    ("--client", "ADDRESS", "questions of this client alone: 10.0.0.7 or 10.0.0.7:40000"),
+    ("--name", "NAME", "questions for this name and those below it alone"),
+    ("--failures", None, "failed questions alone, and answers that differ"),
+    ("--summary", None, "counts by reason, server and client, and no line for each question"),
+    ("--follow", None, "read on as the capture grows: the line of each question once it is known"),
+    ("--html", "FILE", "write a page of counts and lines, in place of a line for each question"),
+    ("--script", "FILE", "write the script of the questions, for forwarder replay"),
+    ("--json", None, "one JSON object a line, for programs"),
 )
 
 
 def arguments(words):
-    parser = argparse.ArgumentParser(
-        prog="forwarder-explain",
-        description="Explain what the DNS forwarder did, from a capture of its traffic: say what became of each "
-        "question, and judge each answer by what the forwarder claims.",
-        epilog="Status: 0 if no answer is different, 1 if one is, 2 if something can't be read. "
-        "See forwarder-explain(1).",
-    )
-    parser.add_argument("configuration", metavar="CONFIG", help="the configuration that the forwarder had")
-    parser.add_argument(
-        "capture",
-        metavar="CAPTURE",
-        help="a file of tcpdump -w, in pcap or pcapng; - for standard input; or a folder with the files of a ring",
-    )
-    add_choices(parser)
-    parser.add_argument("--failures", action="store_true", help="failed questions alone, and answers that differ")
-    parser.add_argument(
-        "--summary", action="store_true", help="counts by reason, server and client, and no line for each question"
-    )
-    parser.add_argument(
-        "--follow", action="store_true", help="read on as the capture grows: the line of each question once it is known"
-    )
-    parser.add_argument(
-        "--html", metavar="FILE", help="write a page of counts and lines, in place of a line for each question"
-    )
-    parser.add_argument("--script", metavar="FILE", help="write the script of the questions, for forwarder replay")
-    parser.add_argument("--json", action="store_true", help="one JSON object a line, for programs")
-    parser.add_argument(
-        "--program", metavar="PATH", default="forwarder", help="the forwarder's program (default: forwarder)"
-    )
+    parser = argparse.ArgumentParser(prog="forwarder-explain", description=ABOUT, epilog=STATUS)
+    for names, value, text in ARGUMENTS:
+        name, _, goal = names.partition(" ")
+        more = {"metavar": value} if value else {"action": "store_true"}
+        parser.add_argument(name, help=text, **more, **({"dest": goal} if goal else {}))
+    restarted = "the service was restarted at this time, which the capture may not show; may be repeated"
+    parser.add_argument("--restarted", metavar="TIME", action="append", default=[], help=restarted)
+    program = "the forwarder's program (default: forwarder)"
+    parser.add_argument("--program", metavar="PATH", default="forwarder", help=program)
     options = parser.parse_args(words)
     if options.client and not is_client(options.client):
         parser.error(f"--client: {options.client} is no IPv4 address; 10.0.0.7 and 10.0.0.7:40000 are")
-    others = ("--at", options.at), ("--to", options.until), ("--html", options.html), ("--script", options.script)
-    for name, value in others:
-        if options.follow and value:
-            parser.error(f"{name} is not for --follow")
+    for name in ("at", "until", "html", "script") if options.follow else ():
+        if getattr(options, name):
+            parser.error(f"--{'to' if name == 'until' else name} is not for --follow")
     return options
 
 
-def add_choices(parser):
-    """The options that choose questions, and what is known of the service."""
-    parser.add_argument("--at", metavar="TIME", help="questions of this minute, 14:03, or of this second, 14:03:02")
-    parser.add_argument(
-        "--from",
-        dest="since",
-        metavar="TIME",
-        help="questions from this time on: 14:03, 14:03:02.5, 2026-11-28T14:03, or seconds since 1970",
-    )
-    parser.add_argument("--to", dest="until", metavar="TIME", help="questions before this time")
-    parser.add_argument(
-        "--client", metavar="ADDRESS", help="questions of this client alone: 10.0.0.7 or 10.0.0.7:40000"
-    )
-    parser.add_argument("--name", metavar="NAME", help="questions for this name and those below it alone")
-    parser.add_argument(
-        "--restarted",
-        metavar="TIME",
-        action="append",
-        default=[],
-        help="the service was restarted at this time, which the capture may not show; may be repeated",
-    )
-
-
 def is_client(text):
-    """Whether a text is an IPv4 address, or one with a port."""
     address, colon, port = text.partition(":")
     try:
         ipaddress.IPv4Address(address)
@@ -93,34 +57,26 @@ def is_client(text):
     return not colon or port.isascii() and port.isdigit() and int(port) < 65536
 
 
-def moment_of(text, first):
-    """A time of the command line, in microseconds since 1970; without a date on the day of the
-    capture's beginning."""
-    return span_of_text(text, first)[0]
-
-
 def span_of_text(text, first):
-    """From when and until when a time of the command line is: it may be written to the minute, to the second, or
-    more exactly."""
+    """The bounds of a time of the command line, in microseconds since 1970: it may be written to the minute, to the
+    second, or more exactly. Without a date it is of the day of the capture's beginning."""
     if re.fullmatch(r"\d{9,}(\.\d+)?", text):
         since = round(float(text) * SECOND)
         return since, since + (0 if "." in text else SECOND)
-    day = datetime.datetime.fromtimestamp(first / SECOND).date()
-    for form, dated in FORMS:
+    day = datetime.datetime.fromtimestamp(first / SECOND).strftime("%Y-%m-%dT")
+    for form in FORMS:
         try:
-            found = datetime.datetime.strptime(text, form)
+            found = datetime.datetime.strptime(text if "T" in text else day + text, "%Y-%m-%dT" + form)
         except ValueError:
             continue
-        found = found if dated else datetime.datetime.combine(day, found.time())
         since = round(found.timestamp() * SECOND)
         return since, since + (0 if "%f" in form else SECOND if "%S" in form else MINUTE)
     raise Unreadable("is no time; 14:03, 14:03:02.5 and 2026-11-28T14:03 are", text)
 
 
 def span_of(options, first):
-    """From when and until when questions are chosen, in microseconds since 1970, or None."""
-    since = moment_of(options.since, first) if options.since else None
-    until = moment_of(options.until, first) if options.until else None
+    since = span_of_text(options.since, first)[0] if options.since else None
+    until = span_of_text(options.until, first)[0] if options.until else None
     if options.at:
         at, end = span_of_text(options.at, first)
         end = max(end, at + SECOND)
@@ -130,7 +86,7 @@ def span_of(options, first):
 
 
 def chooser(options, first):
-    """Says of a question whether the options choose it."""
+    """A function: whether the options choose a question."""
     since, until = span_of(options, first)
     suffix = messages.from_text(options.name) if options.name else None
     if options.name and suffix is None:

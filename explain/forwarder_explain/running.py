@@ -1,17 +1,15 @@
-"""A run over packets: explains them, counts and shows the questions that the options choose."""
+"""A run over packets: explains, counts and shows the questions that the options choose."""
 from . import page
 from .explaining import Explaining
-from .groups import Groups
 from .options import chooser, span_of_text
-from .report import Row, Summary, restart_text, written
+from .report import Row, Summary, Teller, restart_text, written
 from .scripts import Scripts
-from .story import Teller
 from .tally import Tally
+from .times import SECOND
 
 
 class Run:
-    """What is printed and written of a run. `note` says what could not be read, `progress` is over before
-    anything is printed."""
+    """The output of a run. `note` takes remarks, `span` has the moments of the first and the last question."""
 
     def __init__(self, options, settings, begins, is_lossy, note, is_live=False):
         self.options, self.settings, self.note, self.tally = options, settings, note, Tally()
@@ -21,13 +19,11 @@ class Run:
             self.explaining.history.tell(*span_of_text(text, begins))
         self.teller = Teller(settings, self.explaining.history)
         self.is_chosen = chooser(options, begins)
-        self.groups = Groups() if options.html else None
-        self.scripts = Scripts(options.script, settings) if options.script else None
-        self.explaining.upstream.record = self.scripts
+        self.groups = page.Groups() if options.html else None
+        self.scripts = self.explaining.upstream.record = Scripts(options.script, settings) if options.script else None
         self.span, self.has_chosen, self.said = None, False, 0
 
     def settled(self, question):
-        """Takes a question whose fate is known."""
         first, last = self.span or (question.moment, question.moment)
         self.span = min(first, question.moment), max(last, question.moment)
         if not self.is_chosen(question):
@@ -44,38 +40,24 @@ class Run:
             self.groups.add(row)
 
     def show(self, row):
-        """Prints what was asked for of a question."""
-        options = self.options
+        options, is_different = self.options, row.is_different()
         is_listed = not options.summary and not options.html
-        if options.json:
-            if is_listed:
-                print(written(row.object()))
-            return
-        is_different = row.is_different()
-        if is_listed or is_different:
-            print(row.line())
-        if is_different:
-            print("\n".join(row.differs()))
+        if options.json and is_listed:
+            print(written(row.object()))
+        elif not options.json and (is_listed or is_different):
+            print("\n".join([row.line(), *(row.differs() if is_different else ())]))
 
     def show_restarts(self):
-        """Prints that the service began anew, once each time."""
+        """Prints that the service began anew, once for each restart."""
         begun = [each for each in self.explaining.history.restarts if each.begun is not None]
         for each in begun[self.said :]:
-            print(written({"begun_anew_by": each.begun / 1_000_000}) if self.options.json else restart_text(each))
+            print(written({"begun_anew_by": each.begun / SECOND}) if self.options.json else restart_text(each))
         self.said = len(begun)
 
     def notes(self):
-        """What is to be said of the traffic, a line each."""
-        yield from self.explaining.clock.notes
-        yield from self.explaining.traffic.notes(self.settings)
-
-    def end(self):
-        """Explains what is left, and prints what is said at the end; gives whether an answer is different."""
-        self.explaining.end()
-        return self.finish()
+        return [*self.explaining.clock.notes, *self.explaining.traffic.notes()]
 
     def finish(self):
-        """Prints the counts."""
         summary = Summary(self.tally, self.explaining)
         if self.scripts:
             self.scripts.write()
@@ -83,8 +65,6 @@ class Run:
             page.write(self.options, self.settings, self.groups, summary)
         if self.options.json:
             print(written(summary.object()))
-            return self.tally.differs()
-        if self.options.summary:
-            print("\n".join(summary.tables()))
-        print("\n".join(summary.verdict()))
-        return self.tally.differs()
+        else:
+            print("\n".join([*(summary.tables() if self.options.summary else ()), *summary.verdict()]))
+        return self.tally.all["different"] > 0

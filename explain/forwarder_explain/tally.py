@@ -1,66 +1,49 @@
-"""Counts of questions and queries, for a summary. Their size does not grow with the number of
-questions."""
+"""Counts of questions and queries for a summary. Their size does not grow with the number of questions."""
 from collections import Counter, defaultdict
 
 from . import judge
+from .times import MILLISECOND
 from .upstream import ANSWERED, REPLIED
 from .wording import address_text, duration, server_text
 
-REASONS = {
-    0: "answered",
-    1: "not one question",
-    2: "operation not served",
-    3: "type or class not served",
-    4: "no route",
-    5: "questions full",
-    6: "inquiries full",
-    7: "no port",
-    8: "all tries failed",
-    9: "deadline",
-    10: "aliases",
-    11: "too large",
-    12: "expired data",
-    13: "denied by the configuration",
-}
-MOST_SHOWN, MOST_CLIENTS = 10, 20  # of queries that no question wants, and of the clients that asked most
-MOST_COUNTED = 10_000  # clients with counts of their own, and ways in which queries to one server failed
-MOST_SLOW = 5
-OTHERS = "others"
+REASONS = (
+    "answered", "not one question", "operation not served", "type or class not served", "no route", "questions full",
+    "inquiries full", "no port", "all tries failed", "deadline", "aliases", "too large", "expired data",
+    "denied by the configuration",
+)  # fmt: skip
+MOST_SHOWN, MOST_CLIENTS, MOST_SLOW = 10, 20, 5  # of queries that no question wants, of clients, of slow questions
+MOST_COUNTED = 10_000  # clients with counts of their own, and ways in which queries to a server failed
+OTHERS, NUMBER = "others", lambda each: -each[1].number  # the latter is the order of groups
+FINE, FINEST = 9_950, 100  # microseconds: shorter times are shown, and so counted, by the finest unit
 
 
 class Times:
-    """Times in microseconds, those together that are shown alike."""
+    """Times in microseconds, counted together if they are shown alike."""
 
     def __init__(self):
         self.counts, self.number = {}, 0
 
-    def add(self, micros, shown=None):
-        """Takes a time, and how it is shown, if that is known."""
-        shown = shown or duration(micros)
-        least, count = self.counts.get(shown, (micros, 0))
-        self.counts[shown] = min(least, micros), count + 1
+    def add(self, micros):
+        unit = FINEST * round(micros / FINEST) if micros < FINE else MILLISECOND * round(micros / MILLISECOND)
+        self.counts[unit] = self.counts.get(unit, 0) + 1
         self.number += 1
 
     def spread(self):
-        """Median and 99 %, as text."""
         if not self.number:
             return "-", "-"
-        in_order = sorted((least, count, shown) for shown, (least, count) in self.counts.items())
-        return tuple(
-            self.at(in_order, place) for place in (self.number // 2, min(self.number - 1, self.number * 99 // 100))
-        )
+        in_order = sorted(self.counts.items())
+        return self.at(in_order, self.number // 2), self.at(in_order, min(self.number - 1, self.number * 99 // 100))
 
     @staticmethod
     def at(in_order, place):
-        for _, count, shown in in_order:
-            if place < count:
-                return shown
+        for micros, count in in_order:
             place -= count
-        return in_order[-1][2]
+            if place < 0:
+                return duration(micros)
 
 
 class Group:
-    """Questions of one reason or client, or queries to one server."""
+    """Questions of a reason or client, or queries to a server."""
 
     def __init__(self):
         self.number = self.cached = self.failed = 0
@@ -72,8 +55,7 @@ class Group:
 
 
 class Tally:
-    """What a summary says, without the questions themselves. `kinds` counts answers by verdict, `all` all
-    questions, `open` the open ones by the reason."""
+    """All counts of a run: `kinds` of answers by verdict, `all` of questions, `open` of open answers by reason."""
 
     def __init__(self):
         self.questions = self.answers = self.refused = self.queries = self.other_queries = 0
@@ -82,12 +64,10 @@ class Tally:
         self.reasons, self.servers, self.clients = (defaultdict(Group) for _ in range(3))
 
     def add(self, row):
-        """Counts a question."""
-        verdict, took = row.verdict, row.took
-        reason = reason_of(row)
+        verdict, took, reason = row.verdict, row.took, reason_of(row)
         self.questions += 1
         self.all[verdict.kind] += 1
-        if row.answer is None:
+        if took is None:
             self.unanswered[row.outcome()] += 1
             self.refused += row.is_refused()
         else:
@@ -97,13 +77,13 @@ class Tally:
                 self.open[verdict.why if len(self.open) < MOST_SHOWN else OTHERS] += 1
         client = address_text(row.question.peer[0])
         client = client if client in self.clients or len(self.clients) < MOST_COUNTED else OTHERS
-        has_failed, shown = row.failed(), duration(took) if took is not None else None
+        has_failed = row.failed()
         for group in (self.reasons[reason], self.clients[client]):
             group.number += 1
             group.cached += reason == (0, False)
             group.failed += has_failed
             if took is not None:
-                group.times.add(took, shown)
+                group.times.add(took)
         if took is not None and (len(self.slow) < MOST_SLOW or took > self.slow[-1][0]):
             self.slow = sorted([*self.slow, (took, row.line())], key=lambda each: -each[0])[:MOST_SLOW]
 
@@ -130,26 +110,15 @@ class Tally:
 
     def by_server(self):
         total = sum(group.number for group in self.servers.values())
-        for server, group in sorted(self.servers.items(), key=lambda each: -each[1].number):
-            yield server, (
-                f"{group.number:,}",
-                f"{100 * group.number / total:.0f} %",
-                *group.times.spread(),
-                f"{group.failed:,}",
-                ", ".join(f"{count} {word}" for word, count in group.how.most_common()) or "-",
-            )
+        for server, group in sorted(self.servers.items(), key=NUMBER):
+            share = f"{100 * group.number / total:.0f} %"
+            how = ", ".join(f"{count} {word}" for word, count in group.how.most_common()) or "-"
+            yield server, (f"{group.number:,}", share, *group.times.spread(), f"{group.failed:,}", how)
 
     def by_client(self):
-        for client, group in sorted(self.clients.items(), key=lambda each: -each[1].number)[:MOST_CLIENTS]:
-            yield client, (
-                f"{group.number:,}",
-                f"{100 * group.cached / group.number:.0f} %",
-                f"{group.failed:,}",
-                group.times.spread()[0],
-            )
-
-    def differs(self):
-        return self.all[judge.DIFFERENT] > 0
+        for client, group in sorted(self.clients.items(), key=NUMBER)[:MOST_CLIENTS]:
+            cached = f"{100 * group.cached / group.number:.0f} %"
+            yield client, (f"{group.number:,}", cached, f"{group.failed:,}", group.times.spread()[0])
 
 
 def reason_of(row):
@@ -159,7 +128,6 @@ def reason_of(row):
 
 
 def reason_text(reason, is_asked):
-    """The row of a reason in a table."""
     if reason == 0:
         return f"0 {REASONS[0]} {'by a server' if is_asked else 'from the cache'}"
     return f"{reason} {REASONS[reason]}" if reason > 0 else "- no reason is shown"

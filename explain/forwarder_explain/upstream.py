@@ -1,75 +1,83 @@
-"""Queries to servers and their replies: which belong together, and what became of each query."""
-from collections import OrderedDict
-
+"""Queries to servers and their replies."""
 from . import content, messages
-from .configuration import UNREACHABLE
-from .events import Query, Reply
-from .messages import HEADER
-from .times import LATE_REPLY, MILLISECOND, ORDER, SECOND, TICK
+from .events import Bounded, Query, Reply
+from .messages import HEADER, OPERATION
+from .times import CUT_WAITS, LATE_REPLY, MILLISECOND, ORDER, TICK
 from .wording import duration, shown
 
 QUERY_FLAGS = b"\x01\0\0\1\0\0\0\0\0\0"  # RD, and one question, as the forwarder asks
-MOST_PATHS = 20_000
-CUT_WAITS = 2 * SECOND  # in which a connection follows a reply that was cut
+MOST_PATHS, MOST_FORGED = 20_000, 100_000  # ways of queries, and records of dropped messages, that are remembered
 ANSWERED, CUT, MALFORMED, REFERRAL, LAME = "answered", "cut", "malformed", "referral", "lame"
 UNTAKEN, MISSING = "replied and not taken", "not captured whole"
 REPLIED = {ANSWERED, CUT, MALFORMED, REFERRAL, LAME, UNTAKEN, *messages.CODES}
+UNREACHABLE = {  # by the codes of ICMP (RFC 792; RFC 1122, 3.2.2.1; RFC 1812, 5.2.7.1)
+    0: "network unreachable", 1: "host unreachable", 2: "no such protocol", 3: "port closed",
+    4: "too large for the way", 9: "network forbidden", 10: "host forbidden", 13: "forbidden by a packet filter",
+}  # fmt: skip
 
 
 class Upstream:
-    """The servers' side. `waiting` has the questions that wait for each name and type; `history` takes what
-    replies carry; `latest` is the last query for each name and type, `open` those whose time is not over. The service was last
-    `seen` to send something at a moment, and last asked each server at that of `sent`. `record` keeps all for a script, if one is wanted."""
+    """The servers' side. `waiting` has the questions that wait for each name and type, `latest` the last query for it,
+    `open` the queries whose time is not over, `history` the content of replies. The service last sent a packet at
+    `seen`, and a query to each server at `sent`. `record` keeps all for a script, if one is wanted."""
 
     def __init__(self, configuration, history, clock, tell):
         self.configuration, self.history, self.waiting = configuration, history, {}
         self.clock, self.tell = clock, tell
         self.ask = configuration.limits["ask_ms"] * MILLISECOND
-        self.paths, self.latest, self.open, self.cuts = OrderedDict(), OrderedDict(), OrderedDict(), []
+        self.paths, self.latest, self.open, self.cuts = Bounded(MOST_PATHS), Bounded(MOST_PATHS), {}, []
         self.foreign, self.seen, self.record, self.sent = 0, 0, None, {}
 
     # Queries.
 
     def datagram(self, moment, source, target, octets):
-        """Takes a datagram to a server."""
-        asked = messages.question_in(octets[2:]) if octets[2:12] == QUERY_FLAGS else None
+        asked, query = asked_in(octets), None
         if asked is None:
             self.foreign += 1
-            self.put_path(("udp", source), None)
-            return
-        query = Query(moment, "udp", target, source, octets[:2], asked)
-        self.put_path(("udp", source), query)
-        self.begin(query)
-
-    def put_path(self, path, query):
-        self.paths[path] = query
-        self.paths.move_to_end(path)
-        if len(self.paths) > MOST_PATHS:
-            self.paths.popitem(last=False)
+        else:
+            query = Query(moment, "udp", target, source, octets[:2], asked)
+        self.paths["udp", source] = query
+        if query is not None:
+            self.begin(query)
 
     def begin(self, query):
-        """A query left."""
         key = query.asked.same
-        waiting = self.waiting.get(key, ())
-        before = self.latest.get(key)
+        waiting, before = self.waiting.get(key, ()), self.latest.get(key)
         query.is_wanted = bool(waiting)
         if before is not None and waiting:
             self.follow(before, query, waiting)
         if waiting and not query.is_shared:
-            self.history.note_query(key)
-        for question in waiting:
+            self.history.asked.add(hash(key))
+        for question in list(waiting):
             question.tries.append(query)
-        self.latest[key] = self.open[id(query)] = query
+            self.want_alone(question, key)
+        self.open[id(query)] = query
         self.seen = query.moment
         if not query.is_lacked:
             self.sent[query.server] = query.moment
-        self.latest.move_to_end(key)
-        if len(self.latest) > MOST_PATHS:
-            self.latest.popitem(last=False)
+        self.latest[key] = query
         self.tell(query)
 
+    def want_alone(self, question, key):
+        """A query for a name leaves: so no alias of the name is cached, and its target is not yet wanted."""
+        place = question.wanted.index(key) + 1
+        leads = {each.reply.leads for each in question.tries if each.reply}
+        if place < len(question.wanted) and question.wanted[place][0] not in leads:
+            self.leave(question, place)
+            del question.wanted[place:]
+            question.tries = [each for each in question.tries if each.asked.same in question.wanted]
+
+    def leave(self, question, place=0):
+        """A question no longer waits for the names that it wants from a place on."""
+        for key in set(question.wanted[place:]) - set(question.wanted[:place]):
+            waiting = self.waiting.get(key)
+            if waiting and question in waiting:
+                waiting.remove(question)
+                if not waiting:
+                    del self.waiting[key]
+
     def follow(self, before, query, waiting):
-        """A query follows another one for the same: the next try of one inquiry, or another program's."""
+        """A query follows another for the same question: the next try of an inquiry, or another program's."""
         passed = query.moment - before.moment
         since = min(each.moment for each in [each for each in waiting if each.over is None] or waiting)
         if before.is_open(query.moment, self.ask - TICK) and before.transport == query.transport:
@@ -84,7 +92,6 @@ class Upstream:
             query.number = before.number + 1
 
     def asking(self, now):
-        """How many queries wait for a reply."""
         while self.open:
             key, query = next(iter(self.open.items()))
             if query.is_open(now, self.ask):
@@ -102,7 +109,6 @@ class Upstream:
     # Replies.
 
     def reply(self, moment, query, source, octets, is_cut):
-        """Takes a message on the path of a query, from whomever it came."""
         if is_cut and source == query.server and len(octets) >= HEADER:
             self.end(query, MISSING, moment)
             return
@@ -115,15 +121,14 @@ class Upstream:
         if self.record:
             self.record.reply(query, moment, source, octets, not why)
         if why:
-            query.unfit.append((moment, why))
+            query.unfit += ((moment, why),)
             self.drop(octets, f"it came {why}")
-            return
-        self.fitting(moment, query, octets)
+        else:
+            self.fitting(moment, query, octets)
 
     def is_late(self, query, moment):
-        """Whether a reply came after the time of its query, as far as packets show that: either the next query
-        left, or the service was seen to go on after that time. A gap in which the clock may have been set is
-        noted."""
+        """Whether packets show that a reply came after the time of its query: the next query left, or the service was
+        seen after that time. A gap in which the clock may have been set is noted."""
         if moment - query.moment < self.ask + TICK:
             return False
         if self.latest.get(query.asked.same) is not query or self.seen >= query.moment + self.ask:
@@ -132,28 +137,26 @@ class Upstream:
         return False
 
     def fitting(self, moment, query, octets):
-        """Takes a reply that fits its query."""
-        code = messages.code(octets)
+        how, code, found = ANSWERED, messages.code(octets), None
         if messages.is_cut(octets):
-            self.end(query, CUT, moment)
+            how = CUT
+        elif code not in (0, 3):
+            how = messages.CODES[code]
+        else:
+            try:
+                found = content.Walking(self.configuration, octets, query.asked).walk()
+            except messages.Malformed:
+                how = MALFORMED
+        if found is content.LAME:
+            how = LAME if octets[6:8] != b"\0\0" else REFERRAL
+        self.end(query, how, moment)
+        if how is CUT:
             self.cuts = [each for each in self.cuts if each.ended > moment - CUT_WAITS] + [query]
-            return
-        if code not in (0, 3):
-            self.end(query, messages.CODES[code], moment)
-            return
-        try:
-            found = content.walk(self.configuration, octets, query.asked)
-        except messages.Malformed:
-            self.end(query, MALFORMED, moment)
-            return
-        if found.lame:
-            self.end(query, LAME if octets[6:8] != b"\0\0" else REFERRAL, moment)
-            return
-        self.end(query, ANSWERED, moment)
-        self.accept(query, Reply(query, moment, found.pieces, found.leads_to and found.leads_to.lower()))
+        elif how is ANSWERED:
+            self.accept(query, Reply(query, moment, found.pieces, found.leads_to and found.leads_to.lower()))
 
     def accept(self, query, reply):
-        """Takes what a reply carries, and has the questions wait for the name that it leads to."""
+        """Takes the content of a reply, and has the questions wait for the name to which it leads."""
         query.reply = reply
         if self.record:
             self.record.lead(reply)
@@ -161,57 +164,52 @@ class Upstream:
         for piece in reply.pieces:
             self.history.put(piece, reply, is_sure)
         if reply.leads:
-            kind, klass = query.asked.kind, query.asked.klass
             for question in list(self.waiting.get(query.asked.same, ())):
-                self.want(question, reply.leads, kind, klass, reply.moment)
+                self.want(question, reply.leads, query.asked.kind, query.asked.klass, reply.moment)
 
     def want(self, question, name, kind, klass, moment):
-        """A question waits for another name, too, and for those to which cached aliases lead on from it."""
+        """A question waits for another name, too, and for the names to which cached aliases lead from there."""
         for _ in range(content.MOST_ALIASES + 1):
             key = name, kind, klass
             again = key in question.wanted
             question.wanted.append(key)
             if again:
                 return
-            self.join(question, key, moment)
-            name = self.history.alias(name, klass, moment)
-            if name is None:
+            under_way = self.join(question, key, moment)
+            alias = self.history.alias(name, klass, moment)
+            if alias is None or under_way is not None and alias.moment() < under_way.moment:
                 return
+            name = alias.rows[0].lower()
 
     def join(self, question, key, moment):
-        """Puts a question among those that wait for a name and type; it joins a query that is under way."""
         self.waiting.setdefault(key, []).append(question)
         under_way = self.latest.get(key)
-        if under_way is not None and under_way.is_open(moment, self.ask):
-            if not question.tries:
-                question.joined = True
-            question.tries.append(under_way)
+        if under_way is None or not under_way.is_open(moment, self.ask):
+            return None
+        question.joined |= not question.tries
+        question.tries.append(under_way)
+        return under_way
 
     def drop(self, octets, why):
-        """Notes the records of a message that has to be dropped."""
         try:
-            self.history.forge(messages.records(octets), why)
+            for each in sum(messages.records(octets), []):
+                if len(self.history.forged) < MOST_FORGED:
+                    self.history.forged.setdefault((each.key, each.kind, each.data), why)
         except messages.Malformed:
             pass
 
     def unreachable(self, news, query):
-        """Takes ICMP's news of a query; without the query, of what the news has of it."""
+        """Takes ICMP's news of a query, which may be all that the capture has of it."""
         how = UNREACHABLE.get(news.code, "unreachable")
         if query is not None:
             self.fail(query, how, news.moment)
-            return
-        asked = messages.question_in(news.octets[2:]) if news.octets[2:12] == QUERY_FLAGS else None
-        if asked is not None:
+        elif asked := asked_in(news.octets):
             query = Query(news.moment, news.transport, news.target, news.source, news.octets[:2], asked)
             query.is_lacked = True
-            if self.waiting.get(asked.same):
-                self.begin(query)
-            else:
-                self.tell(query)
+            (self.begin if self.waiting.get(asked.same) else self.tell)(query)
             self.end(query, how, news.moment)
 
     def fail(self, query, how, moment):
-        """The path of a query failed."""
         if self.record and query.how is None:
             self.record.ending(query, moment)
         self.end(query, how, moment)
@@ -219,29 +217,27 @@ class Upstream:
     # Connections.
 
     def connect(self, connection, moment):
-        """A connection to a server begins: the query over it is known later, or never."""
+        """A connection to a server begins: its query is known later, or never."""
         fitting = [each for each in self.cuts if each.server == connection.server]
-        query = Query(moment, "tcp", connection.server, connection.client)
-        connection.query = query
+        query = connection.query = Query(moment, "tcp", connection.server, connection.client)
         if fitting:
             self.cuts.remove(fitting[0])
             query.asked = fitting[0].asked
             self.begin(query)
 
     def carried(self, connection, octets):
-        """What was asked over a connection. It is another program's if not in the forwarder's form."""
+        """Takes the question over a connection. One not in the forwarder's form is another program's."""
         query = connection.query
         if query is None or query.identifier is not None:
             return
-        asked = messages.question_in(octets[2:]) if octets[2:12] == QUERY_FLAGS else None
+        asked = asked_in(octets)
         if asked is None or query.asked is not None and query.asked.same != asked.same:
             self.withdraw(query)
             query = connection.query = asked and Query(query.moment, "tcp", query.server, query.source)
         if query is None:
             self.foreign += 1
             return
-        is_known, query.identifier = query.asked is not None, octets[:2]
-        query.asked = asked
+        is_known, query.identifier, query.asked = query.asked is not None, octets[:2], asked
         if not is_known:
             self.begin(query)
 
@@ -257,7 +253,7 @@ class Upstream:
         self.open.pop(id(query), None)
 
     def forget(self, now):
-        """Drops what no packet to come can be of."""
+        """Drops queries to which no later packet can belong."""
         since = now - self.ask - LATE_REPLY
         for found in (self.paths, self.latest):
             while found:
@@ -265,6 +261,10 @@ class Upstream:
                 if query is not None and query.moment >= since or query is None and len(found) < MOST_PATHS // 2:
                     break
                 del found[key]
+
+
+def asked_in(octets):
+    return messages.question_in(octets[2:]) if octets[2:12] == QUERY_FLAGS else None
 
 
 def strangeness(query, source, octets):
@@ -277,9 +277,9 @@ def strangeness(query, source, octets):
         return "before the query"
     if octets[:2] != query.identifier:
         return "with another identifier"
-    if not messages.is_response(octets):
+    if octets[2] < 128:
         return "as a question"
-    if messages.operation(octets):
+    if octets[2] & OPERATION:
         return "of another operation"
     written = query.asked.written
     if octets[4:6] == b"\0\1" and octets[HEADER : HEADER + len(written)] == written:

@@ -1,4 +1,4 @@
-"""Tests of a service that works without a stop and is too slow: its questions wait for longer and longer."""
+"""Tests of a service without a stop that is too slow: questions wait for longer and longer."""
 from hints import explained
 from making import asked
 from office import FIRST, OFFICE, ONE, Scene
@@ -10,8 +10,8 @@ SETTINGS = OFFICE.replace("tries = 2\n", "tries = 2\ninquiries = 256\n")
 
 def backlog(count, forged=None):
     """So many questions come soon after one another, and wait up to 1.5 s until each is read. From number 430 on each
-    tenth one asks for what number 250 before asked: this was replied to when the question had come, and is cached when
-    it is read. One answer may be forged."""
+    tenth question repeats the name from 250 questions before: the reply came after the question, and is cached when the
+    service reads the question. An answer may be forged."""
     scene = Scene()
     for number in range(count):
         is_again = number >= 430 and number % 10 == 0
@@ -41,6 +41,3 @@ def a_fault_stays_one(program):
     for forged in (350, 400, 440, 499):
         printed, _, status = explained(program, SETTINGS, backlog(COUNT, forged), "--summary")
         yield forged, (printed.count("DIFFERENT:"), status), (1, 1)
-
-
-ALL = [questions_wait_long, a_fault_stays_one]

@@ -18,7 +18,7 @@ NAMES = [f"{name}.example.com" for name in ("www", "mail", "new", "chat", *map("
 
 
 class Hour(Scene):
-    """The questions of an hour, in their order, and all that comes of them."""
+    """The questions of an hour, in order, and the packets for them."""
 
     def __init__(self, seed):
         super().__init__()
@@ -50,7 +50,7 @@ class Hour(Scene):
         return self.pcap()
 
     def act(self, at, kind, *rest):
-        """Puts into the capture what the step does, and what comes of it."""
+        """Puts an action of the step into the capture, and any reply to it."""
         if kind == "reply":
             self.udp(at + 0.2, FORWARDER, rest[1], rest[3])
         elif kind == "ask-udp":

@@ -6,7 +6,6 @@ import itertools
 import os
 import pathlib
 import queue
-import shlex
 import signal
 import subprocess
 import tempfile
@@ -17,8 +16,9 @@ import unittest.mock
 from types import SimpleNamespace
 
 import many
-from forwarder_explain import command, configuration, following, growing, times
+from forwarder_explain import command, configuration, files, following, times
 from forwarder_explain.capture import Capture
+from leaving_out import packets_of
 from making import START, asked
 from office import FIRST, ONE, OTHER, SECOND, Scene
 from repository.packing import address
@@ -26,7 +26,7 @@ from repository.packing import address
 HERE = pathlib.Path(__file__).resolve().parent
 CAPTURES = HERE / "captures"
 TOOL = HERE.parent / "forwarder-explain"
-LONGEST = 30  # seconds that a line may take; it takes one, and on a machine that is short of time ten
+LONGEST = 30  # seconds for a line: one is usual, ten on a busy machine
 PIECED = "answers", "connections", "dropped", "failures", "forgotten_alias", "gaps", "kept_before", "lost", "refused"
 
 
@@ -51,7 +51,7 @@ class Followed:
         self.came.put(None)
 
     def lines(self, count):
-        """The next lines, each of which has to come soon; fewer if they do not."""
+        """The next lines, each within a time; fewer if they are late."""
         found = []
         with contextlib.suppress(queue.Empty):
             while len(found) < count:
@@ -66,14 +66,13 @@ class Followed:
         self.run.stdin.flush()
 
     def wait(self):
-        """Waits until all that was written was read."""
+        """Waits until all octets were read."""
         until = time.monotonic() + LONGEST
         while time.monotonic() < until and any(fcntl.ioctl(self.run.stdin, termios.FIONREAD, bytes(4))):
             time.sleep(0.01)
 
     def end(self, number=None):
-        """The lines that are left, standard error and the status, after the end of the pipe or a
-        signal."""
+        """The remaining lines, standard error and the status, after the end of the pipe or a signal."""
         if number is None:
             self.run.stdin.close()
         else:
@@ -102,8 +101,8 @@ def in_pieces(octets, sizes):
 
 
 def through_a_pipe(program):
-    """Pieces that end anywhere in a packet: what is said is what a whole run says, in another
-    order. A restart is said twice: when it shows, and at the end."""
+    """Pieces that end anywhere in a packet: the lines are those of a whole run, in a new order. A restart has a line
+    once it shows, and again at the end."""
     for name in PIECED:
         run, octets = Followed(program, "-"), capture_of(name)
         for piece in in_pieces(octets, (7, 3, 61, 150, 700)):
@@ -117,19 +116,9 @@ def through_a_pipe(program):
         yield name, met, (sorted(wanted), sorted(errors.splitlines()), int("DIFFERENT" in "".join(wanted)))
 
 
-def packets_of(octets):
-    """A classic capture's header, and its packets with the heads of each."""
-    packets, at = [], 24
-    while at < len(octets):
-        size = 16 + int.from_bytes(octets[at + 8 : at + 12], "little")
-        packets.append(octets[at : at + size])
-        at += size
-    return octets[:24], packets
-
-
 def in_a_folder(program):
-    """Two names take turns, as in a ring: each file has some packets, the first half of one before
-    the other half. Each line comes soon after its answer. A file is removed, and a text is no capture.
+    """Two names take turns, as in a ring: each file has some packets, each in two halves. Each line comes soon after
+    its answer. A file is removed, and a text is no capture.
     """
     head, packets = packets_of(capture_of("answers"))
     wanted = stored("answers", "expected").splitlines(keepends=True)
@@ -157,8 +146,8 @@ def in_a_folder(program):
 
 
 def files_that_get_other_names(program):
-    """The capture begins anew, as with packaging/keep_captures: the file of before gets another name, and is not read
-    again. A file that gets another name before it was read is read."""
+    """The capture begins anew, as with packaging/keep_captures: the old file is renamed, and is not read again. A file
+    that is renamed before it was read is read."""
     head, packets = packets_of(capture_of("answers"))
     wanted = stored("answers", "expected").splitlines(keepends=True)
     with tempfile.TemporaryDirectory() as folder:
@@ -177,15 +166,15 @@ def files_that_get_other_names(program):
         first, second, kept = (pathlib.Path(folder) / name for name in ("seen.pcap0", "seen.pcap1", "kept.1.pcap1"))
         first.write_bytes(head + b"".join(packets[:6]))
         second.write_bytes(head + b"".join(packets[6:]))
-        files = growing.Ring(folder, reader, said.append).captures()
-        size = len(next(files).read(1 << 20))
+        found = files.Ring(folder, reader, said.append).captures()
+        size = len(next(found).read(1 << 20))
         second.rename(kept)
         wanted = len(head + b"".join(packets[:6])), head + packets[6][:16], []
-        yield "queued", (size, next(files).read(24 + 16), said), wanted
+        yield "queued", (size, next(found).read(24 + 16), said), wanted
 
 
 def a_file_written_anew(program):
-    """tcpdump begins anew and empties its file while that is read."""
+    """tcpdump begins anew and empties a file while the file is read."""
     head, packets = packets_of(capture_of("answers"))
     wanted = stored("answers", "expected").splitlines(keepends=True)
     with tempfile.TemporaryDirectory() as folder:
@@ -201,7 +190,7 @@ def a_file_written_anew(program):
 
 
 def ended_by_a_signal(program):
-    """Questions that are open are explained, as at the end of a capture, and the summary is printed.
+    """Open questions are explained, as at the end of a capture, and the summary is printed.
     """
     for number in (signal.SIGINT, signal.SIGTERM):
         run = Followed(program, "-", "--summary")
@@ -222,8 +211,8 @@ def ended_by_a_signal(program):
 
 
 class Ended(following.Follower):
-    """A signal comes before the first read. The pipe has the packets of a capture by then, and gets
-    `more` for each packet that is taken."""
+    """A signal comes before the first read. The pipe has the packets of a capture by then, and gets `more` for each
+    packet taken."""
 
     def __init__(self, program, octets, more):
         options = command.arguments(["--program", program, "--follow", "--summary", "office.toml", "-"])
@@ -252,8 +241,7 @@ class Ended(following.Follower):
 
 
 def ended_before_the_first_packet(program):
-    """All that was in the pipe as the signal came is explained. A pipe that never becomes empty is read
-    once more."""
+    """All packets from before the signal are explained. A pipe that never becomes empty is read once more."""
     octets = capture_of("failures")
     packets = packets_of(octets)[1]
     yield "a pipe", Ended(program, octets, b"").counted(), (len(packets), 6)
@@ -261,12 +249,11 @@ def ended_before_the_first_packet(program):
 
 
 def without_an_answer(program):
-    """The answer to a question is missing. That is said at 5,000 ms, two seconds after the deadline,
-    since the service goes on; what is asked at 8,000 ms shows that it is later."""
+    """The answer to a question is missing. The line comes at 5,000 ms, two seconds after the deadline; a question at
+    8,000 ms shows the time."""
     scene, name = Scene(), asked("www.example.com")
     scene.question(0, ONE, 1, name)
-    port = scene.query(0.2, FIRST, name)
-    scene.reply(10.2, FIRST, port, name, answers=[address(300, 192, 0, 2, 80)])
+    scene.replied(0.2, 10.2, FIRST, name, answers=[address(300, 192, 0, 2, 80)])
     scene.fetched(4000, OTHER, 2, asked("new.example.com"), 60, (192, 0, 2, 81))
     scene.fetched(8000, OTHER, 3, asked("more.example.com"), 60, (192, 0, 2, 82))
     run = Followed(program, "-")
@@ -279,15 +266,14 @@ def without_an_answer(program):
 
 
 def reason_among_many(program):
-    """500 questions a second are answered from the cache. One waits in vain: both servers are silent, and
-    its failure is not in the capture."""
+    """500 questions a second are answered from the cache. A further question waits in vain: both servers are silent,
+    and the capture lacks the failure."""
     scene, www, lost = Scene(), asked("www.example.com"), asked("lost.example.com")
     scene.fetched(0, OTHER, 0, www, 300, (192, 0, 2, 80))
     for place in range(10, 3500):
         at = 2 * place + 1
         left = 300 - -(-(at - 10) // 1000)  # accepted at 10 ms
-        scene.question(at, f"10.0.1.9:{2000 + place}", place, www)
-        scene.answer(at + 0.1, f"10.0.1.9:{2000 + place}", place, www, answers=[address(left, 192, 0, 2, 80)])
+        scene.told(at, at + 0.1, f"10.0.1.9:{2000 + place}", place, www, answers=[address(left, 192, 0, 2, 80)])
     scene.question(1000, ONE, 1, lost)
     scene.query(1000.2, FIRST, lost)
     scene.query(2001.2, SECOND, lost)
@@ -318,8 +304,8 @@ def how_far_behind(program):
 
 
 def ended_by_a_second_signal(program):
-    """A capture comes faster than it is explained. After one signal what was there is still explained, and after a
-    second one no more."""
+    """A capture comes faster than it is explained. After a signal the packets from before are still explained, and
+    after a second signal no more."""
     settings = configuration.read(CAPTURES / "office.toml", program)
     options = command.arguments(["--program", program, "--follow", "--summary", "office.toml", "-"])
     said, octets = [], capture_of("failures")
@@ -345,7 +331,7 @@ def ended_by_a_second_signal(program):
 
 
 def wrong_words(program):
-    """What is for whole captures alone is refused, and so is a folder that is not there."""
+    """Options for whole captures are refused, and so is a missing folder."""
     for words in (["--at", "14:03"], ["--to", "14:03"], ["--script", "s"]):
         printed, said, status = Followed(program, "-", *words).end()
         refusal = f"forwarder-explain: error: {words[0]} is not for --follow"
@@ -355,7 +341,7 @@ def wrong_words(program):
 
 
 def packet_by_packet(program):
-    """Each stored capture as it comes: what is said is what a whole run says, in another order."""
+    """Each stored capture packet by packet: the lines are those of a whole run, in a new order."""
     settings = configuration.read(CAPTURES / "office.toml", program)
     for path in sorted(CAPTURES.glob("*.pcap*")):
         wanted = stored(path.stem, "expected").splitlines()
@@ -368,7 +354,7 @@ def packet_by_packet(program):
 
 
 def known_later(program):
-    """Captures of which a later packet says more: as they come, some answers are open or have another time."""
+    """Captures whose later packets say more: packet by packet some answers are open or have another time."""
     settings = configuration.read(CAPTURES / "office.toml", program)
     for name, count in AFTERWARDS.items():
         path = next(CAPTURES.glob(f"{name}.pcap*"))
@@ -376,12 +362,12 @@ def known_later(program):
         yield name, sum("DIFFERENT" in line for line in printed), count
 
 
-# Captures that say more to a whole run, and how many answers are different as they come.
+# Captures that say more to a whole run: the number of answers called different packet by packet.
 AFTERWARDS = {"counted_loss_of_a_reply": 2}
 
 
 def followed(program, settings, octets, words=()):
-    """The lines of a capture that comes packet by packet, and what is said."""
+    """The lines of a capture that comes packet by packet, and the remarks."""
     os.environ["TZ"] = "UTC"
     time.tzset()
     options = command.arguments(["--program", program, "--follow", *words, "office.toml", "-"])
@@ -404,7 +390,7 @@ def nothing_grows(program):
             explaining = follower.run and follower.run.explaining
             if explaining:
                 kept = explaining.traffic.clients.count + len(explaining.due) + len(explaining.sent)
-                largest[0] = max(largest[0], kept + len(explaining.held) + len(follower.waiting))
+                largest[0] = max(largest[0], kept + len(explaining.held) + len(follower.order.waiting))
 
         put = following.Follower.take
         calls = iter(range(10**9))
@@ -414,21 +400,3 @@ def nothing_grows(program):
             followed(program, settings, many.many(count, 4.0))
         most.append(largest[0])
     yield most, most[1] < 1.2 * most[0], True
-
-
-ALL = [
-    through_a_pipe,
-    in_a_folder,
-    files_that_get_other_names,
-    a_file_written_anew,
-    ended_by_a_signal,
-    ended_before_the_first_packet,
-    without_an_answer,
-    reason_among_many,
-    how_far_behind,
-    ended_by_a_second_signal,
-    wrong_words,
-    packet_by_packet,
-    known_later,
-    nothing_grows,
-]

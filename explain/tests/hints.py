@@ -1,4 +1,4 @@
-"""Tests of what a run says of its configuration and of its options, in a folder of their own."""
+"""Tests of remarks on configuration and options, in a folder for each run."""
 import pathlib
 import tempfile
 
@@ -17,25 +17,23 @@ def explained(program, settings, capture, *options):
 
 
 def a_port_that_the_filter_lacks(program):
-    """The filter has port 53 alone. What a server at port 5353 replies is kept, ends, and is asked for again: that is
-    open. A forged answer of the other route stays different."""
+    """The filter has port 53 alone. The reply of a server at port 5353 is cached, expires, and is asked for again: the
+    answers are open. A forged answer of the second route stays different."""
     scene, name, www = Scene(), asked("db.corp.example"), asked("www.example.com")
     scene.fetched(0, OTHER, 1, www, 300, (192, 0, 2, 80))
     for at, number, left in ((1000, 2, 60), (2000, 3, 59), (90000, 4, 60)):
-        scene.question(at, ONE, number, name)
-        scene.answer(at + 10, ONE, number, name, answers=[address(left, 10, 0, 0, 71)])
+        scene.told(at, at + 10, ONE, number, name, answers=[address(left, 10, 0, 0, 71)])
     settings = OFFICE.replace("10.0.0.10:53", "10.0.0.10:5353")
     printed, said, status = explained(program, settings, scene.pcap())
     yield "open", (printed.splitlines()[-2], status), ("3 open: no packet of its servers' port is in the capture", 0)
     yield "hint", said, "forwarder-explain: seen.pcap: no packet of port 5353, which the configuration names\n"
-    scene.question(91000, ONE, 5, www)
-    scene.answer(91000.2, ONE, 5, www, answers=[address(209, 192, 0, 2, 66)])
+    scene.told(91000, 91000.2, ONE, 5, www, answers=[address(209, 192, 0, 2, 66)])
     yield "forged", explained(program, settings, scene.pcap())[2], 1
 
 
 def any_address(program):
-    """The service listens at all addresses of its machine: each address that clients ask is one. An answer that comes
-    from another one than was asked is different, and no client takes it."""
+    """The service listens at all addresses of its machine: each address asked by clients is the service's. An answer
+    from another address than was asked is different, and no client takes it."""
     scene, www = Scene(), asked("www.example.com")
     scene.fetched(0, ONE, 1, www, 300, (192, 0, 2, 80))
     query, found = message(2, QUERY, www), [address(295, 192, 0, 2, 80)]
@@ -51,7 +49,7 @@ def any_address(program):
 
 
 def configurations_that_fit_nothing(program):
-    """No packet is of a port or of an address of the configuration: that is said."""
+    """No packet is of a port or of an address of the configuration: a remark says so."""
     scene = Scene()
     scene.fetched(0, OTHER, 1, asked("www.example.com"), 300, (192, 0, 2, 80))
     settings = OFFICE.replace("10.0.0.53:53", "10.9.9.9:53").replace("192.0.2.", "198.51.100.")
@@ -61,7 +59,7 @@ def configurations_that_fit_nothing(program):
 
 
 def no_port_is_missing(program):
-    """A capture without a packet of any port of the configuration: the address is another one, or the port."""
+    """A capture without a packet of any port of the configuration: the configuration has another address or port."""
     scene = Scene()
     scene.fetched(0, OTHER, 1, asked("www.example.com"), 300, (192, 0, 2, 80))
     yield "53", explained(program, OFFICE, scene.pcap())[1], ""
@@ -72,7 +70,7 @@ def no_port_is_missing(program):
 
 
 def wrong_clients(program):
-    """What is no IPv4 address, nor one with a port, is refused."""
+    """Only IPv4 addresses are accepted, with or without a port."""
     scene = Scene()
     scene.fetched(0, OTHER, 1, asked("www.example.com"), 300, (192, 0, 2, 80))
     for client in ("foo", "10.0.0", "10.0.0.08", "10.0.0.256", "10.0.0.8:", "10.0.0.8:x", "10.0.0.8:65536", "::1"):
@@ -81,12 +79,3 @@ def wrong_clients(program):
         yield client, (printed, said.splitlines()[-1], status), ("", f"forwarder-explain: error: {wanted}", 2)
     for client in ("10.0.0.8", OTHER):
         yield client, explained(program, OFFICE, scene.pcap(), "--client", client)[1:], ("", 0)
-
-
-ALL = [
-    a_port_that_the_filter_lacks,
-    any_address,
-    configurations_that_fit_nothing,
-    no_port_is_missing,
-    wrong_clients,
-]

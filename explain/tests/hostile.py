@@ -1,4 +1,4 @@
-"""Captures with packets that anyone can send, and with clients that are more than clients."""
+"""Captures with packets that anyone can send, and with clients that are servers, too."""
 from making import asked
 from office import ACK, CORPORATE, FIRST, FORWARDER, ONE, OTHER, PLAIN, QUERY, REPLY, SECOND, SYN, Scene
 from repository.packing import TXT, address, framed, message, record
@@ -12,8 +12,7 @@ def short_answers():
     scene.question(0, ONE, 1, WWW)
     for count in range(2, 12):
         scene.udp(0.1 + count / 100, FORWARDER, ONE, (b"\0\1" + bytes(9))[:count])
-    port = scene.query(0.4, FIRST, WWW)
-    scene.reply(10.4, FIRST, port, WWW, answers=[address(300, 192, 0, 2, 80)])
+    scene.replied(0.4, 10.4, FIRST, WWW, answers=[address(300, 192, 0, 2, 80)])
     scene.answer(11, ONE, 1, WWW, answers=[address(300, 192, 0, 2, 80)])
     # A fault, if the service sent it: 300 - 4.990 s are left.
     scene.question(5000, ONE, 2, WWW)
@@ -32,35 +31,32 @@ def unreadable_after_a_silence():
 
 
 def from_port_0():
-    """A question and a forged reply come from port 0, to which nothing can be sent."""
+    """A question and a forged reply come from port 0, which can get no packet."""
     scene = Scene()
     scene.question(0, "10.0.0.9:0", 1, WWW)
     port = scene.query(0.2, FIRST, WWW)
     scene.reply(2.2, "192.0.2.1:0", port, WWW, answers=[address(300, 203, 0, 113, 66)])
     scene.reply(10.2, FIRST, port, WWW, answers=[address(300, 192, 0, 2, 80)])
     # 300 - 4.990 s are left.
-    scene.question(5000, ONE, 2, WWW)
-    scene.answer(5000.2, ONE, 2, WWW, answers=[address(295, 192, 0, 2, 80)])
+    scene.told(5000, 5000.2, ONE, 2, WWW, answers=[address(295, 192, 0, 2, 80)])
     return scene.pcap()
 
 
 def a_server_asks():
-    """A client is a server of the configuration, too, and asks from the port at which it is asked.
-    A fault: its second answer has another address."""
+    """A client is a server of the configuration, too, with one port for both. A fault: the second answer has a wrong
+    address."""
     scene = Scene()
     scene.fetched(0, CORPORATE, 1, WWW, 300, (192, 0, 2, 80))
     # 300 - 4.990 s are left.
-    scene.question(5000, CORPORATE, 2, WWW)
-    scene.answer(5000.2, CORPORATE, 2, WWW, answers=[address(295, 192, 0, 2, 81)])
+    scene.told(5000, 5000.2, CORPORATE, 2, WWW, answers=[address(295, 192, 0, 2, 81)])
     return scene.pcap()
 
 
 def one_port():
-    """A query by UDP and one over TCP have the same port of the service at one time."""
+    """A query by UDP and a query over TCP have one port of the service at one time."""
     scene, text, hello = Scene(), asked("text.example.com", TXT), b"\x0bhello world"
     scene.question(0, ONE, 1, text)
-    port = scene.query(0.2, FIRST, text)
-    scene.reply(3.2, FIRST, port, text, 0x8780)
+    scene.replied(0.2, 3.2, FIRST, text, 0x8780)
     scene.question(3.3, OTHER, 2, WWW)
     port = scene.query(3.5, FIRST, WWW)
     upstream = f"10.0.0.53:{port}"
@@ -75,8 +71,8 @@ def one_port():
 
 
 def one_identifier():
-    """Three questions of one client under one identifier at once, two of them for the same but for
-    RD. Their answers come in another order."""
+    """Three questions of a client under one identifier at once, two of them equal but for RD. The answers come in a
+    different order."""
     scene, mail = Scene(), asked("mail.example.com")
     scene.question(0, ONE, 7, WWW)
     port = scene.query(0.2, FIRST, WWW)
@@ -92,8 +88,8 @@ def one_identifier():
 
 
 def one_identifier_without_a_question():
-    """Two messages of one client under one identifier, which both get an answer without a question. The
-    answers come in another order."""
+    """Two messages of a client under one identifier; both get an answer without a question. The answers come in a
+    different order."""
     scene, nothing = Scene(), bytes(8)
     scene.udp(0, ONE, FORWARDER, b"\0\7\x11\0" + nothing)  # operation 2
     scene.udp(0.1, ONE, FORWARDER, b"\0\7\1\0" + nothing)
@@ -113,18 +109,16 @@ def forged_reply_used():
 
 
 def taken_late():
-    """A client over TCP takes its answers late. The first is of a server, and what this said is
-    cached meanwhile. The second is of the cache, and has expired when the client takes it."""
+    """A client over TCP takes its answers late. The first is of a server, whose reply is cached meanwhile. The second
+    is of the cache, and has expired when the client takes it."""
     scene, client = Scene(), "10.0.0.9:50000"
     first = framed(message(1, QUERY, WWW))
     scene.tcp(0, client, FORWARDER, 100, SYN)
     scene.tcp(0.1, FORWARDER, client, 900, SYN | ACK)
     scene.tcp(1, client, FORWARDER, 101, ACK, first)
-    port = scene.query(1.2, FIRST, WWW)
-    scene.reply(11.2, FIRST, port, WWW, answers=[address(4, 192, 0, 2, 80)])
+    scene.replied(1.2, 11.2, FIRST, WWW, answers=[address(4, 192, 0, 2, 80)])
     # Accepted at 11 ms: 4 - 0.489 s are left, and then 4 - 2.089 s.
-    scene.question(500, OTHER, 2, WWW)
-    scene.answer(500.2, OTHER, 2, WWW, answers=[address(3, 192, 0, 2, 80)])
+    scene.told(500, 500.2, OTHER, 2, WWW, answers=[address(3, 192, 0, 2, 80)])
     answer = framed(message(1, REPLY, WWW, [address(4, 192, 0, 2, 80)]))
     scene.tcp(2000, FORWARDER, client, 901, ACK, answer)
     scene.tcp(2100, client, FORWARDER, 101 + len(first), ACK, framed(message(3, QUERY, WWW)))
@@ -134,8 +128,8 @@ def taken_late():
 
 
 def forged_expired_data():
-    """Two questions get expired data when both tries are over. The second one joined the last try, and gets another
-    address: a fault, and no sign of a lost reply."""
+    """Two questions get expired data when both tries are over. The second question joined the last try, and gets a
+    wrong address: a fault, and no sign of a lost reply."""
     scene, old = Scene(), asked("old.example.com")
     scene.fetched(0, OTHER, 1, old, 1, (192, 0, 2, 79))
     scene.question(3000, ONE, 2, old)
@@ -149,7 +143,7 @@ def forged_expired_data():
 
 def forged_and_not_kept():
     """The answer that leaves when both tries are over lives for long: a fault, and no sign of a lost reply, since the
-    same is soon asked again."""
+    name is soon asked again."""
     scene, old = Scene(), asked("old.example.com")
     scene.fetched(0, OTHER, 1, old, 1, (192, 0, 2, 79))
     scene.question(3000, ONE, 2, old)
@@ -158,18 +152,3 @@ def forged_and_not_kept():
     scene.answer(5002.2, ONE, 2, old, answers=[address(430, 192, 0, 2, 79)])
     scene.fetched(5100, OTHER, 3, old, 60, (192, 0, 2, 79))
     return scene.pcap()
-
-
-ALL = [
-    short_answers,
-    unreadable_after_a_silence,
-    from_port_0,
-    a_server_asks,
-    one_port,
-    one_identifier,
-    one_identifier_without_a_question,
-    forged_reply_used,
-    taken_late,
-    forged_expired_data,
-    forged_and_not_kept,
-]

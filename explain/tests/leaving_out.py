@@ -1,7 +1,7 @@
 """Captures with packets left out: each single one, and pairs by a fixed seed.
 
-An answer may not be called different for that, if the capture says by its own count that it lost packets. A fault has
-to stay one where the capture lacks other packets, and does not count them.
+No answer may be different for such a loss, if the capture counts lost packets. A fault has to stay a fault without
+further packets, if the capture counts none.
 """
 import itertools
 import random
@@ -10,8 +10,8 @@ import struct
 from making import Capturing, block
 
 PAIRS = 60  # of a capture
-# Of captures with a fault the packets without which nothing shows it: the question, its answer, what was used, and
-# what shows when.
+# Of captures with a fault the packets that show the fault: question, answer, data used, and
+# moments.
 FAULTS = {
     "two_seconds_more": {1, 2, 4, 5},
     "two_seconds_less": {1, 2, 4, 6, 7},
@@ -33,7 +33,7 @@ FAULTS = {
 
 
 def packets_of(capture):
-    """What is before the packets of a capture, and the packets, with their headers."""
+    """The head of a capture, and the packets, with headers."""
     packets, at = [], 24
     if capture[:4] == b"\xd4\xc3\xb2\xa1":
         while at + 16 <= len(capture):
@@ -56,7 +56,7 @@ def without(capture, places):
 
 
 def losses_of(name, capture):
-    """The places of the packets that are left out of a capture, one time after another."""
+    """The places of the packets that are left out of a capture, time after time."""
     count = len(packets_of(capture)[1])
     if count > 200:
         return []
@@ -66,7 +66,7 @@ def losses_of(name, capture):
 
 
 def counted(capture):
-    """A capture as pcapng that says by its own count that it lost two packets."""
+    """A capture as pcapng that counts two lost packets."""
     if capture[:4] != b"\xd4\xc3\xb2\xa1":
         return capture + Capturing.statistics(0, 100, (2, 0))
     head, packets = packets_of(capture)

@@ -1,4 +1,4 @@
-"""Captures that lack packets whose traces are left, and forged replies next to such losses."""
+"""Captures that lack packets and have traces of them, and forged replies next to such losses."""
 from making import asked
 from office import ACK, FIRST, ONE, OTHER, PLAIN, QUERY, SECOND, SYN, Scene
 from repository.packing import TXT, address, framed, message, record
@@ -8,14 +8,14 @@ WWW = asked("www.example.com")
 
 
 def lost_in_tries():
-    """Of a second try the query is missing, of another one the reply; of two questions that are asked
-    for at once the first one, with its answer and without."""
+    """Of a second try the query is missing, of a further try the reply; of two questions under one query the first,
+    with the answer and without."""
     scene, name = Scene(), asked("a.example.com")
     scene.question(0, ONE, 1, name)
     scene.query(0.2, FIRST, name)
     scene.reply(1011.2, SECOND, 6001, name, answers=[address(60, 192, 0, 2, 81)])
     scene.answer(1012, ONE, 1, name, answers=[address(60, 192, 0, 2, 81)])
-    # The second server is preferred now; the first one comes after it.
+    # The second server is preferred now, then the first.
     name = asked("b.example.com")
     scene.question(10000, ONE, 2, name)
     scene.query(10000.2, SECOND, name)
@@ -33,13 +33,12 @@ def lost_in_tries():
 
 
 def over_tcp(scene, at, text, left_out):
-    """A question whose reply by UDP is cut, and what follows, but for the packets of these numbers."""
+    """A question whose reply by UDP is cut, with the packets afterwards, but for some of these numbers."""
     name, upstream = asked(text, TXT), f"10.0.0.53:{6000 + at // 1000}"
     answer = [record(b"\xc0\x0c", TXT, 60, HELLO)]
     scene.question(at, ONE, 1, name)
     begins = len(scene.packets)
-    port = scene.query(at + 0.2, FIRST, name)
-    scene.reply(at + 3.2, FIRST, port, name, 0x8780)
+    scene.replied(at + 0.2, at + 3.2, FIRST, name, 0x8780)
     scene.tcp(at + 3.7, upstream, FIRST, 10, SYN)
     scene.tcp(at + 4.7, FIRST, upstream, 20, SYN | ACK)
     scene.tcp(at + 4.8, upstream, FIRST, 11, ACK, framed(message(77, QUERY, name)))
@@ -50,8 +49,8 @@ def over_tcp(scene, at, text, left_out):
 
 
 def lost_over_tcp():
-    """Of five questions whose reply is cut, each lacks something else: the query by UDP, its reply, how
-    the connection begins, what is asked over it, and the reply."""
+    """Of five questions whose reply is cut, each lacks another packet: the query by UDP, the reply, the connection's
+    beginning, the query over TCP, the reply."""
     scene = Scene()
     for place in range(5):
         over_tcp(scene, 10000 * place, f"{'abcde'[place]}.example.com", [place if place < 3 else place + 1])
@@ -59,13 +58,12 @@ def lost_over_tcp():
 
 
 def lost_over_a_connection():
-    """Over a connection nothing was captured, neither query nor reply. The answer is too long for a
-    datagram, so nothing says what was in the reply to the other question."""
+    """Over a connection nothing was captured, neither query nor reply. The answer is too long for a datagram, so
+    nothing shows the content of the second reply."""
     scene, name = Scene(), asked("f.example.com", TXT)
     over_tcp(scene, 0, "e.example.com", [4, 5])
     scene.question(10000, ONE, 2, name)
-    port = scene.query(10000.2, FIRST, name)
-    scene.reply(10003.2, FIRST, port, name, 0x8780)
+    scene.replied(10000.2, 10003.2, FIRST, name, 0x8780)
     scene.tcp(10003.7, "10.0.0.53:7000", FIRST, 10, SYN)
     scene.tcp(10004.7, FIRST, "10.0.0.53:7000", 20, SYN | ACK)
     scene.tcp(10004.8, "10.0.0.53:7000", FIRST, 11, ACK, framed(message(77, QUERY, name)))
@@ -74,7 +72,7 @@ def lost_over_a_connection():
 
 
 def lost_query_of_a_restart():
-    """What is cached is asked for again, by a new process, whose query is missing."""
+    """A cached name is asked for again, by a new process, whose query is missing."""
     scene = Scene()
     scene.fetched(0, ONE, 1, WWW, 300, (192, 0, 2, 80))
     scene.question(9000, ONE, 3, WWW)
@@ -84,19 +82,17 @@ def lost_query_of_a_restart():
 
 
 def lost_question_of_a_restart():
-    """A process ends while a question is open; its client asks again under the same identifier, and
-    that question is missing."""
+    """A process ends while a question is open; the client repeats the question, and the capture lacks this packet."""
     scene = Scene()
     scene.question(0, ONE, 1, WWW)
     scene.query(0.2, FIRST, WWW)
-    port = scene.query(700.2, FIRST, WWW)
-    scene.reply(710.2, FIRST, port, WWW, answers=[address(60, 192, 0, 2, 80)])
+    scene.replied(700.2, 710.2, FIRST, WWW, answers=[address(60, 192, 0, 2, 80)])
     scene.answer(711, ONE, 1, WWW, answers=[address(60, 192, 0, 2, 80)])
     return scene.pcap()
 
 
 def lost_refused_question():
-    """Nothing listens for a question that is missing; the one before it was answered."""
+    """Nothing listens for a missing question; the question before was answered."""
     scene = Scene()
     scene.fetched(0, ONE, 1, WWW, 300, (192, 0, 2, 80))
     scene.unreachable(5000.1, "10.0.0.53", ONE, "10.0.0.53:53")
@@ -105,58 +101,50 @@ def lost_refused_question():
 
 
 def lost_in_the_cache():
-    """Of what was cached the answer is missing, and then also the reply: the next answer shows that
-    there was one."""
+    """Of cached data the answer is missing, and then also the reply: the next answer shows that there was a reply."""
     scene, name = Scene(), asked("a.example.com")
     scene.question(0, ONE, 1, WWW)
-    port = scene.query(0.2, FIRST, WWW)
-    scene.reply(10.2, FIRST, port, WWW, answers=[address(300, 192, 0, 2, 80)])
+    scene.replied(0.2, 10.2, FIRST, WWW, answers=[address(300, 192, 0, 2, 80)])
     # Accepted at 10 ms: 300 - 4.990 s are left.
-    scene.question(5000, OTHER, 2, WWW)
-    scene.answer(5000.2, OTHER, 2, WWW, answers=[address(295, 192, 0, 2, 80)])
+    scene.told(5000, 5000.2, OTHER, 2, WWW, answers=[address(295, 192, 0, 2, 80)])
     scene.question(10000, ONE, 3, name)
     scene.query(10000.2, FIRST, name)
-    scene.question(15000, OTHER, 4, name)
-    scene.answer(15000.2, OTHER, 4, name, answers=[address(55, 192, 0, 2, 81)])
+    scene.told(15000, 15000.2, OTHER, 4, name, answers=[address(55, 192, 0, 2, 81)])
     return scene.pcap()
 
 
 def given_up():
-    """A try fails for a reason that the capture does not have, as where ICMP was left out, and the next server is
-    asked. A query to one server after the other would take a third try: nothing called for that."""
+    """A try fails for a reason outside the capture, as without ICMP, and the next server is asked. A third query has no
+    reason."""
     scene, name = Scene(), asked("a.example.com")
     scene.question(0, ONE, 1, WWW)
     scene.query(0.2, FIRST, WWW)
-    port = scene.query(3.2, SECOND, WWW)
-    scene.reply(13.2, SECOND, port, WWW, answers=[address(300, 192, 0, 2, 80)])
+    scene.replied(3.2, 13.2, SECOND, WWW, answers=[address(300, 192, 0, 2, 80)])
     scene.answer(14, ONE, 1, WWW, answers=[address(300, 192, 0, 2, 80)])
     # The second server is preferred now.
     scene.question(5000, ONE, 2, name)
     scene.query(5000.2, SECOND, name)
     scene.query(5003.2, FIRST, name)
-    port = scene.query(5006.2, SECOND, name)
-    scene.reply(5016.2, SECOND, port, name, answers=[address(60, 192, 0, 2, 81)])
+    scene.replied(5006.2, 5016.2, SECOND, name, answers=[address(60, 192, 0, 2, 81)])
     scene.answer(5017, ONE, 2, name, answers=[address(60, 192, 0, 2, 81)])
     return scene.pcap()
 
 
 def failed_and_told():
-    """A fault: both tries for a name are silent, its question fails, and later the name has an address that no
-    reply brought."""
+    """A fault: both tries for a name are silent, its question fails, and later the name has an address from no reply.
+    """
     scene = Scene()
     scene.question(0, ONE, 1, WWW)
     scene.query(0.2, FIRST, WWW)
     scene.query(1001.2, SECOND, WWW)
     scene.answer(2002.2, ONE, 1, WWW, 0x8182)
-    scene.question(5000, OTHER, 2, WWW)
-    scene.answer(5000.2, OTHER, 2, WWW, answers=[address(55, 192, 0, 2, 81)])
+    scene.told(5000, 5000.2, OTHER, 2, WWW, answers=[address(55, 192, 0, 2, 81)])
     return scene.pcap()
 
 
 def forged_next_to_losses():
-    """Faults: forged replies are answered, and the query is missing, or the reply that fits. One is
-    from another address, one under another identifier, one for another question, one is itself a
-    question, and one comes after the time of its try."""
+    """Faults: forged replies are answered, and the query is missing, or the fitting reply. They come from a wrong
+    address, under a wrong identifier, for a wrong question, as a question, and after the time of the try."""
     scene, forged = Scene(), [address(300, 203, 0, 113, 66)]
     names = [asked(f"{letter}.example.com") for letter in "abcdef"]
     scene.question(0, ONE, 1, names[0])
@@ -181,17 +169,3 @@ def forged_next_to_losses():
         scene.reply(at + later, forger, port, told, flags, answers=owned, identifier=number)
         scene.answer(at + later + 0.8, ONE, 1 + place, name, answers=forged)
     return scene.pcap()
-
-
-ALL = [
-    lost_in_tries,
-    lost_over_tcp,
-    lost_over_a_connection,
-    lost_query_of_a_restart,
-    lost_question_of_a_restart,
-    lost_refused_question,
-    lost_in_the_cache,
-    given_up,
-    failed_and_told,
-    forged_next_to_losses,
-]

@@ -1,11 +1,12 @@
 """Captures made by hand: packets, octet by octet."""
+import inspect
 import struct
 
 from repository.packing import name, question
 
 START = 1_795_874_580_000_000  # 2026-11-28 14:03:00 UTC, in microseconds
 ETHERNET, COOKED_2 = 1, 276
-# An SOA record of the root that lives 3600 s, with a MINIMUM of 600 s; all its names are the root.
+# An SOA record of the root with a lifetime of 3600 s, a MINIMUM of 600 s, and the root for all names.
 DENIAL = "00 0006 0001 00000e10 0016 00 00 00000001 00000002 00000003 00000004 00000258"
 
 
@@ -21,6 +22,12 @@ def asked(text, *kind):
 def peer(text):
     where, _, port = text.partition(":")
     return bytes(map(int, where.split("."))), int(port)
+
+
+def functions_of(module, *parameters):
+    """The functions of a module with these parameters, in their order."""
+    found = (each for each in vars(module).values() if inspect.isfunction(each) and each.__module__ == module.__name__)
+    return [each for each in found if tuple(inspect.signature(each).parameters) == parameters]
 
 
 class Capturing:
@@ -55,7 +62,7 @@ class Capturing:
         self.ip(milliseconds, source[0], target[0], 6, header + payload)
 
     def unreachable(self, milliseconds, router, source, target, code=3, payload=b""):
-        """ICMP says that a datagram from source did not reach target; `payload` is what it carried, if that is there.
+        """ICMP says that a datagram from source did not reach target; `payload` is the datagram's content, if any.
         """
         from_, to, size = peer(source), peer(target), 8 + len(payload) if payload else 40
         inner = (
@@ -75,7 +82,7 @@ class Capturing:
         return self.pcap_in_order()
 
     def pcap_in_order(self):
-        """The same, with the packets in the order in which they were put."""
+        """As pcap, in the order of putting."""
         parts = [struct.pack("<I2H4I", 0xA1B2C3D4, 2, 4, 0, 0, 262144, self.link)]
         for moment, packet in self.packets:
             parts.append(struct.pack("<4I", moment // 1_000_000, moment % 1_000_000, len(packet), len(packet)) + packet)
@@ -96,7 +103,7 @@ class Capturing:
 
     @staticmethod
     def statistics(interface, received, dropped):
-        """A block that says what an interface received, and what it and the system dropped."""
+        """A block with the numbers of received and of dropped packets."""
         options = struct.pack(">2HQ2HQ2HQ4x", 4, 8, sum(dropped), 5, 8, dropped[0], 7, 8, dropped[1])
         return block(5, struct.pack(">3I", interface, 0, received) + options)
 

@@ -1,4 +1,4 @@
-"""A long capture: a thousand questions a second, of which most are answered from the cache."""
+"""A long capture: a thousand questions a second, most of them answered from the cache."""
 from making import asked
 from office import Scene
 from repository.packing import address
@@ -8,13 +8,12 @@ OWN_PORTS = 60000
 
 
 def many(count, each=1.0):
-    """Questions, one each millisecond: the first for a name is asked, the others are answered from
-    the cache."""
+    """Questions, one each millisecond: the first for a name is asked, later questions are answered from the cache."""
     scene, known, number = Scene(), {}, 1
     for place in range(count):
         at = place * each
         number = (1103515245 * number + 12345) % 2147483648
-        # Names that are asked often, and ever more that are seldom asked.
+        # Names that are asked often, and ever more rare names.
         rank = (number >> 8) % 100
         which = (number >> 16) % 50 if rank < 80 else 50 + (number >> 12) % NAMES
         question, client = (

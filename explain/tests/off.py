@@ -1,5 +1,5 @@
 """Captures of servers whose machine is off. Such a machine answers no ARP, so no packet leaves for it. After three
-seconds the system of the service says by ICMP that the machine can't be reached, and the service does not see that."""
+seconds the system of the service says by ICMP that the machine can't be reached, unseen by the service."""
 from making import asked
 from office import CORPORATE, FIRST, ONE, OTHER, QUERY, SECOND, Scene
 from repository.packing import address, message
@@ -8,15 +8,15 @@ OWN = "10.0.0.53"
 
 
 def unreached(scene, at, server, names, first=7001):
-    """What ICMP says of a query for each name, 3,060 ms after the first one."""
+    """ICMP's news of a query for each name, 3,060 ms after the first."""
     for port, name in enumerate(names, first):
         query = message(port, QUERY, name)
         scene.unreachable(at + 3060 + port / 1000, OWN, f"{OWN}:{port}", server, 1, query)
 
 
 def the_first_server_is_off():
-    """Each question waits for the first server, and then the second one is asked. Once a reply has come, the second
-    server is asked first. In between other questions are answered."""
+    """Each question waits for the first server, then the second server is asked. After a reply the second server is
+    preferred. In between further questions are answered."""
     scene, names = Scene(), [asked(f"n{number}.example.com") for number in range(4)]
     for number, name in enumerate(names):
         scene.question(300 * number, ONE, number, name)
@@ -29,18 +29,17 @@ def the_first_server_is_off():
 
 
 def no_packet_and_no_news():
-    """As before, and the capture has no ICMP. The second question gets an address that no reply had: a fault."""
+    """As before, and the capture has no ICMP. The second question gets an address from no reply: a fault."""
     scene, one, other = Scene(), asked("one.example.com"), asked("other.example.com")
     for number, name, last in ((0, one, 80), (1, other, 66)):
         scene.question(300 * number, ONE, number, name)
-        port = scene.query(300 * number + 1001.2, SECOND, name)
-        scene.reply(300 * number + 1011.2, SECOND, port, name, answers=[address(300, 192, 0, 2, 80)])
+        scene.replied(300 * number + 1001.2, 300 * number + 1011.2, SECOND, name, answers=[address(300, 192, 0, 2, 80)])
         scene.answer(300 * number + 1012, ONE, number, name, answers=[address(300, 192, 0, 2, last)])
     return scene.pcap()
 
 
 def the_only_server_is_off():
-    """Questions for one name after another fail, each when two tries are over. Others are answered meanwhile."""
+    """Questions for several names fail, each when two tries are over. Meanwhile further questions are answered."""
     scene, names = Scene(), [asked(f"h{number}.corp.example") for number in range(4)]
     for number, name in enumerate(names):
         at = 1055 * number
@@ -52,7 +51,7 @@ def the_only_server_is_off():
 
 
 def joined_for_a_server_that_is_off():
-    """A question joins another one whose server is off, once until the tries end, and once until the next server
+    """A question joins a query to a server that is off, once until the tries end, and once until the next server
     replies."""
     scene, name, www = Scene(), asked("h.corp.example"), asked("www.example.com")
     scene.question(0, ONE, 1, name)
@@ -61,16 +60,7 @@ def joined_for_a_server_that_is_off():
     scene.answer(2002.3, OTHER, 2, name, 0x8182)
     scene.question(5000, ONE, 3, www)
     scene.question(5600, OTHER, 4, www)
-    port = scene.query(6001.2, SECOND, www)
-    scene.reply(6011.2, SECOND, port, www, answers=[address(60, 192, 0, 2, 80)])
+    scene.replied(6001.2, 6011.2, SECOND, www, answers=[address(60, 192, 0, 2, 80)])
     for at, client, number in ((6012, ONE, 3), (6012.1, OTHER, 4)):
         scene.answer(at, client, number, www, answers=[address(60, 192, 0, 2, 80)])
     return scene.pcap()
-
-
-ALL = [
-    the_first_server_is_off,
-    no_packet_and_no_news,
-    the_only_server_is_off,
-    joined_for_a_server_that_is_off,
-]

@@ -52,6 +52,15 @@ class Scene(Capturing):
     def reply(self, at, server, port, question, flags=PLAIN, answers=(), authority=(), identifier=None):
         self.udp(at, server, f"10.0.0.53:{port}", message(identifier or port, flags, question, answers, authority))
 
+    def told(self, at, answered, client, identifier, question, *rest, **records):
+        """A question, and its answer at another moment."""
+        self.question(at, client, identifier, question)
+        self.answer(answered, client, identifier, question, *rest, **records)
+
+    def replied(self, at, later, server, question, *rest, **records):
+        """A query, and its reply at another moment."""
+        self.reply(later, server, self.query(at, server, question), question, *rest, **records)
+
     def fetched(self, at, client, identifier, question, seconds, numbers, server=FIRST):
         """A question that is asked, replied to 10 ms later with an address, and answered 1 ms after
         that."""

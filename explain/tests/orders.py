@@ -1,19 +1,19 @@
-"""Captures in which packets are in another order than the service read them."""
+"""Captures whose packets the service read in a different order."""
 from making import asked
 from office import FIRST, ONE, OTHER, Scene
 from repository.packing import CNAME, OF_QUESTION, TXT, A, record
 
 
 def alias_to(label, seconds, kind, data):
-    """An alias of www.example.com to a name of one label more than example.com, and a record of that name.
-    A pointer leads to example.com, at octet 16, and one to the name, at octet 45."""
+    """An alias of www.example.com to a name of one label more than example.com, and a record of this name. Pointers
+    lead to example.com, at octet 16, and to the name, at octet 45."""
     alias = record(OF_QUESTION, CNAME, seconds, bytes([len(label)]) + label + b"\xc0\x10")
     return [alias, record(b"\xc0\x2d", kind, seconds, data)]
 
 
 def read_in_another_order():
-    """Two replies come within 30 microseconds, each with an alias of the same name. The second one is read
-    and answered first, so the alias of the first one is cached."""
+    """Two replies come within 30 microseconds, each with an alias of one name. The second is read and answered first,
+    so the first reply's alias is cached."""
     scene, www, text = Scene(), asked("www.example.com"), asked("www.example.com", TXT)
     numbers, hello = alias_to(b"e1", 300, A, bytes((192, 0, 2, 81))), alias_to(b"e2", 300, TXT, b"\x05hello")
     scene.question(0, ONE, 1, www)
@@ -25,9 +25,5 @@ def read_in_another_order():
     scene.answer(10.5, OTHER, 2, text, answers=hello)
     scene.answer(10.6, ONE, 1, www, answers=numbers)
     # Both were accepted at 10 ms: 300 - 4.990 s are left.
-    scene.question(5000, ONE, 3, www)
-    scene.answer(5000.2, ONE, 3, www, answers=alias_to(b"e1", 295, A, bytes((192, 0, 2, 81))))
+    scene.told(5000, 5000.2, ONE, 3, www, answers=alias_to(b"e1", 295, A, bytes((192, 0, 2, 81))))
     return scene.pcap()
-
-
-ALL = [read_in_another_order]

@@ -1,4 +1,4 @@
-"""Tests of --html: what leads where in the page, and that nothing in it is a stranger's."""
+"""Tests of --html: the links of the page, and its safety from strangers."""
 import pathlib
 import re
 import tempfile
@@ -22,7 +22,7 @@ ATTRIBUTES = set(
 
 
 class Read(HTMLParser):
-    """What a page has: its tags, attributes, links with their text, and each line with its classes."""
+    """The content of a page: tags, attributes, links with text, and each line with its classes."""
 
     def __init__(self, text):
         super().__init__()
@@ -65,7 +65,7 @@ class Read(HTMLParser):
 
 
 def paged(program, capture, *options):
-    """The page of a capture, what was printed, and the status."""
+    """The page of a capture, standard output, and the status."""
     with tempfile.TemporaryDirectory() as folder:
         path = pathlib.Path(folder) / "page.html"
         printed, _, status = jobs.ran(CAPTURES, program, "--html", path, *options, "office.toml", capture)
@@ -73,7 +73,7 @@ def paged(program, capture, *options):
 
 
 def numbers_lead_to_lines(program):
-    """Each count of a capture, as the scene has it, with the lines that belong to it."""
+    """Each count of a capture, by its scene, with its lines."""
     page, printed, status, mode = paged(program, "failures.pcap")
     lines = (CAPTURES / "failures.expected").read_text().splitlines()
     yield "printed", (printed.splitlines(), status, mode), (lines[6:], 0, "0o600")
@@ -143,8 +143,8 @@ def names_of_strangers(program):
 
 
 def much_is_bounded(program):
-    """Of 40 names with three failed questions each 30 are listed, and 100 of the 120 lines, since a
-    number leads to so many. All come in one second, of whose bar 20 lines are found."""
+    """Of 40 names with three failed questions each 30 are listed, and 100 of the 120 lines, the most for a number. All
+    come in a second, whose bar has 20 lines."""
     scene = Scene()
     for number in range(120):
         name = asked(f"n{number % 40}.example.com", ANY)
@@ -159,6 +159,3 @@ def much_is_bounded(program):
     yield "lines", {len(lines) for lines in page.lines_of("120")}, {100}
     bar = next(lines for lines in page.lines_of("14:03:00 failed: 120"))
     yield "bar", (len(bar), len(page.items) < 120), (20, True)
-
-
-ALL = [numbers_lead_to_lines, a_file_that_was_there, a_page_of_a_few, names_of_strangers, much_is_bounded]

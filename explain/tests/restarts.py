@@ -7,29 +7,25 @@ WWW = asked("www.example.com")
 
 
 def restarted():
-    """What is cached is asked for again, by a new process, and then answered from its cache."""
+    """A cached name is asked for again, by a new process, and then answered from the new cache."""
     scene = Scene()
     scene.fetched(0, ONE, 1, WWW, 300, (192, 0, 2, 80))
     # Accepted at 10 ms: 300 - 1.990 s are left.
-    scene.question(2000, OTHER, 2, WWW)
-    scene.answer(2000.2, OTHER, 2, WWW, answers=[address(298, 192, 0, 2, 80)])
+    scene.told(2000, 2000.2, OTHER, 2, WWW, answers=[address(298, 192, 0, 2, 80)])
     scene.question(9000, ONE, 3, WWW)
-    port = scene.query(9000.2, FIRST, WWW)
-    scene.reply(9012.2, FIRST, port, WWW, answers=[address(300, 192, 0, 2, 80)])
+    scene.replied(9000.2, 9012.2, FIRST, WWW, answers=[address(300, 192, 0, 2, 80)])
     scene.answer(9013, ONE, 3, WWW, answers=[address(300, 192, 0, 2, 80)])
     # Accepted at 9012 ms: 300 - 0.988 s are left.
-    scene.question(10000, OTHER, 4, WWW)
-    scene.answer(10000.3, OTHER, 4, WWW, answers=[address(299, 192, 0, 2, 80)])
+    scene.told(10000, 10000.3, OTHER, 4, WWW, answers=[address(299, 192, 0, 2, 80)])
     return scene.pcap()
 
 
 def restarted_in_flight():
-    """A question is open when the process ends; its client asks again under the same identifier.
-    Once a reply comes for nobody, once none."""
+    """A question is open when the process ends; the client repeats it under one identifier. Once a reply comes for
+    nobody, once no reply."""
     scene, mail = Scene(), asked("mail.example.com")
     scene.question(0, ONE, 1, WWW)
-    port = scene.query(0.2, FIRST, WWW)
-    scene.reply(400.2, FIRST, port, WWW, answers=[address(300, 192, 0, 2, 80)])
+    scene.replied(0.2, 400.2, FIRST, WWW, answers=[address(300, 192, 0, 2, 80)])
     scene.fetched(1200, ONE, 1, WWW, 300, (192, 0, 2, 80))
     scene.question(20000, OTHER, 3, mail)
     scene.query(20000.2, FIRST, mail)
@@ -38,9 +34,8 @@ def restarted_in_flight():
 
 
 def restarted_standing_still():
-    """A process stands still, and ends: it answers neither what is cached nor what came first. A new one is
-    asked for the first again, and later for what was cached: only that shows the restart, and when it was the
-    questions without an answer."""
+    """A process stands still, and ends: neither a cached name nor a new name is answered. A new process is asked for
+    both: only this shows the restart, and the unanswered questions show its time."""
     scene, mail = Scene(), asked("mail.example.com")
     scene.fetched(0, ONE, 1, WWW, 300, (192, 0, 2, 80))
     scene.question(2500, ONE, 2, mail)
@@ -64,7 +59,7 @@ def refused():
 
 
 def refused_alone():
-    """Nothing listens, and what is asked afterwards was never cached: only ICMP shows the restart."""
+    """Nothing listens, and later a name is asked that was never cached: only ICMP shows the restart."""
     scene = Scene()
     scene.fetched(0, ONE, 1, WWW, 300, (192, 0, 2, 80))
     scene.question(5000, ONE, 2, WWW)
@@ -74,8 +69,8 @@ def refused_alone():
 
 
 def refused_in_a_long_capture():
-    """Nothing listens for a connection; then 7,600 empty messages over another one make a capture
-    of several windows, and what was cached is asked for again."""
+    """Nothing listens for a connection; then come 7,600 empty messages over a new connection, and the cached name is
+    asked for again."""
     scene, flood = Scene(), "10.0.0.9:50000"
     scene.fetched(0, ONE, 1, WWW, 300, (192, 0, 2, 80))
     scene.tcp(5000, "10.0.0.7:50000", FORWARDER, 100, SYN)
@@ -89,41 +84,38 @@ def refused_in_a_long_capture():
 
 
 def rejected():
-    """A packet filter of the service's machine rejects a question, and what was cached before is answered after
-    it. The service went on: it answers what it was asked before."""
+    """A packet filter of the service's machine rejects a question, and a cached name is answered later. The service
+    went on: it answers a question from before."""
     scene, mail = Scene(), asked("mail.example.com")
     scene.fetched(0, ONE, 1, WWW, 300, (192, 0, 2, 80))
     scene.fetched(4995, OTHER, 4, mail, 60, (192, 0, 2, 25))
     scene.question(5000, ONE, 2, WWW)
     scene.unreachable(5000.1, "10.0.0.53", ONE, FORWARDER)
-    scene.question(8000, OTHER, 3, WWW)
-    scene.answer(8000.2, OTHER, 3, WWW, answers=[address(292, 192, 0, 2, 80)])
+    scene.told(8000, 8000.2, OTHER, 3, WWW, answers=[address(292, 192, 0, 2, 80)])
     return scene.pcap()
 
 
 def restarted_near_an_end():
-    """The first that a new process asks had 600 ms left in the cache, which could be nearly its end; the
-    second one had minutes left. What the first one brought is answered from the cache in between."""
+    """The first name of a new process had 600 ms left in the cache, almost expired; the second had minutes left. The
+    first reply is used from the cache in between."""
     scene, mail = Scene(), asked("mail.example.com")
     scene.fetched(0, ONE, 1, WWW, 5, (192, 0, 2, 80))
     scene.fetched(1000, ONE, 2, mail, 300, (192, 0, 2, 25))
     scene.fetched(4400, OTHER, 3, WWW, 60, (192, 0, 2, 81))
     # Accepted at 4410 ms: 60 - 0.390 s are left.
-    scene.question(4800, ONE, 4, WWW)
-    scene.answer(4800.2, ONE, 4, WWW, answers=[address(59, 192, 0, 2, 81)])
+    scene.told(4800, 4800.2, ONE, 4, WWW, answers=[address(59, 192, 0, 2, 81)])
     scene.fetched(6000, OTHER, 5, mail, 300, (192, 0, 2, 25))
     return scene.pcap()
 
 
 def second_preferred():
-    """The capture begins when the second server is preferred, until that is silent. A new process begins with the
-    first one, to which nothing can be sent then."""
+    """The capture begins when the second server is preferred, until it is silent. A new process begins with the first
+    server, which can't be reached then."""
     scene, new, chat = Scene(), asked("new.example.com"), asked("chat.example.com")
     scene.fetched(0, ONE, 1, WWW, 300, (192, 0, 2, 80), server=SECOND)
     scene.question(2000, ONE, 2, new)
     scene.query(2000.2, SECOND, new)
-    port = scene.query(3001.2, FIRST, new)
-    scene.reply(3011.2, FIRST, port, new, answers=[address(60, 192, 0, 2, 81)])
+    scene.replied(3001.2, 3011.2, FIRST, new, answers=[address(60, 192, 0, 2, 81)])
     scene.answer(3012, ONE, 2, new, answers=[address(60, 192, 0, 2, 81)])
     scene.fetched(5000, OTHER, 3, chat, 60, (192, 0, 2, 82))
     scene.question(9000, ONE, 4, WWW)
@@ -142,17 +134,3 @@ def restart_not_shown():
     scene.query(10001.2, SECOND, WWW)
     scene.answer(11002.2, ONE, 2, WWW, 0x8182)
     return scene.pcap()
-
-
-ALL = [
-    restarted,
-    restarted_in_flight,
-    restarted_near_an_end,
-    restarted_standing_still,
-    refused,
-    refused_alone,
-    refused_in_a_long_capture,
-    rejected,
-    second_preferred,
-    restart_not_shown,
-]

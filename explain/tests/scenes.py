@@ -1,5 +1,7 @@
-"""The captures of the tests: who sends what, at which millisecond. Answers are worked out from the
-rules, by hand."""
+"""The captures of the tests, as senders, messages and milliseconds. Answers are worked out from the rules, by hand."""
+import sys
+
+import chains
 import filtered
 import hostile
 import losses
@@ -10,46 +12,38 @@ import outages
 import restarts
 import shown
 import stops
-from making import COOKED_2, DENIAL, asked, octets
+from making import COOKED_2, DENIAL, asked, functions_of, octets
 from office import ACK, CORPORATE, FIN, FIRST, FORWARDER, ONE, OTHER, PLAIN, QUERY, REPLY, RST, SECOND, SYN, Scene
 from repository.packing import ANY, CNAME, MX, TXT, address, framed, message, name, record
 
 
 def answers():
-    """What the cache answers, denies and joins; aliases; what the configuration denies; what is not
-    served."""
+    """Cached answers and denials, a joined query, aliases, a denial by the configuration, a type that is not served."""
     scene = Scene()
     www = asked("www.example.com")
     scene.question(0, ONE, 1, www)
-    port = scene.query(0.5, FIRST, www)
-    scene.reply(12.5, FIRST, port, www, answers=[address(300, 192, 0, 2, 80)])
+    scene.replied(0.5, 12.5, FIRST, www, answers=[address(300, 192, 0, 2, 80)])
     scene.answer(13, ONE, 1, www, answers=[address(300, 192, 0, 2, 80)])
-    # Accepted at 12 ms; at 2500 ms there are 300 - 2.488 s left, so 297 whole ones.
-    scene.question(2500, OTHER, 2, www)
-    scene.answer(2500.3, OTHER, 2, www, answers=[address(297, 192, 0, 2, 80)])
+    # Accepted at 12 ms; at 2500 ms there are 300 - 2.488 s left, so 297 whole seconds.
+    scene.told(2500, 2500.3, OTHER, 2, www, answers=[address(297, 192, 0, 2, 80)])
     # A denial lives as long as the SOA's MINIMUM. A second later there are 599 whole seconds, also
     # for names below.
     gone, below = asked("gone.example.com"), asked("x.gone.example.com", MX)
     scene.question(3000, ONE, 3, gone)
-    port = scene.query(3000.4, FIRST, gone)
-    scene.reply(3007.4, FIRST, port, gone, 0x8583, authority=[octets(DENIAL)])
+    scene.replied(3000.4, 3007.4, FIRST, gone, 0x8583, authority=[octets(DENIAL)])
     scene.answer(3008, ONE, 3, gone, 0x8183, authority=[octets(DENIAL.replace("00000e10", "00000258"))])
-    scene.question(4000, ONE, 4, below)
-    scene.answer(4000.2, ONE, 4, below, 0x8183, authority=[octets(DENIAL.replace("00000e10", "00000257"))])
+    scene.told(4000, 4000.2, ONE, 4, below, 0x8183, authority=[octets(DENIAL.replace("00000e10", "00000257"))])
     # The alias leads to the other route, where the name is held: at 5020 ms there are 300 - 5.008 s
     # left of it.
     web = asked("web.corp.example")
     alias = record(b"\xc0\x0c", CNAME, 60, name("www.example.com"))
     scene.question(5000, ONE, 5, web)
-    port = scene.query(5000.3, CORPORATE, web)
-    scene.reply(5020.3, CORPORATE, port, web, answers=[alias])
+    scene.replied(5000.3, 5020.3, CORPORATE, web, answers=[alias])
     owner = (0xC000 + 12 + len(web) + 12).to_bytes(2, "big")
     scene.answer(5021, ONE, 5, web, answers=[alias, address(294, 192, 0, 2, 80, owner=owner)])
     # The configuration denies lan; type ANY is not served.
-    scene.question(6000, ONE, 6, asked("printer.lan"))
-    scene.answer(6000.1, ONE, 6, asked("printer.lan"), 0x8183)
-    scene.question(6100, ONE, 7, asked("www.example.com", ANY))
-    scene.answer(6100.1, ONE, 7, asked("www.example.com", ANY), 0x8184)
+    scene.told(6000, 6000.1, ONE, 6, asked("printer.lan"), 0x8183)
+    scene.told(6100, 6100.1, ONE, 7, asked("www.example.com", ANY), 0x8184)
     # The second asks 4 ms after the first, in other letters, and gets the same reply.
     upper = asked("NEW.example.com")
     scene.question(7000, ONE, 8, asked("new.example.com"))
@@ -69,7 +63,7 @@ def failures():
     scene = Scene()
     www = asked("www.example.com")
     scene.fetched(0, ONE, 1, www, 5, (192, 0, 2, 80))
-    # Silent for 1000 ms, then REFUSED: what ended 4 s ago is answered with 30 s, since stale_s is 60.
+    # Silent for 1000 ms, then REFUSED: data that expired 4 s ago are answered with 30 s, since stale_s is 60.
     scene.question(9000, ONE, 2, www)
     scene.query(9000.4, FIRST, www)
     port = scene.query(10001.2, SECOND, www)
@@ -88,15 +82,12 @@ def failures():
     scene.answer(20006.5, ONE, 3, other, 0x8182)
     # The only server of corp.example can't be reached from this machine: no query ever leaves.
     lost = asked("lost.corp.example")
-    scene.question(30000, ONE, 4, lost)
-    scene.answer(30000.4, ONE, 4, lost, 0x8182)
-    # A reply of which nothing can be read after the question, then one that is cut, with no try left.
+    scene.told(30000, 30000.4, ONE, 4, lost, 0x8182)
+    # A reply that can't be read after the question, then a cut reply, with no try left.
     odd = asked("odd.example.com")
     scene.question(40000, ONE, 5, odd)
-    port = scene.query(40000.3, FIRST, odd)
-    scene.reply(40002.3, FIRST, port, odd, answers=[b"\xc0\x0c\0\1"])
-    port = scene.query(40002.8, SECOND, odd)
-    scene.reply(40005.8, SECOND, port, odd, 0x8780)
+    scene.replied(40000.3, 40002.3, FIRST, odd, answers=[b"\xc0\x0c\0\1"])
+    scene.replied(40002.8, 40005.8, SECOND, odd, 0x8780)
     scene.answer(40006.2, ONE, 5, odd, 0x8182)
     # Nothing answers at all.
     scene.question(50000, OTHER, 6, odd)
@@ -107,8 +98,7 @@ def failures():
 
 
 def connections():
-    """Over TCP: two questions in pieces that come in another order, a cut reply, a refused
-    connection."""
+    """Over TCP: two questions in pieces out of order, a cut reply, a refused connection."""
     scene = Scene(COOKED_2)
     www, text = asked("www.example.com"), asked("text.example.com", TXT)
     scene.fetched(0, ONE, 1, www, 300, (192, 0, 2, 80))
@@ -122,9 +112,8 @@ def connections():
     scene.tcp(1003, client, FORWARDER, 101, ACK, stream[:20])
     first = framed(message(2, REPLY, www, [address(299, 192, 0, 2, 80)]))
     scene.tcp(1003.2, FORWARDER, client, 901, ACK, first)
-    # The reply by UDP is cut, so the same server is asked over TCP.
-    port = scene.query(1003.4, FIRST, text)
-    scene.reply(1006.4, FIRST, port, text, 0x8780)
+    # The reply by UDP is cut, so this server is asked over TCP.
+    scene.replied(1003.4, 1006.4, FIRST, text, 0x8780)
     upstream, data = "10.0.0.53:6000", b"\x0bhello world"
     scene.tcp(1006.9, upstream, FIRST, 10, SYN)
     scene.tcp(1008, FIRST, upstream, 20, SYN | ACK)
@@ -137,8 +126,7 @@ def connections():
     # Here the connection is refused, and no try is left.
     more = asked("more.example.com", TXT)
     scene.question(5000, ONE, 4, more)
-    port = scene.query(5000.2, FIRST, more)
-    scene.reply(5003.2, FIRST, port, more, 0x8780)
+    scene.replied(5000.2, 5003.2, FIRST, more, 0x8780)
     scene.tcp(5003.7, "10.0.0.53:6001", FIRST, 10, SYN)
     scene.tcp(5004.2, FIRST, "10.0.0.53:6001", 0, RST | ACK)
     scene.answer(5004.9, ONE, 4, more, 0x8182)
@@ -148,40 +136,33 @@ def connections():
 
 
 def kept_before():
-    """The capture begins later than the service: what was kept then is told apart."""
+    """The capture begins later than the service: older data are open."""
     scene = Scene()
     old, gone = asked("old.example.com"), asked("gone.example.com")
-    scene.question(0, ONE, 1, old)
-    scene.answer(0.2, ONE, 1, old, answers=[address(20, 192, 0, 2, 90)])
-    scene.question(5000, OTHER, 2, old)
-    scene.answer(5000.2, OTHER, 2, old, answers=[address(15, 192, 0, 2, 90)])
-    scene.question(6000, OTHER, 3, gone)
-    scene.answer(6000.2, OTHER, 3, gone, 0x8183, authority=[octets(DENIAL.replace("00000e10", "00000030"))])
+    scene.told(0, 0.2, ONE, 1, old, answers=[address(20, 192, 0, 2, 90)])
+    scene.told(5000, 5000.2, OTHER, 2, old, answers=[address(15, 192, 0, 2, 90)])
+    scene.told(6000, 6000.2, OTHER, 3, gone, 0x8183, authority=[octets(DENIAL.replace("00000e10", "00000030"))])
     scene.fetched(30000, ONE, 4, old, 60, (192, 0, 2, 91))
-    scene.question(31000, ONE, 5, old)
-    scene.answer(31000.2, ONE, 5, old, answers=[address(59, 192, 0, 2, 91)])
+    scene.told(31000, 31000.2, ONE, 5, old, answers=[address(59, 192, 0, 2, 91)])
     return scene.pcap()
 
 
 def kept_before_ends():
-    """What was kept before the capture has ended in the second that its last answer left open, and
-    is asked for again early in it."""
+    """Data from before the capture expired in the second that their last answer left open, and are asked for again
+    early in this second."""
     scene, www = Scene(), asked("www.example.com")
-    scene.question(0, ONE, 1, www)
-    scene.answer(0.2, ONE, 1, www, answers=[address(3, 192, 0, 2, 80)])
+    scene.told(0, 0.2, ONE, 1, www, answers=[address(3, 192, 0, 2, 80)])
     scene.fetched(3100, ONE, 2, www, 60, (192, 0, 2, 80))
     # Accepted at 3110 ms: 60 - 1.890 s are left.
-    scene.question(5000, OTHER, 3, www)
-    scene.answer(5000.2, OTHER, 3, www, answers=[address(58, 192, 0, 2, 80)])
+    scene.told(5000, 5000.2, OTHER, 3, www, answers=[address(58, 192, 0, 2, 80)])
     return scene.pcap()
 
 
 def expired_before():
-    """The capture begins when both servers are silent: expired data, of which it has no reply, is answered
-    twice. A fault: the third time it is another address. Another name was answered alive, and then expired."""
+    """The capture begins when both servers are silent: expired data without a reply in the capture are answered twice.
+    A fault: the third answer has another address. A second name was answered alive, and then expired."""
     scene, old, new = Scene(), asked("old.example.com"), asked("new.example.com")
-    scene.question(5000, OTHER, 8, new)
-    scene.answer(5000.2, OTHER, 8, new, answers=[address(5, 192, 0, 2, 81)])
+    scene.told(5000, 5000.2, OTHER, 8, new, answers=[address(5, 192, 0, 2, 81)])
     scene.question(15000, OTHER, 9, new)
     scene.query(15000.2, FIRST, new)
     scene.query(16001.2, SECOND, new)
@@ -196,38 +177,33 @@ def expired_before():
 
 
 def kept_before_differs():
-    """A fault: what was kept before the capture has another address five seconds later."""
+    """A fault: data from before the capture have another address five seconds later."""
     scene = Scene()
     old = asked("old.example.com")
-    scene.question(0, ONE, 1, old)
-    scene.answer(0.2, ONE, 1, old, answers=[address(20, 192, 0, 2, 90)])
-    scene.question(5000, OTHER, 2, old)
-    scene.answer(5000.2, OTHER, 2, old, answers=[address(15, 192, 0, 2, 91)])
+    scene.told(0, 0.2, ONE, 1, old, answers=[address(20, 192, 0, 2, 90)])
+    scene.told(5000, 5000.2, OTHER, 2, old, answers=[address(15, 192, 0, 2, 91)])
     return scene.pcap()
 
 
 def two_seconds_more():
-    """A fault: a lifetime of two seconds too many. One of a second too many is none."""
+    """A fault: a lifetime of two seconds too many. A second too many is no fault."""
     scene = Scene()
     www = asked("www.example.com")
     scene.fetched(0, ONE, 1, www, 60, (192, 0, 2, 80))
     # 60 - 4.990 s are left, and then 60 - 5.990 s.
-    scene.question(5000, ONE, 2, www)
-    scene.answer(5000.2, ONE, 2, www, answers=[address(57, 192, 0, 2, 80)])
-    scene.question(6000, ONE, 3, www)
-    scene.answer(6000.2, ONE, 3, www, answers=[address(55, 192, 0, 2, 80)])
+    scene.told(5000, 5000.2, ONE, 2, www, answers=[address(57, 192, 0, 2, 80)])
+    scene.told(6000, 6000.2, ONE, 3, www, answers=[address(55, 192, 0, 2, 80)])
     return scene.pcap()
 
 
 def two_seconds_less():
-    """A fault: a lifetime of two seconds too few. One of a second too few is none."""
+    """A fault: a lifetime of two seconds too few. A second too few is no fault."""
     scene = Scene()
     www = asked("www.example.com")
     scene.fetched(0, ONE, 1, www, 300, (192, 0, 2, 80))
     # Accepted at 10 ms: 300 - 4.990 s are left, and then 300 - 5.990 s.
     for at, number, left in ((5000, 2, 294), (6000, 3, 292)):
-        scene.question(at, OTHER, number, www)
-        scene.answer(at + 0.2, OTHER, number, www, answers=[address(left, 192, 0, 2, 80)])
+        scene.told(at, at + 0.2, OTHER, number, www, answers=[address(left, 192, 0, 2, 80)])
     return scene.pcap()
 
 
@@ -239,8 +215,7 @@ def without_resolution():
 
 
 def repeated():
-    """With tcpdump -i any a question that comes again after 20 ms, the very same packet, is another
-    one."""
+    """With tcpdump -i any a packet that comes again after 20 ms is a new question."""
     scene = Scene(COOKED_2)
     www = asked("www.example.com")
     scene.fetched(0, ONE, 1, www, 300, (192, 0, 2, 80))
@@ -252,19 +227,16 @@ def repeated():
 
 
 def past_its_end():
-    """A fault: what ended at 5010 ms is answered at 6500 ms, with no second left, and nobody is
-    asked."""
+    """A fault: a set that expired at 5010 ms is answered at 6500 ms, with no second left, and nobody is asked."""
     scene = Scene()
     www = asked("www.example.com")
     scene.fetched(0, ONE, 1, www, 5, (192, 0, 2, 80))
-    scene.question(6500, ONE, 2, www)
-    scene.answer(6500.2, ONE, 2, www, answers=[address(0, 192, 0, 2, 80)])
+    scene.told(6500, 6500.2, ONE, 2, www, answers=[address(0, 192, 0, 2, 80)])
     return scene.pcap()
 
 
 def another_route():
-    """A fault: a name of corp.example is asked of a server of the other route, and its reply is
-    answered."""
+    """A fault: a name of corp.example is asked of a server of the root's route, and the reply is answered."""
     scene = Scene()
     scene.fetched(0, ONE, 1, asked("db.corp.example"), 60, (203, 0, 113, 1), FIRST)
     return scene.pcap()
@@ -277,14 +249,13 @@ def forgotten_alias():
     alias = record(b"\xc0\x0c", CNAME, 60, b"\x03www\xc0\x10")
     target = address(60, 192, 0, 2, 80, owner=b"\xc0\x2d")
     scene.question(0, ONE, 1, web)
-    port = scene.query(0.2, FIRST, web)
-    scene.reply(9.2, FIRST, port, web, answers=[alias, target])
+    scene.replied(0.2, 9.2, FIRST, web, answers=[alias, target])
     scene.answer(10, ONE, 1, web, answers=[address(60, 192, 0, 2, 80, owner=b"\x03www\xc0\x10")])
     return scene.pcap()
 
 
 def joined_unequal():
-    """A fault: a question for MX records gets what was asked for A records."""
+    """A fault: a question for MX records gets the reply for A records."""
     scene = Scene()
     www, mail = asked("www.example.com"), asked("www.example.com", MX)
     scene.question(0, ONE, 1, www)
@@ -314,31 +285,5 @@ def gaps():
     return capture[:-10]
 
 
-ALL = [
-    answers,
-    failures,
-    connections,
-    kept_before,
-    kept_before_ends,
-    expired_before,
-    kept_before_differs,
-    two_seconds_more,
-    two_seconds_less,
-    without_resolution,
-    repeated,
-    past_its_end,
-    another_route,
-    forgotten_alias,
-    joined_unequal,
-    gaps,
-    *restarts.ALL,
-    *outages.ALL,
-    *stops.ALL,
-    *hostile.ALL,
-    *losses.ALL,
-    *lossy.ALL,
-    *orders.ALL,
-    *off.ALL,
-    *filtered.ALL,
-    *shown.ALL,
-]
+OTHERS = chains, restarts, outages, stops, hostile, losses, lossy, orders, off, filtered, shown
+ALL = [scene for module in (sys.modules[__name__], *OTHERS) for scene in functions_of(module)]

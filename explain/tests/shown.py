@@ -1,28 +1,27 @@
-"""Captures of what packets show, and of what they do not: restarts, a clock that was set, two forwarders on one
-machine, one side of the traffic, VLANs, and packets that the capture lost by its own count."""
+"""Captures of restarts, of a clock that was set, of two forwarders on a machine, of a single side of the traffic, of
+VLANs, and with packets lost by the capture's own count."""
 import lossy
 from making import DENIAL, START, asked, octets
 from office import ACK, CORPORATE, FIRST, FORWARDER, ONE, OTHER, QUERY, REPLY, RST, SYN, Scene
 from repository.packing import CNAME, address, message, name, record
 
 WWW, MAIL, NEW = asked("www.example.com"), asked("mail.example.com"), asked("new.example.com")
-ANOTHER = "10.0.0.54:53"  # a second forwarder on the service's machine, which asks from its address
+ANOTHER = "10.0.0.54:53"  # a second forwarder on the service's machine, with its address for queries
 
 
 def old_cache_after_a_restart():
-    """A fault: nothing listens, and later the answer is what was cached before."""
+    """A fault: nothing listens, and later the answer is of the cache from before."""
     scene = Scene()
     scene.fetched(0, ONE, 1, WWW, 300, (192, 0, 2, 80))
     scene.question(5000, ONE, 2, WWW)
     scene.unreachable(5000.1, "10.0.0.53", ONE, FORWARDER)
     # 300 - 7.990 s would be left.
-    scene.question(8000, OTHER, 3, WWW)
-    scene.answer(8000.2, OTHER, 3, WWW, answers=[address(292, 192, 0, 2, 80)])
+    scene.told(8000, 8000.2, OTHER, 3, WWW, answers=[address(292, 192, 0, 2, 80)])
     return scene.pcap()
 
 
 def old_cache_after_resets():
-    """A fault: both connections are reset at once, and later the answer is what was cached before."""
+    """A fault: both connections are reset at once, and later the answer is of the cache from before."""
     scene = Scene()
     scene.fetched(0, ONE, 1, WWW, 300, (192, 0, 2, 80))
     for number, client in enumerate(("10.0.0.7:50000", "10.0.0.9:50000")):
@@ -30,8 +29,7 @@ def old_cache_after_resets():
         scene.tcp(1000.1 + number, FORWARDER, client, 900, SYN | ACK)
         scene.tcp(1000.2 + number, client, FORWARDER, 101, ACK)
         scene.tcp(4000 + number, FORWARDER, client, 901, RST | ACK)
-    scene.question(8000, OTHER, 3, WWW)
-    scene.answer(8000.2, OTHER, 3, WWW, answers=[address(292, 192, 0, 2, 80)])
+    scene.told(8000, 8000.2, OTHER, 3, WWW, answers=[address(292, 192, 0, 2, 80)])
     return scene.pcap()
 
 
@@ -39,10 +37,8 @@ def old_cache_after_a_told_restart():
     """A fault, if the service was started again at 14:03:06, as --restarted says."""
     scene = Scene()
     scene.fetched(0, ONE, 1, WWW, 300, (192, 0, 2, 80))
-    scene.question(5000, OTHER, 2, WWW)
-    scene.answer(5000.2, OTHER, 2, WWW, answers=[address(295, 192, 0, 2, 80)])
-    scene.question(8000, OTHER, 3, WWW)
-    scene.answer(8000.2, OTHER, 3, WWW, answers=[address(292, 192, 0, 2, 80)])
+    scene.told(5000, 5000.2, OTHER, 2, WWW, answers=[address(295, 192, 0, 2, 80)])
+    scene.told(8000, 8000.2, OTHER, 3, WWW, answers=[address(292, 192, 0, 2, 80)])
     return scene.pcap()
 
 
@@ -55,7 +51,7 @@ def moved(scene, since, by):
 
 
 def three_cached(scene, since):
-    """Three names from the cache, of which the second and third were asked for 300 and 310 ms after the first."""
+    """Three names from the cache, the second and third of them asked for 300 and 310 ms after the first."""
     for number, (at, question, asked_at) in enumerate(((0, WWW, 0), (700, MAIL, 300), (900, NEW, 310))):
         left = 300 - -(-(since + at - asked_at - 10) // 1000)
         scene.question(since + at, OTHER, 20 + number, question)
@@ -68,8 +64,8 @@ def fetched_three(scene):
 
 
 def clock_forward_in_quiet():
-    """The clock is set forward by an hour while nothing comes: all lifetimes are an hour too long, and what has
-    ended by it is answered."""
+    """The clock is set forward by an hour while nothing comes: all lifetimes are an hour too long, and expired data
+    seem answered."""
     scene = Scene()
     fetched_three(scene)
     three_cached(scene, 5000)
@@ -78,8 +74,8 @@ def clock_forward_in_quiet():
 
 
 def clock_back_in_quiet():
-    """The clock is set back by ten seconds within twenty in which nothing comes: no packet is earlier than the one
-    before, and all lifetimes are ten seconds too short."""
+    """The clock is set back by ten seconds within twenty without a packet: the packets are in order, and all lifetimes
+    are ten seconds too short."""
     scene = Scene()
     fetched_three(scene)
     three_cached(scene, 5000)
@@ -88,8 +84,8 @@ def clock_back_in_quiet():
 
 
 def clock_back_by_an_hour():
-    """The clock is set back by an hour within fifteen seconds in which nothing comes. Nothing says how long that
-    was but the lifetimes."""
+    """The clock is set back by an hour within fifteen seconds without a packet. Only the lifetimes show how long that
+    was."""
     scene = Scene()
     fetched_three(scene)
     three_cached(scene, 5000)
@@ -104,8 +100,7 @@ def clock_forward_in_a_query():
     fetched_three(scene)
     scene.question(5000, ONE, 15, asked("chat.example.com"))
     port = scene.query(5000.2, FIRST, asked("chat.example.com"))
-    scene.question(5008, OTHER, 16, WWW)
-    scene.answer(5008.2, OTHER, 16, WWW, answers=[address(295, 192, 0, 2, 80)])
+    scene.told(5008, 5008.2, OTHER, 16, WWW, answers=[address(295, 192, 0, 2, 80)])
     scene.reply(5010.2, FIRST, port, asked("chat.example.com"), answers=[address(60, 192, 0, 2, 90)])
     scene.answer(5011, ONE, 15, asked("chat.example.com"), answers=[address(60, 192, 0, 2, 90)])
     three_cached(scene, 6000)
@@ -113,19 +108,18 @@ def clock_forward_in_a_query():
 
 
 def one_wrong_lifetime():
-    """A fault: one lifetime is 40 s too short, and those of before and after are right."""
+    """A fault: a lifetime is 40 s too short, and the lifetimes before and after are right."""
     scene = Scene()
     fetched_three(scene)
     three_cached(scene, 5000)
-    scene.question(50000, OTHER, 30, WWW)
-    scene.answer(50000.2, OTHER, 30, WWW, answers=[address(210, 192, 0, 2, 80)])
+    scene.told(50000, 50000.2, OTHER, 30, WWW, answers=[address(210, 192, 0, 2, 80)])
     three_cached(scene, 51000)
     return scene.pcap()
 
 
 def two_forwarders():
-    """A second forwarder on the machine asks the same servers in the same form: at one time for the same name, and
-    for one that no client of the first one asks for. What it learns is not in the first one's cache."""
+    """A second forwarder on the machine asks these servers in this form: for a name under way, and for a name that no
+    client of the first forwarder wants. Its replies are not in the first cache."""
     scene = Scene()
     scene.question(0, ONE, 1, WWW)
     scene.udp(0.1, OTHER, ANOTHER, message(7, QUERY, WWW))
@@ -136,29 +130,25 @@ def two_forwarders():
     scene.answer(11, ONE, 1, WWW, answers=[address(300, 192, 0, 2, 80)])
     scene.udp(11.1, ANOTHER, OTHER, message(7, REPLY, WWW, [address(300, 192, 0, 2, 81)]))
     scene.udp(1000, OTHER, ANOTHER, message(8, QUERY, MAIL))
-    port = scene.query(1000.2, FIRST, MAIL)
-    scene.reply(1010.2, FIRST, port, MAIL, answers=[address(60, 192, 0, 2, 25)])
+    scene.replied(1000.2, 1010.2, FIRST, MAIL, answers=[address(60, 192, 0, 2, 25)])
     scene.udp(1011, ANOTHER, OTHER, message(8, REPLY, MAIL, [address(60, 192, 0, 2, 25)]))
-    # 300 - 4.990 s are left, of the first one's reply.
-    scene.question(5000, ONE, 2, WWW)
-    scene.answer(5000.2, ONE, 2, WWW, answers=[address(295, 192, 0, 2, 80)])
+    # 300 - 4.990 s are left, of the first reply.
+    scene.told(5000, 5000.2, ONE, 2, WWW, answers=[address(295, 192, 0, 2, 80)])
     return scene.pcap()
 
 
 def clients_alone():
-    """The servers' side is not captured: a fault is seen all the same, as the same name has another address."""
+    """The servers' side is not captured: a fault is seen all the same, as a name has two addresses."""
     scene = Scene()
     for at, left, last in ((0, 300, 80), (1000, 299, 80), (2000, 298, 81)):
-        scene.question(at, ONE, 1 + at // 1000, WWW)
-        scene.answer(at + 9, ONE, 1 + at // 1000, WWW, answers=[address(left, 192, 0, 2, last)])
+        scene.told(at, at + 9, ONE, 1 + at // 1000, WWW, answers=[address(left, 192, 0, 2, last)])
     return scene.pcap()
 
 
 def servers_alone():
     """The clients' side is not captured."""
     scene = Scene()
-    port = scene.query(0.2, FIRST, WWW)
-    scene.reply(10.2, FIRST, port, WWW, answers=[address(300, 192, 0, 2, 80)])
+    scene.replied(0.2, 10.2, FIRST, WWW, answers=[address(300, 192, 0, 2, 80)])
     return scene.pcap()
 
 
@@ -171,35 +161,33 @@ def with_vlan_tags():
 
 
 def counted_loss_of_a_reply():
-    """The capture lacks replies and says by its own count that it lost packets: nothing says which ones."""
+    """The capture lacks replies, and counts lost packets."""
     scene = Scene()
     scene.question(0, ONE, 1, WWW)
     scene.query(0.2, FIRST, WWW)
     scene.answer(11, ONE, 1, WWW, answers=[address(300, 192, 0, 2, 80)])
-    scene.question(5000, ONE, 2, WWW)
-    scene.answer(5000.2, ONE, 2, WWW, answers=[address(295, 192, 0, 2, 80)])
+    scene.told(5000, 5000.2, ONE, 2, WWW, answers=[address(295, 192, 0, 2, 80)])
     return scene.pcapng() + scene.statistics(0, 4, (1, 0))
 
 
 def gap_in_a_reply():
-    """A reply over TCP lacks a segment: what it carried is not known, also not of the cache."""
+    """A reply over TCP lacks a segment: its content is not known, also in the cache."""
     scene = Scene()
-    lossy.over_tcp(scene, 0, "a.example.com", [5])  # without the segment that has the reply
+    lossy.over_tcp(scene, 0, "a.example.com", [5])  # without the reply's segment
     scene.tcp(7.8, FIRST, "10.0.0.53:6000", 21 + 60, ACK, b"what follows")
     return scene.pcap()
 
 
 def denied_although_served():
-    """A fault: a name of a route that serves is denied without a reply."""
+    """A fault: a served name is denied without a reply."""
     scene = Scene()
     scene.fetched(0, ONE, 1, WWW, 300, (192, 0, 2, 80))
-    scene.question(10000, ONE, 2, MAIL)
-    scene.answer(10000.2, ONE, 2, MAIL, 0x8183)
+    scene.told(10000, 10000.2, ONE, 2, MAIL, 0x8183)
     return scene.pcap()
 
 
 def records_too_many_and_too_few():
-    """Faults: an answer has a record more than its reply, and then one less."""
+    """Faults: an answer has a record more than its reply, and then a record less."""
     scene = Scene()
     for at, question, told in ((0, WWW, (80, 81, 82)), (1000, MAIL, (80,))):
         scene.question(at, ONE, at, question)
@@ -213,37 +201,30 @@ def expired_without_a_failure():
     """A fault: expired data are answered, and no try has failed."""
     scene = Scene()
     scene.fetched(0, ONE, 1, WWW, 5, (192, 0, 2, 80))
-    scene.question(9000, ONE, 2, WWW)
-    scene.answer(9000.2, ONE, 2, WWW, answers=[address(30, 192, 0, 2, 80)])
+    scene.told(9000, 9000.2, ONE, 2, WWW, answers=[address(30, 192, 0, 2, 80)])
     return scene.pcap()
 
 
 def codes_changed():
-    """Faults: SERVFAIL in place of what a reply has, and of what is cached; NXDOMAIN in place of a set."""
+    """Faults: SERVFAIL in place of a reply's set, and of a cached set; NXDOMAIN in place of a set."""
     scene = Scene()
     scene.fetched(0, ONE, 1, WWW, 300, (192, 0, 2, 80))
     scene.question(1000, ONE, 2, MAIL)
-    port = scene.query(1000.2, FIRST, MAIL)
-    scene.reply(1010.2, FIRST, port, MAIL, answers=[address(300, 192, 0, 2, 25)])
+    scene.replied(1000.2, 1010.2, FIRST, MAIL, answers=[address(300, 192, 0, 2, 25)])
     scene.answer(1011, ONE, 2, MAIL, 0x8182)
-    scene.question(2000, ONE, 3, WWW)
-    scene.answer(2000.2, ONE, 3, WWW, 0x8182)
-    scene.question(3000, ONE, 4, WWW)
-    scene.answer(3000.2, ONE, 4, WWW, 0x8183, authority=[octets(DENIAL.replace("00000e10", "00000258"))])
+    scene.told(2000, 2000.2, ONE, 3, WWW, 0x8182)
+    scene.told(3000, 3000.2, ONE, 4, WWW, 0x8183, authority=[octets(DENIAL.replace("00000e10", "00000258"))])
     return scene.pcap()
 
 
 def chain_over_two_routes():
-    """An alias of corp.example leads to the other route, and is asked for there. The alias is cached with what it
-    leads to."""
+    """An alias of corp.example leads to the root's route, and is asked for there. Alias and target are cached."""
     scene, web = Scene(), asked("web.corp.example")
     alias = record(b"\xc0\x0c", CNAME, 60, name("www.example.com"))
     owner = (0xC000 + 12 + len(web) + 12).to_bytes(2, "big")
     scene.question(0, ONE, 1, web)
-    port = scene.query(0.2, CORPORATE, web)
-    scene.reply(10.2, CORPORATE, port, web, answers=[alias])
-    port = scene.query(10.4, FIRST, WWW)
-    scene.reply(20.4, FIRST, port, WWW, answers=[address(300, 192, 0, 2, 80)])
+    scene.replied(0.2, 10.2, CORPORATE, web, answers=[alias])
+    scene.replied(10.4, 20.4, FIRST, WWW, answers=[address(300, 192, 0, 2, 80)])
     # The alias has waited for 10 ms: 59 whole seconds are left.
     left = record(b"\xc0\x0c", CNAME, 59, name("www.example.com"))
     scene.answer(21, ONE, 1, web, answers=[left, address(300, 192, 0, 2, 80, owner=owner)])
@@ -252,26 +233,3 @@ def chain_over_two_routes():
     left = record(b"\xc0\x0c", CNAME, 55, name("www.example.com"))
     scene.answer(5000.2, OTHER, 2, web, answers=[left, address(295, 192, 0, 2, 80, owner=owner)])
     return scene.pcap()
-
-
-ALL = [
-    old_cache_after_a_restart,
-    old_cache_after_resets,
-    old_cache_after_a_told_restart,
-    clock_forward_in_quiet,
-    clock_back_in_quiet,
-    clock_back_by_an_hour,
-    clock_forward_in_a_query,
-    one_wrong_lifetime,
-    two_forwarders,
-    clients_alone,
-    servers_alone,
-    with_vlan_tags,
-    counted_loss_of_a_reply,
-    gap_in_a_reply,
-    denied_although_served,
-    records_too_many_and_too_few,
-    expired_without_a_failure,
-    codes_changed,
-    chain_over_two_routes,
-]

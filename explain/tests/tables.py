@@ -1,11 +1,12 @@
-"""Tests by table: what is said of each reason, of each code of ICMP, and of each end of a try."""
+"""Tests by table: the words for each reason, each code of ICMP, and each end of a try."""
 from types import SimpleNamespace
 
-from forwarder_explain.configuration import UNREACHABLE, Configuration
+from forwarder_explain.configuration import Configuration
 from forwarder_explain.events import Query, Question
 from forwarder_explain.judge import NOT_SEEN, OPEN, RIGHT, Verdict
 from forwarder_explain.messages import question_of
-from forwarder_explain.story import Teller
+from forwarder_explain.report import Teller
+from forwarder_explain.upstream import UNREACHABLE
 from making import asked, peer
 from office import FIRST, OFFICE, ONE, QUERY, SECOND
 from repository.packing import message
@@ -68,14 +69,15 @@ def question_with(octets, tries, verdict, answered):
 
 def tries(*servers):
     """Queries to servers, one a second."""
-    found = [Query(1_000_000 * place, "udp", peer(server), peer("10.0.0.53:5001")) for place, server in enumerate(servers)]
+    port = peer("10.0.0.53:5001")
+    found = [Query(1_000_000 * place, "udp", peer(server), port) for place, server in enumerate(servers)]
     for each in found:
         each.asked = question_of(WWW)
     return found
 
 
 def words_of_reasons():
-    """Each reason, what is said, and what is to be said."""
+    """Each reason, its words, and the right words."""
     for reason, has_tries, wanted in REASONS:
         octets = message(1, QUERY, asked("a.lan")) if reason == 13 else WWW
         made = tries(FIRST, SECOND) if has_tries else []
@@ -85,14 +87,14 @@ def words_of_reasons():
 
 
 def words_of_codes():
-    """Each code of ICMP, how it ends a query, and how it has to."""
+    """Each code of ICMP, its words, and the right words."""
     for code, wanted in CODES:
         yield code, UNREACHABLE.get(code), wanted
     yield "no more", len(UNREACHABLE), len(CODES)
 
 
 def words_of_ends():
-    """Each end of a try, what is said, and what is to be said."""
+    """Each end of a try, its words, and the right words."""
     for how, lasted, wanted in ENDS:
         (query,) = tries(FIRST)
         if how:

@@ -1,4 +1,4 @@
-"""Clients that ask the service, and note what they asked and got."""
+"""Clients that ask the service, and note questions and answers."""
 import contextlib
 import dataclasses
 import itertools
@@ -59,7 +59,7 @@ class Clients:
         return asked
 
     def receive(self, stream, seconds):
-        """Takes what comes on a socket, at most for some seconds; returns whether more may come."""
+        """Takes octets of a socket, for some seconds at most; returns whether more may come."""
         if stream.fileno() < 0 or not select.select([stream], [], [], max(0, seconds))[0]:
             return False
         octets = stream.recv(65537)
@@ -75,7 +75,7 @@ class Clients:
         return bool(octets)
 
     def take(self, asked):
-        """The answer with the question's identifier, if it came; one answer is of one question."""
+        """The answer with the question's identifier, if any; an answer is of a single question."""
         for octets in self.came.get(asked.stream, []) if asked.answer is None else []:
             if len(octets) > 3 and octets[:2] == struct.pack("!H", asked.number):
                 asked.answer = octets
@@ -92,5 +92,5 @@ class Clients:
         return asked
 
     def rows(self, to):
-        """The questions to one service, with the answers that came meanwhile."""
+        """The questions to a service, with the answers by now."""
         return [self.end(asked, 0).row for asked in self.asked if asked.to == to]

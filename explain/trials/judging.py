@@ -1,4 +1,4 @@
-"""What an explainer tells of a capture, next to the truth."""
+"""An explainer's report of a capture, next to the truth."""
 import collections
 import dataclasses
 import json
@@ -14,13 +14,13 @@ import dns.message
 LIMIT = 900  # seconds for one run of the explainer
 SIGN = 10  # seconds after a restart in which the service shows a sign of life
 MACHINE = "10.0.0.5"  # the begin of both of its addresses
-ODD = "10.0.0.1:"  # who sends what is no question
-OFF = ".off.example"  # of a server that is off: no packet has the cause, so open is right
+ODD = "10.0.0.1:"  # the sender of messages that are no questions
+OFF = ".off.example"  # of a server that is off: no packet shows the cause, so open is right
 
 
 @dataclasses.dataclass
 class Told:
-    """What the explainer told, and what it took."""
+    """The explainer's report, and its costs."""
 
     status: int
     lines: list
@@ -87,7 +87,7 @@ def wrong_verdicts(truth, told):
 
 
 def wrong_lines(truth, told):
-    """Lines that are missing, that nobody asked for, or that have another result code."""
+    """Missing lines, lines that nobody asked for, and lines with a wrong result code."""
     paired, left = pairs(truth["questions"], told.lines)
     for row, line in paired:
         if truth["whole"] and line is None:
@@ -115,7 +115,7 @@ def queries(captured):
 
 
 def wrong_tries(captured, told):
-    """Servers that are told as asked, to which no packet with the name left."""
+    """Servers reported as asked, without a packet with the name."""
     asked = queries(captured)
     for line in told.lines:
         for tried in line["tries"]:
@@ -124,7 +124,7 @@ def wrong_tries(captured, told):
 
 
 def wrong_counts(told):
-    """Counts of the summary that are not those of the lines."""
+    """Counts of the summary that differ from the lines."""
     counts = collections.Counter(line["verdict"] for line in told.lines)
     counts["questions"] = len(told.lines)
     counts["answers"] = sum(line["code"] != "-" for line in told.lines)
@@ -134,7 +134,7 @@ def wrong_counts(told):
 
 
 def wrong_times(truth, told):
-    """Clock steps and restarts that were not, and steps of which nothing is told."""
+    """Invented clock steps and restarts, and missing steps."""
     steps = [seconds for seconds, _ in told.summary.get("clock_steps", [])]
     for seconds in truth["steps"]:
         near = [step for step in steps if abs(step - seconds) <= 2]
@@ -151,7 +151,7 @@ def wrong_times(truth, told):
 
 
 def complaints(truth, told, captured):
-    """All that the explainer tells of a right service and is not so."""
+    """All faults in the explainer's report of a right service."""
     allowed = (0, 2) if not told.lines and not truth["whole"] else (0,)
     if told.status not in allowed or "Traceback" in told.errors:
         yield told.last_error

@@ -39,7 +39,7 @@ def message(number, flags, name, lifetime=None):
 
 
 class Model:
-    """A right service, with the moments at which sets came, and their lifetimes in seconds."""
+    """A right service, with moments and lifetimes of its sets."""
 
     def __init__(self):
         self.cache, self.chosen, self.later = {}, random.Random(53), []
@@ -90,7 +90,7 @@ class Model:
 
 
 def tried(explainer, folder):
-    """One line of the load: its seconds and octets; and what was told wrongly, or took too much."""
+    """A line of the load, with seconds and octets; and the faults."""
     (folder / "load.toml").write_text(configuration(cache=65536))
     Model().write(folder / "load.pcap")
     told = judging.explained([*explainer, "--summary"], folder / "load.toml", folder / "load.pcap")

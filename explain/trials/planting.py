@@ -19,7 +19,7 @@ SERVICE = "10.0.0.53:53"
 
 
 class Case:
-    """A capture as it is changed, and the question whose answer has to be found."""
+    """A changed capture, and the question whose answer has to be found."""
 
     def __init__(self, stored, line, capture):
         self.line, self.capture = line, capture
@@ -72,7 +72,7 @@ class Case:
         self.captured = [packet for index, packet in enumerate(self.captured) if index not in gone]
 
     def put(self, packet):
-        """Puts a packet where its time is."""
+        """Puts a packet at the place of its time."""
         later = (index for index, held in enumerate(self.captured) if held.time > packet.time)
         self.captured.insert(next(later, len(self.captured)), packet)
 
@@ -153,7 +153,7 @@ def of_another_server(case, server, *text):
 
 
 def unmatched(case, how):
-    """A reply that matches no query has other data, and the answer has them."""
+    """A reply to no query has other data, and so has the answer."""
     query, packet = (case.captured[index] for index in next(case.exchanges()))
     message = with_texts(dns.message.from_wire(packet.message), "203.0.113.99")
     changes = {"time": (query.time + packet.time) // 2}
@@ -178,7 +178,7 @@ def turned(case, port):
 
 
 def late_data(case):
-    """The data of a reply that came when its query was given up."""
+    """The data of a late reply."""
     _, reply = next(case.exchanges())
     message = dns.message.from_wire(case.captured[reply].message)
     held = case.message()

@@ -25,7 +25,7 @@ ODD = [b"\0\1\1\0" + bytes(8), b"\0\2\x29\0\0\1" + bytes(6) + b"\1a\0\0\1\0\1", 
 
 @dataclasses.dataclass
 class Scene:
-    """A scene as it is written."""
+    """A scene as written."""
 
     name: str
     about: str
@@ -53,7 +53,7 @@ def scenes():
 
 
 def chosen_scene(name):
-    """A scene by chance: `random_7` is always the same."""
+    """A scene by chance: `random_7` never changes."""
     chance = random.Random(name)
     labels = ["nx", "nodata", "cut", "cross", "bare", "ns", "lame", "silent", "broken", "nosoa",
               *[f"{word}-{number}" for word, numbers in NUMBERED.items() for number in numbers]]
@@ -104,7 +104,7 @@ def asked_how(words):
 
 
 class Trial:
-    """A scene as it runs, and what has to be given to the explainer."""
+    """A running scene, and the options for the explainer."""
 
     def __init__(self, scene, place):
         self.scene, self.world, self.known = scene, place, scenes()
@@ -220,7 +220,7 @@ class Trial:
         self.threads.append(thread)
 
     def do_load(self, seconds):
-        """Asks for eight names again and again, and for new ones, by UDP and over TCP."""
+        """Asks for eight names again and again, and for new names, by UDP and over TCP."""
         end, number = time.monotonic() + float(seconds), 0
         while time.monotonic() < end:
             name = "abcdefgh"[number % 8] if number % 3 else f"slow-60.m{number}"

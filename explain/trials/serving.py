@@ -65,7 +65,7 @@ def data_of(name, kind, server, version):
 
 
 def reply_to(query, server, version, tcp):
-    """The reply of a server; the words are those of the last name of the aliases."""
+    """The reply of a server; the words are of the last name of the aliases."""
     reply, question = dns.message.make_response(query), query.question[0]
     reply.flags |= dns.flags.AA
     name, kind = str(question.name), dns.rdatatype.to_text(question.rdtype)
@@ -102,7 +102,7 @@ def reply_to(query, server, version, tcp):
 
 
 def forged(reply, how):
-    """The octets of a forged reply; `how` says what of it is wrong, if it is in the message."""
+    """The octets of a forged reply; `how` names the fault in the message, if any."""
     fake = dns.message.from_wire(reply.to_wire())
     fake.answer = [dns.rrset.from_text(reply.question[0].name, 3600, "IN", "A", "203.0.113.99")]
     if how == "id":
@@ -142,7 +142,7 @@ class NameServers(threading.Thread):
             self.events.register(listener, selectors.EVENT_READ, (self.accept, address))
 
     def close(self, address):
-        """Closes them: a query by UDP gets ICMP 'port unreachable', one over TCP a reset."""
+        """Closes the sockets: a query by UDP gets ICMP 'port unreachable', over TCP a reset."""
         for opened in self.open.pop(address):
             self.events.unregister(opened)
             opened.close()
@@ -183,7 +183,7 @@ class NameServers(threading.Thread):
                 opened.fileno() >= 0 and opened.sendto(reply, to)))
 
     def sender(self, peer):
-        """The socket of a server, or one of a forger."""
+        """The socket of a server, or of a forger."""
         if peer[1] == 53 and peer[0] in self.open:
             return self.open[peer[0]][0]
         if peer not in self.extra:
@@ -192,7 +192,7 @@ class NameServers(threading.Thread):
         return self.extra[peer]
 
     def replies(self, octets, address, tcp):
-        """For each reply: after how many seconds, its octets, and what is forged."""
+        """For each reply: seconds until the sending, octets, and any forgery."""
         query = dns.message.from_wire(octets)
         words, last = words_of(query.question[0].name), address.split(".")[-1]
         if self.how[address] == "silent" or "silent" in words or words.get("only", last) != last:

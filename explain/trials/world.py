@@ -23,7 +23,7 @@ REFUSING = {".": [CLOSED, ROOT[0]], "corp.example": [PROHIBITED, UNREACHABLE, CL
 ONE = {"corp.example": CORP}
 FOR_EVER = str(2**64 - 1)
 NEW_NETWORK = 0x40000000  # CLONE_NEWNET of setns(2)
-PATIENCE = 20  # seconds in which a program has to begin
+PATIENCE = 20  # seconds for the start of a program
 
 
 def configuration(version=1, listen=f"{MACHINE}:53", routes=None, **limits):
@@ -43,7 +43,7 @@ def shell(*words, **how):
 
 
 def enter(descriptor):
-    """Moves this thread, and all that it starts, into a network namespace."""
+    """Moves this thread, with its later children, into a network namespace."""
     if ctypes.CDLL(None, use_errno=True).setns(descriptor, NEW_NETWORK):
         raise OSError(ctypes.get_errno(), "setns")
 
@@ -89,7 +89,7 @@ class World:
     def __exit__(self, *_):
         for process in [*self.services.values(), *self.others, *self.captures]:
             with contextlib.suppress(ProcessLookupError):
-                os.killpg(process.pid, signal.SIGKILL)  # and what it started
+                os.killpg(process.pid, signal.SIGKILL)  # with all children
             process.wait()
         enter(self.home)
         os.close(self.home)
@@ -105,7 +105,7 @@ class World:
         return subprocess.Popen(words, start_new_session=True, **how)
 
     def start(self, text, name="forwarder"):
-        """Starts a forwarder with this configuration, and waits until it listens."""
+        """Starts a forwarder with this configuration, and waits for its sockets."""
         path = self.folder / f"{name}.toml"
         path.write_text(text)
         process = self.run(*self.before, self.program, "serve", path, FOR_EVER,
@@ -131,7 +131,7 @@ class World:
         return ended
 
     def capture(self, path, interface="eth0", words=()):
-        """Starts tcpdump on the machine, and waits until it captures."""
+        """Starts tcpdump on the machine, and waits for its beginning."""
         process = self.run("tcpdump", "-Z", "root", "-U", "--immediate-mode", "-B", "65536", "-i",
                            interface, "-w", path, *words, stderr=subprocess.PIPE, text=True)
         self.captures.append(process)
