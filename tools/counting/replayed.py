@@ -15,6 +15,8 @@ CONFIG = """version = 1
 [limits]
 questions = 4096
 inquiries = 1024
+ask_ms = 10000
+deadline_ms = 500
 [[route]]
 suffix = "."
 servers = ["192.0.2.1:53"]
@@ -22,9 +24,9 @@ servers = ["192.0.2.1:53"]
 """
 
 
-def asks(text):
+def asks(text, moment=1000):
     """The event line of a client's question."""
-    return f"1000 client udp 10.0.0.7:40000 {query(text).hex()}"
+    return f"{moment} client udp 10.0.0.7:40000 {query(text).hex()}"
 
 
 def answers(line, text):
@@ -52,6 +54,14 @@ def joined(under_way, count):
     return opened(under_way) + [asks(f"o{k % under_way}.example") for k in range(count)]
 
 
+def overdue(under_way, count):
+    """Questions of queries under way, younger ones of all these queries, and the ticks at which the
+    deadlines of the first pass."""
+    lines = [asks(f"o{k % under_way}.example") for k in range(count)]
+    lines += [asks(f"o{k}.example", 1001) for k in range(under_way)]
+    return lines + ["1500 tick"] * count
+
+
 def each(program, events, under_way):
     """The instructions of a question, from the line in to the actions out."""
     def instructions(count):
@@ -65,6 +75,7 @@ def each(program, events, under_way):
 
 def rises(program):
     """Each kind of question, with the instructions next to few and to many queries."""
-    kinds = {"a question, its query and its reply": missed, "a question that joins a query": joined}
+    kinds = {"a question, its query and its reply": missed, "a question that joins a query": joined,
+             "a question that joins a query, and its deadline": overdue}
     for what, events in kinds.items():
         yield what, *(each(program, events, under_way) for under_way in (FEW, MANY))
