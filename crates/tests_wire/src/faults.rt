@@ -34,6 +34,31 @@ fn after_a_refused_ask_the_next_server_is_asked(rt: HostRuntime) -> Result<(), F
     Ok(())
 }
 
+/// The question; and when the query's time is over, a piece of a stream.
+const THEN_A_PIECE: [Turn; 2] = [
+    (1000, Comes::Question(CLIENT, &QUESTION)),
+    (2500, Comes::Piece(1, b"")),
+];
+
+/// The turn of the refused piece has its ticks: the query is given up, and the second server asked.
+#[test]
+fn a_turn_with_a_refused_arrival_has_its_ticks(rt: HostRuntime) -> Result<(), Fail> {
+    let run = Run {
+        script: &THEN_A_PIECE,
+        refuse: &[2],
+        has_second: true,
+        turns: 2,
+    };
+    let ran = ran_anew(rt.alloc(), &run)?;
+    let served = Served {
+        refused_arrivals: 1,
+        ..counted(2, 0)
+    };
+    assert_eq!(rt; ran.served, served);
+    assert_eq!(rt; ran.puts, Puts::AskedAgain);
+    Ok(())
+}
+
 /// The question, and nothing else.
 const QUESTION_ALONE: [Turn; 1] = [(1000, Comes::Question(CLIENT, &QUESTION))];
 

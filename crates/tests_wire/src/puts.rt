@@ -74,6 +74,8 @@ pub(crate) enum Puts {
     Nothing,
     /// The query.
     Asked,
+    /// The query, the path's end, and the query to the second server.
+    AskedAgain,
     /// The query, the path's end, and the answer.
     Answered,
     /// The refused query, the path's end, the query to the second server, the path's end, and the
@@ -118,12 +120,21 @@ fn are_by_second<A: Allocator>(puts: &[(Action<A>, bool)]) -> bool {
     }
 }
 
+/// Whether these are the puts of [`Puts::AskedAgain`].
+fn are_asked_again<A: Allocator>(puts: &[(Action<A>, bool)]) -> bool {
+    match puts {
+        [first, second, third] => asks(first) && closes(second) && asks_at(third, SECOND, true),
+        _ => false,
+    }
+}
+
 /// The kind of puts.
 pub(crate) fn puts_of<A: Allocator>(puts: &[(Action<A>, bool)]) -> Puts {
     match puts {
         [] => Puts::Nothing,
         [put] if asks(put) => Puts::Asked,
         [first, second, third] if asks(first) && closes(second) && answers(third) => Puts::Answered,
+        _ if are_asked_again(puts) => Puts::AskedAgain,
         _ if are_by_second(puts) => Puts::AnsweredBySecond,
         _ if are_refused(puts) => Puts::Refused,
         _ => Puts::Other,
