@@ -19,22 +19,14 @@ use Rattle.step_values.specs.declared.action.Action.TheVariants.{Reply}
 use Rattle.step_values.specs.declared.event.Client.TheVariants.{Udp, Tcp}
 use Rattle.stream_connections.specs.declared.client_stream.ClientStream.{ClientStream}
 use Rattle.stream_connections.specs.declared.servers.ServerStream.{ServerStream}
-use Rattle.socket_wire.specs.Asks.{OpensAsk, SeenAsks, SendsQuery, without_ask}
+use Rattle.socket_wire.specs.Asks.{OpensAsk, SendsQuery, without_ask}
 use Rattle.socket_wire.specs.Seen.{SeenSockets}
 use Rattle.stream_connections.specs.declared.lost.Lost.{Lost}
-use Rattle.stream_connections.specs.Listed.{RepliesOn, first_resting}
+use Rattle.stream_connections.specs.Listed.{RepliesOn}
 use Rattle.stream_connections.specs.Open.{Connections, with_server, without_client}
-use Rattle.stream_connections.specs.Open.{without_first, without_server}
+use Rattle.stream_connections.specs.Open.{without_server}
 use Rattle.stream_connections.specs.Queries.{IsBegunWith}
 use Rattle.stream_connections.specs.Serving.{is_over}
-
--- Nothing listed has changed, unless the oldest client that has waited for nothing for a while was
--- closed for its descriptor.
-abbrev pub MayMakeRoom : {A : Type 0} → (now : ℕ) → Connections A → Connections A → Type 0
-MayMakeRoom now before after =
-    (after ≡ record before { has_room = after.has_room })
-    ⊎ (after ≡ record (without_first (first_resting now before.clients) before)
-    { has_room = after.has_room })
 
 -- The calls that begin a connection, and have it watched. A refusal is the last call. Out of
 -- memory, none is made.
