@@ -1,6 +1,6 @@
 //! The sockets of a wire, and what arrives on them.
 
-ghost use Rattle.std.specs.Prelude.{◌≡◌, ◌∷◌, ◌++◌, [], IfOk, Ok};
+ghost use Rattle.std.specs.Prelude.{◌≡◌, ◌∷◌, ◌++◌, [], IfOk, Ok, true};
 ghost use Rattle.system_calls.specs.Call.{start_clock};
 ghost use Rattle.socket_wire.specs.Arriving.{AreNew, ReportsEnd};
 ghost use Rattle.socket_wire.specs.Attempting.{TriesReady};
