@@ -145,13 +145,7 @@ impl<A: Allocator + Copy> Connections<A> {
     }
 
     /// Lists a client's connection under its number, in place of the one listed there before.
-    pub fn admit(
-        &mut self,
-        alloc: A,
-        conn: u64,
-        stream: Stream,
-        now: u64,
-    ) -> Result<(), AllocError>
+    pub fn admit(&mut self, alloc: A, conn: u64, stream: Stream, now: u64) -> Result<(), AllocError>
         requires place { length self.old.clients < 1024 }
         requires room { self.old.has_room ≡ true }
         ensures ok { OnOk result (Admits conn stream now self.old.clients self.new.clients) }

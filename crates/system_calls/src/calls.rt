@@ -51,11 +51,7 @@ impl Calls {
     }
 
     /// Fills the octets with random ones.
-    pub fn fill_random(
-        &mut self,
-        source: &impl RandomSource,
-        octets: &mut [u8],
-    ) -> io::Result<()>
+    pub fn fill_random(&mut self, source: &impl RandomSource, octets: &mut [u8]) -> io::Result<()>
         ensures noted { self.new ≡ self.old ++ call.fill_random octets.new result ∷ [] }
         ensures count { length octets.new ≡ length octets.old }
     {
@@ -103,7 +99,9 @@ impl Calls {
         let value = room_asked();
         let fd = socket.inner.as_raw_fd();
         let status = unsafe { setsockopt(fd, SOL_SOCKET, SO_RCVBUF, &value, 4) };
-        self.noted = self.noted.and(&Note::SetReceiveBuffer(socket, &value, &status));
+        self.noted = self
+            .noted
+            .and(&Note::SetReceiveBuffer(socket, &value, &status));
     }
 
     /// Connects a socket: it receives from this address alone, and sends to it.

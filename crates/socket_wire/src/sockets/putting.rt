@@ -81,12 +81,7 @@ impl<R: Net, A: Allocator + Copy> Sockets<'_, R, A> {
 
     /// Opens the socket of an ask. If no descriptor is left, the oldest connection of a client that
     /// has waited for nothing for a while is closed.
-    fn open_with_room(
-        &mut self,
-        port: u16,
-        server: Peer,
-        now: u64,
-    ) -> io::Result<DatagramSocket>
+    fn open_with_room(&mut self, port: u16, server: Peer, now: u64) -> io::Result<DatagramSocket>
         ensures { OpensWithRoom port server now result self.old self.new }
     {
         let opened = self.open(port, server);

@@ -12,7 +12,7 @@ returns g c =
     search rules
     in
     let fewer : length c.send-sent.new.self.unsent.left
-        ≤ length (c.args.self.now.unsent.left ++ framed c.args.reply.now) =
+    ≤ length (c.args.self.now.unsent.left ++ framed c.args.reply.now) =
     rw is at c.send-sent.ensures.fewer
     in
     let bound : length c.send-sent.new.self.unsent.left ≤ 2 ^ 20 = bounded _ _ _ fewer few in
