@@ -62,7 +62,7 @@ at_moment started last now moment result before seen after is reads rest end tur
   end = subst (λ s. ReportsEnd result s after) rest end;
   turn = λ none.
       let at_end : seen.connections.closed ≡ [] =
-          ap (λ (s : SeenSockets _). s.connections.closed) rest ∙ none in
+      ap (λ (s : SeenSockets _). s.connections.closed) rest ∙ none in
       subst (λ s. TakesTurnAtOnce moment result s after) rest
       (subst (λ n. TakesTurnAtOnce n result seen after) is (turn at_end));
 }

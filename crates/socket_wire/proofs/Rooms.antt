@@ -28,8 +28,8 @@ pub begun_in_room : {A : Type 0} (conn : ℕ) (server : Peer) (query : List ℕ)
     → BeginsWithRoom conn server query now begun (with_room true before) between
 begun_in_room conn server query now result begun seen before between connections is seen_is rest room begins =
     let kept : record seen { connections = connections } ≡ with_room true before =
-        ap (λ (k : Connections _). record seen { connections = k })
-        (rest ∙ ap (λ (has_room : Bool). record seen.connections { has_room = has_room }) room)
-        ∙ ap (λ (s : SeenSockets _). with_room true s) seen_is in
+    ap (λ (k : Connections _). record seen { connections = k })
+    (rest ∙ ap (λ (has_room : Bool). record seen.connections { has_room = has_room }) room)
+    ∙ ap (λ (s : SeenSockets _). with_room true s) seen_is in
     subst (λ b. BeginsWithRoom conn server query now b (with_room true before) between) is
     (subst (λ s. BeginsWithRoom conn server query now result s between) kept begins)

@@ -23,7 +23,7 @@ use Rattle.stream_connections.specs.declared.connections.Closed.{Closed}
 use Rattle.stream_connections.specs.declared.connections.Closed.TheVariants.{Client, Server}
 use Rattle.socket_wire.specs.Seen.{SeenSockets}
 use Rattle.socket_wire.specs.declared.sockets.taking.Tried.{Tried}
-use Rattle.socket_wire.specs.declared.sockets.taking.Tried.TheVariants.{Arrived, Served, Nothing}
+use Rattle.socket_wire.specs.declared.sockets.taking.Tried.TheVariants.{Served, Nothing}
 use Rattle.stream_connections.specs.Dropped.{with_dropped}
 use Rattle.stream_connections.specs.Listed.{Admits, first_idle, first_resting}
 use Rattle.stream_connections.specs.Open.{AreNone, Connections, without_first}

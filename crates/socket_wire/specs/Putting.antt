@@ -11,7 +11,6 @@ use Rattle.socket_wire.specs.Addresses.{IsAddressOf}
 use Rattle.socket_wire.specs.Arriving.{FreesBy}
 use Rattle.suffix_routes.specs.declared.peer.Peer.{Peer}
 use Rattle.ready_sockets.specs.declared.origin.Origin.TheVariants.{Server}
-use Rattle.ready_sockets.specs.declared.readiness.Ready.{Ready}
 use Rattle.ready_sockets.specs.Trying.{Noted}
 use Rattle.step_values.specs.declared.action.Action.{Action}
 use Rattle.step_values.specs.declared.action.Action.TheVariants.{AskUdp, AskTcp, CloseUdp, CloseTcp}

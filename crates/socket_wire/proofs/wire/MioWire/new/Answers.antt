@@ -1,6 +1,5 @@
-use Rattle.std.proofs.Common.{◌≡◌, rules, ◌∙◌, ap, sym, length, [], ◌∷◌}
+use Rattle.std.proofs.Common.{◌≡◌, rules, [], ◌∷◌}
 use Rattle.std.specs.Prelude.{Ok}
-use Rattle.socket_wire.specs.Seen.{SeenSockets}
 use Rattle.system_calls.specs.Call.{fill_random}
 use Rattle.socket_wire.proofs.wire.MioWire.new.Goals as goal
 
@@ -10,7 +9,7 @@ returns-clause-opened g c =
     let seed : c.in_ok-kept_if.field-0 ≡ c.fill_random-filled.new.octets = search rules in
     let words : c.new-2.result.sockets.words ≡ c.new-words.result = search rules in
     let calls : c.fill_random-filled.new.self
-        ≡ fill_random c.fill_random-filled.new.octets (Ok tt) ∷ [] = search rules in
+    ≡ fill_random c.fill_random-filled.new.octets (Ok tt) ∷ [] = search rules in
     record {
       seed = c.fill_random-filled.new.octets;
       datagrams = c.in_ok-sockets.sockets.datagrams;
@@ -18,8 +17,8 @@ returns-clause-opened g c =
       opened = c.in_ok-sockets.sockets.calls;
       started = c.in_ok-moments.moments.started;
       has_32 = search rules;
-      random = ?;
+      random = search rules;
       none_given = search rules;
-      opens = ?;
+      opens = rw calls at c.in_ok-sockets.ensures.opens;
       clock = search rules;
     }
