@@ -34,10 +34,30 @@ abbrev pub with_place : {A : Type 0} → Connections A → Connections A
 with_place before = if nat_lt (length before.clients) 1024 then before
     else without_first (first_idle before.clients) before
 
--- A connection is listed under the next number, which was never given before.
-pub record IsTakenIn {A : Type 0} (stream : Stream) (number now : ℕ) (before : Connections A) (next : ℕ)
-    (after : Connections A) : Type 0 where
+-- The calls for a new connection, after that which has small writes sent without delay.
+abbrev pub WatchesClient : (number : ℕ) → Stream → (is_prompt : Result (Unit {0}) Error)
+    → (before after : List Call) → Type 0
+WatchesClient number stream (Ok _) before after =
+    (watched : Result (Unit {0}) Error)
+    × Watches (origin.Client number) (λ token interest. watch_stream stream token interest watched) before after
+WatchesClient number stream (Err _) before after = after ≡ before
+
+-- The calls for a new connection that is left out: none; or small writes are sent without delay,
+-- and unless the system refused that, it is watched by its number.
+abbrev pub Prepares : (number : ℕ) → Stream → (before after : List Call) → Type 0
+Prepares number stream before after =
+    (after ≡ before)
+    ⊎ ((is_prompt : Result (Unit {0}) Error)
+    × WatchesClient number stream is_prompt (before ++ set_no_delay stream is_prompt ∷ []) after)
+
+-- A connection is listed under the next number, which was never given before. The system sends its
+-- small writes without delay, and watches it by its number.
+pub record IsTakenIn {A : Type 0} (stream : Stream) (number now : ℕ) (calls calls' : List Call)
+    (before : Connections A) (next : ℕ) (after : Connections A) : Type 0 where
   pub given : next ≡ number + 1
+  pub watches : Watches (origin.Client number)
+      (λ token interest. watch_stream stream token interest (Ok tt))
+      (calls ++ set_no_delay stream (Ok tt) ∷ []) calls'
   pub listed : Admits number stream now before.clients after.clients
   pub rest : after ≡ record before {
     clients = after.clients;
@@ -47,42 +67,27 @@ pub record IsTakenIn {A : Type 0} (stream : Stream) (number now : ℕ) (before :
   }
 
 -- No connection is listed.
-pub record IsLeftOut {A : Type 0} (number : ℕ) (before : Connections A) (next : ℕ)
-    (after : Connections A) : Type 0 where
+pub record IsLeftOut {A : Type 0} (stream : Stream) (number : ℕ) (calls calls' : List Call)
+    (before : Connections A) (next : ℕ) (after : Connections A) : Type 0 where
   pub above : number ≤ next
   pub below : next ≤ number + 1
+  pub prepares : Prepares number stream calls calls'
   pub rest : after ≡ record before { has_room = after.has_room }
 
 -- A client's connection is accepted: it is listed, or left out.
-abbrev pub Comes : {A : Type 0} → Stream → (number now : ℕ) → Connections A → (next : ℕ)
-    → Connections A → Type 0
-Comes stream number now before next after = IsTakenIn stream number now before next after
-    ⊎ IsLeftOut number before next after
-
--- The calls for a new connection, after that which has small writes sent without delay.
-abbrev pub WatchesClient : (number : ℕ) → Stream → (is_prompt : Result (Unit {0}) Error)
-    → (before after : List Call) → Type 0
-WatchesClient number stream (Ok _) before after =
-    (watched : Result (Unit {0}) Error)
-    × Watches (origin.Client number) (λ token interest. watch_stream stream token interest watched) before after
-WatchesClient number stream (Err _) before after = after ≡ before
-
--- The calls for a new connection, unless it is left out before: small writes are sent without
--- delay, and it is watched by its number.
-abbrev pub Prepares : (number : ℕ) → Stream → (before after : List Call) → Type 0
-Prepares number stream before after =
-    (after ≡ before)
-    ⊎ ((is_prompt : Result (Unit {0}) Error)
-    × WatchesClient number stream is_prompt (before ++ set_no_delay stream is_prompt ∷ []) after)
+abbrev pub Comes : {A : Type 0} → Stream → (number now : ℕ) → (calls calls' : List Call)
+    → Connections A → (next : ℕ) → Connections A → Type 0
+Comes stream number now calls calls' before next after =
+    IsTakenIn stream number now calls calls' before next after
+    ⊎ IsLeftOut stream number calls calls' before next after
 
 -- A client's connection joins the sockets. If there are 1,024 and each waits for something, nothing
 -- changes.
 pub record TakesIn {A : Type 0} (stream : Stream) (now : ℕ) (before after : SeenSockets A) : Type 0 where
   pub full : 1024 ≤ length before.connections.clients → first_idle before.connections.clients ≡ None
       → after ≡ before
-  pub comes : Comes stream before.numbers.next now (with_place before.connections) after.numbers.next
-      after.connections
-  pub prepares : Prepares before.numbers.next stream before.calls after.calls
+  pub comes : Comes stream before.numbers.next now before.calls after.calls
+      (with_place before.connections) after.numbers.next after.connections
   pub rest : after ≡ record before {
     connections = after.connections;
     numbers = after.numbers;
