@@ -1,4 +1,4 @@
-use Rattle.std.proofs.Common.{◌≡◌, rules, refl, is_ok, inr, true, false}
+use Rattle.std.proofs.Common.{◌≡◌, rules, refl, is_ok, inr, false}
 use Rattle.std.specs.Prelude.{Ok, Err}
 use Rattle.socket_wire.proofs.Rooms.{begun_in_room}
 use Rattle.socket_wire.proofs.sockets.Sockets.ask_tcp.Goals as goal
