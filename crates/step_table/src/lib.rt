@@ -1,5 +1,5 @@
 //! The rules of a step, as one table over plain values: the possible outcomes of a step from a
-//! state, and the state after each. `proofs/Played.antt` computes worked steps by the table.
+//! state, and the state after each. `proofs/Played.antt` plays the steps of worked histories.
 #![tactic(auto)]
 
 mod laws;

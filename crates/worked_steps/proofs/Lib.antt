@@ -1,3 +1,0 @@
-mod Deadlines
-mod OverTcp
-mod Windows
