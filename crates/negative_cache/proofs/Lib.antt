@@ -9,5 +9,4 @@ pub mod StaleLookUps
 pub mod Forgetting
 pub mod Ways
 pub mod Worked
-pub mod WorkedStale
 pub mod CallerLemmas
