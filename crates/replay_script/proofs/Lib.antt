@@ -1,7 +1,6 @@
 pub mod LineLaws
 mod PartLaws
 mod WorkedParts
-mod WorkedRuns
 pub mod Written
 pub mod Printed
 pub mod LinesOf
