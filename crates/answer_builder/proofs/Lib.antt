@@ -1,5 +1,3 @@
 pub mod Texts
 pub mod Chains
-pub mod Worked
-pub mod WorkedStaleTtls
 pub mod Names
