@@ -52,6 +52,8 @@ pub enum Hint {
     PortMissing,
     /// A port follows another character than a colon.
     PortAfterColon,
+    /// An address and its port have a scheme, brackets, words or several colons.
+    AddressAlone,
     /// The port or the name belongs to TLS.
     NotEncrypted,
     /// An interface follows an address.
@@ -70,8 +72,8 @@ pub enum Hint {
     Network,
     /// This character of a name can't be seen.
     Unseen(char),
-    /// This letter of a name is Cyrillic, next to Latin letters in its label.
-    Cyrillic(char),
+    /// This letter of a name is of this script, next to Latin letters in its label.
+    OtherScript(char, &'static str),
 }
 
 impl fmt::Display for Hint {
@@ -92,9 +94,9 @@ impl fmt::Display for Hint {
                 "U+{:04X} can't be seen: type the name again",
                 u32::from(*character)
             ),
-            Hint::Cyrillic(letter) => write!(
+            Hint::OtherScript(letter, script) => write!(
                 f,
-                "{letter:?} (U+{:04X}) is Cyrillic among Latin letters: type the name again",
+                "{letter:?} (U+{:04X}) is {script} among Latin letters: type the name again",
                 u32::from(*letter)
             ),
             Hint::NotClosed(position) => write!(f, "what {position} opens is not closed"),
@@ -129,13 +131,15 @@ impl Hint {
             Hint::AddressNotName => "an address is wanted, no name",
             Hint::PortMissing => "the port is missing, as in `192.0.2.1:53`",
             Hint::PortAfterColon => "the port follows a colon, as in `192.0.2.1:53`",
+            Hint::AddressAlone => "an address, a colon and a port alone, as in `192.0.2.1:53`",
             Hint::NotEncrypted => "the port follows a colon, and nothing is encrypted",
             Hint::NoInterface => "no interface can be given",
             Hint::OneServer => "each server is a string of its own",
             Hint::OneAddress => "only one address can be given",
             Hint::AllAddresses => "all addresses are `0.0.0.0`, as in `0.0.0.0:53`",
             Hint::RouteParts => "a domain is the `suffix` of a route, its servers are in `servers`",
-            Hint::Network => "a network is written as a name: `10.in-addr.arpa` for 10.0.0.0/8",
+            Hint::Network =>
+                "a network is written as names, each of 8, 16 or 24 bits: `16.172.in-addr.arpa` is 172.16.0.0/16",
             Hint::SuffixAlone =>
                 "a suffix is for all names below it: leave out what is before its first label",
             _ => "",

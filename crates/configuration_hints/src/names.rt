@@ -39,12 +39,32 @@ fn is_network(text: &[u8]) -> bool {
 /// The hint for a name with this first character outside ASCII.
 fn hint_for_character(text: &[u8], character: char) -> Hint {
     if is_unseen(character) {
-        Hint::Unseen(character)
-    } else if matches!(character, '\u{400}'..='\u{52f}') && is_latin_too(text) {
-        Hint::Cyrillic(character)
-    } else {
-        Hint::NotAsciiName(character)
+        return Hint::Unseen(character);
     }
+    if is_like_ascii(character) {
+        return Hint::NotAscii(character);
+    }
+    match script_of(character) {
+        Some(script) if is_latin_too(text) => Hint::OtherScript(character, script),
+        _ => Hint::NotAsciiName(character),
+    }
+}
+
+/// A script with letters that look Latin.
+fn script_of(character: char) -> Option<&'static str> {
+    match character {
+        '\u{400}'..='\u{52f}' => Some("Cyrillic"),
+        '\u{370}'..='\u{3ff}' => Some("Greek"),
+        _ => None,
+    }
+}
+
+/// A dash, a dot, or a letter in the width of an ideograph.
+fn is_like_ascii(character: char) -> bool {
+    matches!(
+        character,
+        '\u{2010}'..='\u{2015}' | '\u{2024}' | '\u{2212}' | '\u{3002}' | '\u{ff01}'..='\u{ff61}'
+    )
 }
 
 /// A space outside ASCII, or a character without a width.

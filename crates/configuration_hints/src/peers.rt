@@ -8,21 +8,56 @@ use suffix_routes::Place;
 pub(crate) fn hint_for_peer(place: Place, text: &[u8]) -> Option<Hint> {
     if let Some(character) = first_not_ascii(text) {
         Some(Hint::NotAscii(character))
-    } else if text.starts_with(b"/") {
+    } else if text.starts_with(b"/") || text.starts_with(b"[/") {
         Some(Hint::RouteParts)
+    } else if let Some(scheme) = scheme_of(text) {
+        Some(hint_for_scheme(scheme))
     } else if is_several(text) {
         Some(hint_for_several(place))
     } else if text.iter().filter(|octet| **octet == b':').count() > 1 || text.contains(&b'[') {
-        Some(Hint::OnlyIpv4)
+        Some(hint_for_colons(text))
     } else {
         hint_for_address(place, text)
+    }
+}
+
+/// What is before `://`.
+fn scheme_of(text: &[u8]) -> Option<&[u8]> {
+    let end = text.iter().position(|octet| *octet == b':')?;
+    if text[end..].starts_with(b"://") {
+        Some(&text[..end])
+    } else {
+        None
+    }
+}
+
+fn hint_for_scheme(scheme: &[u8]) -> Hint {
+    if scheme.eq_ignore_ascii_case(b"udp") || scheme.eq_ignore_ascii_case(b"tcp") {
+        Hint::AddressAlone
+    } else {
+        Hint::NotEncrypted
     }
 }
 
 /// Whether there are several addresses or names, with spaces, commas or semicolons between.
 fn is_several(text: &[u8]) -> bool {
     let parts = text.split(|octet| matches!(*octet, b' ' | b'\t' | b',' | b';'));
-    parts.filter(|part| part.contains(&b'.')).count() > 1
+    parts.filter(|part| is_whole(part)).count() > 1
+}
+
+/// Four numbers with dots between, or a name with a dot.
+fn is_whole(part: &[u8]) -> bool {
+    let dots = part.iter().filter(|octet| **octet == b'.').count();
+    dots >= 3 || dots > 0 && part.iter().any(|octet| octet.is_ascii_alphabetic())
+}
+
+/// The hint for brackets or several colons: of an IPv6 address, or around four numbers.
+fn hint_for_colons(text: &[u8]) -> Hint {
+    let inside = text.strip_prefix(b"[").unwrap_or(text);
+    match inside.iter().find(|octet| !octet.is_ascii_digit()) {
+        Some(b'.') => Hint::AddressAlone,
+        _ => Hint::OnlyIpv4,
+    }
 }
 
 fn hint_for_several(place: Place) -> Hint {
@@ -38,16 +73,45 @@ fn hint_for_address(place: Place, text: &[u8]) -> Option<Hint> {
         Some(Hint::NoInterface)
     } else if begins_with_digit(text) && (text.contains(&b'@') || text.contains(&b'#')) {
         Some(hint_for_mark(text))
+    } else if begins_with_digit(text) && text.iter().any(|octet| is_stray(*octet)) {
+        Some(hint_for_stray(text))
     } else if text.iter().any(|octet| octet.is_ascii_alphabetic()) {
         Some(Hint::AddressNotName)
     } else if has_leading_zero(text) {
         Some(Hint::LeadingZero)
     } else if place == Place::Listen && (text.starts_with(b"*") || text.starts_with(b":")) {
         Some(Hint::AllAddresses)
-    } else if !text.contains(&b':') && !text.is_empty() {
-        Some(Hint::PortMissing)
-    } else {
+    } else if text.contains(&b':') || text.is_empty() {
         None
+    } else if text.iter().filter(|octet| **octet == b'.').count() > 3 {
+        Some(Hint::PortAfterColon)
+    } else {
+        Some(Hint::PortMissing)
+    }
+}
+
+/// An octet between an address and its port, or within them, where none belongs.
+fn is_stray(octet: u8) -> bool {
+    matches!(octet, b' ' | b'\t' | b',' | b';' | b'/')
+}
+
+/// The hint for a single address with an octet where none belongs: before a port, before a word, or
+/// elsewhere.
+fn hint_for_stray(text: &[u8]) -> Hint {
+    let mut parts = text.split(|octet| is_stray(*octet));
+    let (first, last) = (
+        parts.next().unwrap_or(&[]),
+        parts.next_back().unwrap_or(&[]),
+    );
+    if text.iter().any(|octet| octet.is_ascii_alphabetic()) {
+        Hint::AddressAlone
+    } else if is_whole(first) && !first.contains(&b':') && last.iter().all(u8::is_ascii_digit) {
+        Hint::PortAfterColon
+    } else {
+        match text.iter().find(|octet| is_stray(**octet)) {
+            Some(octet) => Hint::Character(char::from(*octet)),
+            None => Hint::AddressAlone,
+        }
     }
 }
 

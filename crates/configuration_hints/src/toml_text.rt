@@ -29,7 +29,7 @@ fn hint_for_character(before: &[u8], rest: &[u8]) -> Option<Hint> {
         return Some(Hint::Comment);
     }
     let is_between_digits = is_digit(before.last()) && is_digit(second);
-    if *first == b',' && is_between_digits && open_after(before).is_none() {
+    if matches!(*first, b',' | b'\'') && is_between_digits && open_after(before).is_none() {
         return Some(Hint::DigitsAlone);
     }
     if first.is_ascii() {

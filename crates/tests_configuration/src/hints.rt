@@ -6,7 +6,7 @@ use std::test::Fail;
 use suffix_routes::Config;
 
 /// A text up to the place at which the TOML reader stops, the rest, and the hint.
-const TEXTS: [(&str, &str, &str); 29] = [
+const TEXTS: [(&str, &str, &str); 30] = [
     (
         "version = 1\n[limits]\ncache = ",
         "04096\n",
@@ -41,6 +41,11 @@ const TEXTS: [(&str, &str, &str); 29] = [
     (
         "version = 1\n[limits]\ncache = 4",
         ",096\n",
+        "a number has digits alone",
+    ),
+    (
+        "version = 1\n[limits]\ncache = 4",
+        "'096\n",
         "a number has digits alone",
     ),
     (
@@ -126,7 +131,7 @@ const TEXTS: [(&str, &str, &str); 29] = [
 ];
 
 /// A configuration, and the hint for its first fault.
-const FAULTS: [(&str, &str); 34] = [
+const FAULTS: [(&str, &str); 38] = [
     ("version = 1\ncolour = 1", ""),
     (
         "version = 1\nListen = 1",
@@ -191,8 +196,10 @@ const FAULTS: [(&str, &str); 34] = [
         "version = 1\nlisten = \"10.0.0.53:53, 10.0.0.54:53\"",
         "only one address can be given",
     ),
-    // A single address, with a space inside.
-    ("version = 1\nlisten = \"10.0.0.53 :53\"", ""),
+    (
+        "version = 1\nlisten = \"10.0.0.53 :53\"",
+        "' ' can't be in it",
+    ),
     // The fault of a number's range already says the allowed range.
     ("version = 1\nlisten = \"192.0.2.256:53\"", ""),
     ("version = 1\nlisten = \"192.0.2.1005:53\"", ""),
@@ -211,7 +218,7 @@ const FAULTS: [(&str, &str); 34] = [
     ),
     (
         "version = 1\n[[route]]\nsuffix = \"10.0.0.0/8\"",
-        "a network is written as a name: `10.in-addr.arpa` for 10.0.0.0/8",
+        "a network is written as names, each of 8, 16 or 24 bits: `16.172.in-addr.arpa` is 172.16.0.0/16",
     ),
     (
         "version = 1\n[[route]]\nsuffix = \"corp/8\"",
@@ -229,6 +236,22 @@ const FAULTS: [(&str, &str); 34] = [
         "version = 1\n[[route]]\nsuffix = \"corp.\u{435}xample\"",
         "'\u{435}' (U+0435) is Cyrillic among Latin letters: type the name again",
     ),
+    (
+        "version = 1\n[[route]]\nsuffix = \"c\u{3bf}rp.example\"",
+        "'\u{3bf}' (U+03BF) is Greek among Latin letters: type the name again",
+    ),
+    (
+        "version = 1\n[[route]]\nsuffix = \"corp\u{ff0e}example\"",
+        "'\u{ff0e}' (U+FF0E) is not ASCII",
+    ),
+    (
+        "version = 1\n[[route]]\nsuffix = \"corp\u{2013}net.example\"",
+        "'\u{2013}' (U+2013) is not ASCII",
+    ),
+    (
+        "version = 1\n[[route]]\nsuffix = \"192.168.1.0/25\"",
+        "a network is written as names, each of 8, 16 or 24 bits: `16.172.in-addr.arpa` is 172.16.0.0/16",
+    ),
     // An entirely Cyrillic label is intended, whatever the other labels.
     (
         "version = 1\n[[route]]\nsuffix = \"corp.\u{440}\u{444}\"",
@@ -242,7 +265,7 @@ const FAULTS: [(&str, &str); 34] = [
 ];
 
 /// A server, and the hint.
-const SERVERS: [(&str, &str); 15] = [
+const SERVERS: [(&str, &str); 29] = [
     (
         "192.0.2.1:53 192.0.2.2:53",
         "each server is a string of its own",
@@ -282,6 +305,53 @@ const SERVERS: [(&str, &str); 15] = [
     ),
     ("fe80::1%eth0", "only addresses of IPv4 can be given"),
     ("dns.example@853", "an address is wanted, no name"),
+    (
+        "udp://192.0.2.1:53",
+        "an address, a colon and a port alone, as in `192.0.2.1:53`",
+    ),
+    (
+        "tcp://192.0.2.1",
+        "an address, a colon and a port alone, as in `192.0.2.1:53`",
+    ),
+    (
+        "tls://192.0.2.1:853",
+        "the port follows a colon, and nothing is encrypted",
+    ),
+    (
+        "[192.0.2.1]:53",
+        "an address, a colon and a port alone, as in `192.0.2.1:53`",
+    ),
+    (
+        "192.0.2.1::53",
+        "an address, a colon and a port alone, as in `192.0.2.1:53`",
+    ),
+    (
+        "192.0.2.1:53/tcp",
+        "an address, a colon and a port alone, as in `192.0.2.1:53`",
+    ),
+    (
+        "192.0.2.1 port 53",
+        "an address, a colon and a port alone, as in `192.0.2.1:53`",
+    ),
+    (
+        "192.0.2.1;53",
+        "the port follows a colon, as in `192.0.2.1:53`",
+    ),
+    (
+        "192.0.2.1,53",
+        "the port follows a colon, as in `192.0.2.1:53`",
+    ),
+    (
+        "192.0.2.1.53",
+        "the port follows a colon, as in `192.0.2.1:53`",
+    ),
+    ("192. 0.2.1:53", "' ' can't be in it"),
+    ("192.0,2.1:53", "',' can't be in it"),
+    (
+        "[/corp/]10.0.0.10",
+        "a domain is the `suffix` of a route, its servers are in `servers`",
+    ),
+    ("[2001:db8::1]:53", "only addresses of IPv4 can be given"),
     // A wildcard address is no server's.
     ("*:53", ""),
 ];
