@@ -1,3 +1,4 @@
+pub mod Calling
 pub mod Trying
 pub mod Seen
 pub mod Tokens

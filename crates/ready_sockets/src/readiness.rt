@@ -1,41 +1,40 @@
 //! Sockets that may be ready, and the next to try.
 
-ghost use Rattle.std.specs.Prelude.{◌≡◌, ◌≤◌, ◌+◌, ◌*◌, ◌%◌, [], false, true, IsTrue, IfOk, OnErr};
-ghost use Rattle.std.specs.Prelude.{OnOk, IsSomeAnd, ◌↔◌, ◌∷◌, ◌++◌};
+ghost use Rattle.std.specs.Prelude.{◌≡◌, ◌≤◌, ◌+◌, ◌*◌, ◌%◌, [], IsTrue, IfOk, OnErr, OnOk};
+ghost use Rattle.std.specs.Prelude.{IsSomeAnd, ◌↔◌};
 ghost use Rattle.std.specs.Duration.{as_nanos};
 ghost use Rattle.mio.specs.Events.{capacity as events_capacity, items};
-ghost use Rattle.mio.specs.Interest.{is_priority, is_readable, is_writable};
 ghost use Rattle.std.specs.BTreeSet.{btree_set_len};
-ghost use Rattle.ready_sockets.specs.Tokens.{is_written, token_of};
+ghost use Rattle.system_calls.specs.Call.{watch_datagrams, watch_listener, watch_stream};
+ghost use Rattle.ready_sockets.specs.declared.origin.Origin.TheVariants.{Connections};
+ghost use Rattle.ready_sockets.specs.Calling.{IsRegistered, MakesReports, WaitsFor, Watches};
 ghost use Rattle.ready_sockets.specs.Trying.{Dropped, Finds, Gives, GivesOnTurn, HasDatagramsAlone};
 ghost use Rattle.ready_sockets.specs.Trying.{IsBegun, IsNothing, Noted, NotedStay, NotesEach};
 ghost use Rattle.ready_sockets.specs.Trying.{NotesEvent};
 
 use crate::origin::Origin;
-use call_log::CallLog;
-use mio::event::{Event, Source};
-use mio::{Events, Interest, Poll, Token};
+use mio::event::Event;
+use mio::{Events, Interest, Token};
 use std::alloc::{AllocError, Allocator};
 use std::collections::BTreeSet;
 use std::io;
 use std::marker::Model;
 use std::net::Net;
 use std::time::Duration;
+use system_calls::{Calls, DatagramSocket, Listener, Reports, Stream};
 
 /// How many events of the system are taken at once.
 const EVENTS: usize = 64;
 
 /// The sockets that may be ready: reported by the system, or to be tried all the same. Each socket
 /// stays until a call would have blocked. Contracts see which sockets may be ready, the last turn,
-/// the events of the last poll, and the pauses of all polls.
+/// and the events of the last poll.
 #[derive(Drop)]
 pub struct Readiness<A: Allocator> {
-    poll: Poll,
+    reports: Reports,
     events: Events<A>,
     ready: Ready<A>,
     turn: u8,
-    /// The pauses of the polls, for proofs alone.
-    pauses: CallLog<u64, ()>,
 }
 
 impl<A: Allocator> Model for Readiness<A> {
@@ -48,17 +47,18 @@ impl<A: Allocator> Model for Readiness<A> {
       ready = r.ready;
       turn = r.turn;
       events = items r.events;
-      pauses = r.pauses.calls;
     } };
 }
 
 impl<A: Allocator + Copy> Readiness<A> {
     /// Only the socket for datagrams may be ready. `Err` if the system refuses, or memory ran out.
-    pub fn new(net: &impl Net, alloc: A) -> io::Result<Readiness<A>>
-        ensures { IfOk result (λ readiness. IsBegun readiness.ready × (readiness.turn ≡ 0)) }
+    pub fn new(calls: &mut Calls, net: &impl Net, alloc: A) -> io::Result<Readiness<A>>
+        ensures begun { IfOk result (λ readiness.
+            IsBegun readiness.ready × (readiness.turn ≡ 0)) }
+        ensures calls { MakesReports calls.old calls.new }
     {
         Ok(Readiness {
-            poll: Poll::new(net)?,
+            reports: calls.make_reports(net)?,
             events: room_for_events(alloc)?,
             ready: Ready {
                 datagrams: true,
@@ -66,28 +66,59 @@ impl<A: Allocator + Copy> Readiness<A> {
                 servers: Tokens::new(alloc),
             },
             turn: 0,
-            pauses: CallLog::new(),
         })
     }
 
-    /// Has the system report when the socket is ready, as `registered` says. `Err` if the system
-    /// refuses.
-    pub fn watch<S: Source>(&self, socket: &mut S, origin: Origin) -> io::Result<()> {
+    /// Has the system report when the socket for datagrams is ready. `Err` if the system refuses.
+    pub fn watch_datagrams(
+        &self,
+        calls: &mut Calls,
+        socket: &mut DatagramSocket,
+        origin: Origin,
+    ) -> io::Result<()>
+        ensures calls { Watches origin (λ token interest.
+            watch_datagrams socket.old token interest result) calls.old calls.new }
+        ensures same { socket.new ≡ socket.old }
+    {
         let (token, interest) = registered(origin);
-        self.poll.registry().register(socket, token, interest)
+        calls.watch_datagrams(&self.reports, socket, token, interest)
+    }
+
+    /// Has the system report when the listener is ready. `Err` if the system refuses.
+    pub fn watch_listener(&self, calls: &mut Calls, listener: &mut Listener) -> io::Result<()>
+        ensures calls { Watches Connections (λ token interest.
+            watch_listener listener.old token interest result) calls.old calls.new }
+        ensures same { listener.new ≡ listener.old }
+    {
+        let (token, interest) = registered(Origin::Connections);
+        calls.watch_listener(&self.reports, listener, token, interest)
+    }
+
+    /// Has the system report when the stream is ready. `Err` if the system refuses.
+    pub fn watch_stream(
+        &self,
+        calls: &mut Calls,
+        stream: &mut Stream,
+        origin: Origin,
+    ) -> io::Result<()>
+        ensures calls { Watches origin (λ token interest.
+            watch_stream stream.old token interest result) calls.old calls.new }
+        ensures same { stream.new ≡ stream.old }
+    {
+        let (token, interest) = registered(origin);
+        calls.watch_stream(&self.reports, stream, token, interest)
     }
 
     /// Waits until a socket is ready, for `pause` milliseconds at most, and notes the sockets
     /// reported by the system. Noted sockets stay noted.
-    pub fn wait(&mut self, pause: u64)
+    pub fn wait(&mut self, calls: &mut Calls, pause: u64)
         requires { pause ≤ 5 }
         ensures each { NotesEach self.new.events self.old.ready self.new.ready }
         ensures stay { NotedStay self.old.ready self.new.ready }
         ensures turn { self.new.turn ≡ self.old.turn }
-        ensures pause { self.new.pauses ≡ self.old.pauses ++ (pause, tt) ∷ [] }
+        ensures waits { WaitsFor pause calls.old calls.new }
     {
-        self.pauses = self.pauses.and(&pause, &());
-        let polled = self.poll.poll(&mut self.events, pause_of(pause));
+        let polled = calls.wait(&mut self.reports, &mut self.events, pause_of(pause));
         self.note_events(polled);
     }
 
@@ -288,10 +319,7 @@ fn room_for_events<A: Allocator + Copy>(alloc: A) -> Result<Events<A>, AllocErro
 /// The token of a socket, and what the system reports of it: each is read, and streams are written
 /// in parts.
 fn registered(origin: Origin) -> (Token, Interest)
-    ensures token { result.0.0 ≡ token_of origin }
-    ensures reads { is_readable result.1 ≡ true }
-    ensures writes { is_writable result.1 ≡ is_written origin }
-    ensures no_other { is_priority result.1 ≡ false }
+    ensures { IsRegistered origin result.0 result.1 }
 {
     let interest = match origin {
         Origin::Client(_) | Origin::Server(_) => Interest::READABLE | Interest::WRITABLE,

@@ -2,10 +2,13 @@
 use Rattle.std.proofs.Common.{◌≡◌, refl, ap, subst, sym, ◌∙◌, ℕ, List, [], drop, Option, Some, None}
 use Rattle.std.specs.Prelude.{Result, Ok, unwrap_or}
 use Rattle.std.specs.declared.alloc.AllocError.{AllocError}
+use Rattle.std.specs.declared.time.Instant.{Instant}
 use Rattle.wires.specs.declared.wire.Arrival.{Arrival}
 use Rattle.wires.specs.declared.wire.Arrival.TheVariants.{Nothing}
 use Rattle.stream_connections.specs.declared.connections.Closed.{Closed}
-use Rattle.socket_wire.specs.Looking.{TakesTurn, TakesTurnAtOnce, given_of}
+use Rattle.socket_wire.specs.Arriving.{ReportsEnd}
+use Rattle.socket_wire.specs.Looking.{TakesTurn, TakesTurnAt, TakesTurnAtOnce, given_of}
+use Rattle.socket_wire.specs.Moments.{ReadsClock}
 use Rattle.socket_wire.specs.Seen.{SeenSockets}
 use Rattle.stream_connections.specs.Open.{Connections}
 
@@ -44,4 +47,22 @@ at_once now result seen before after connections is none rest turn = record {
       }) is rest));
   turn = subst (λ (s : SeenSockets _).
       TakesTurn now result (record s { connections = connections }) after) is turn;
+}
+
+-- A turn at a moment that one call gave, by sockets that differ in their calls alone.
+pub at_moment : {A : Type 0} (started : Instant) (last now moment : ℕ)
+    (result : Result (Arrival A) AllocError) (before seen after : SeenSockets A) → now ≡ moment
+    → ReadsClock started last moment before.calls seen.calls
+    → seen ≡ record before { calls = seen.calls } → ReportsEnd result seen after
+    → (seen.connections.closed ≡ [] → TakesTurnAtOnce now result seen after)
+    → TakesTurnAt started last moment result before after
+at_moment started last now moment result before seen after is reads rest end turn = record {
+  read = seen.calls;
+  reads = reads;
+  end = subst (λ s. ReportsEnd result s after) rest end;
+  turn = λ none.
+      let at_end : seen.connections.closed ≡ [] =
+      ap (λ (s : SeenSockets _). s.connections.closed) rest ∙ none in
+      subst (λ s. TakesTurnAtOnce moment result s after) rest
+      (subst (λ n. TakesTurnAtOnce n result seen after) is (turn at_end));
 }

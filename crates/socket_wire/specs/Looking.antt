@@ -1,23 +1,28 @@
 -- A turn's look at the sockets that are ready.
 use Rattle.std.specs.Prelude.{◌≡◌, ℕ, ◌-◌, ◌<◌, ◌≤◌, ◌||◌, Bool, true, false, length, nat_lt}
-use Rattle.std.specs.Prelude.{[], ◌∷◌, ◌++◌, Option, Some, None, Result, Ok, Err}
+use Rattle.std.specs.Prelude.{List, [], Option, Some, None, Result, Ok, Err}
+use Rattle.std.specs.declared.time.Instant.{Instant}
+use Rattle.system_calls.specs.Call.{Call}
 use Rattle.std.specs.declared.alloc.AllocError.{AllocError}
 use Rattle.std.specs.BTreeSet.{btree_set_len}
 use Rattle.wires.specs.declared.wire.Arrival.{Arrival}
 use Rattle.wires.specs.declared.wire.Arrival.TheVariants.{Nothing}
 use Rattle.socket_wire.specs.Seen.{SeenSockets}
+use Rattle.socket_wire.specs.Arriving.{ReportsEnd}
 use Rattle.socket_wire.specs.Attempting.{TriesReady}
+use Rattle.socket_wire.specs.Moments.{ReadsClock}
+use Rattle.ready_sockets.specs.Calling.{WaitsFor}
 use Rattle.ready_sockets.specs.Trying.{IsNothing, NotedStay, NotesEach}
 use Rattle.socket_wire.specs.Trying.{TriesOthers}
 
 -- Events are taken by one poll, which waits for `pause` ms at most: the sockets reported by each
 -- event are noted, more may be ready, and nothing else has changed, nor whose turn it is.
 pub record TakesEvents {A : Type 0} (pause : ℕ) (before after : SeenSockets A) : Type 0 where
-  pub polls : after.readiness.pauses ≡ before.readiness.pauses ++ (pause, tt) ∷ []
+  pub waits : WaitsFor pause before.calls after.calls
   pub each : NotesEach after.readiness.events before.readiness.ready after.readiness.ready
   pub stay : NotedStay before.readiness.ready after.readiness.ready
   pub turn : after.readiness.turn ≡ before.readiness.turn
-  pub rest : after ≡ record before { readiness = after.readiness }
+  pub rest : after ≡ record before { readiness = after.readiness; calls = after.calls }
 
 -- They are taken at once where something may be ready; otherwise nothing has changed.
 pub record TakesEventsIfReady {A : Type 0} (before after : SeenSockets A) : Type 0 where
@@ -97,3 +102,20 @@ pub record TakesTurnAtOnce {A : Type 0} (now : ℕ) (result : Result (Arrival A)
     connections = record before.connections { has_room = begun.connections.has_room };
   }
   pub turn : TakesTurn now result begun after
+
+-- The moment of a turn is read off the clock by one call. Then the end of a connection is reported,
+-- or the turn is taken at this moment.
+pub record TakesTurnAt {A : Type 0} (started : Instant) (last moment : ℕ)
+    (result : Result (Arrival A) AllocError) (before after : SeenSockets A) : Type 0 where
+  pub read : List Call
+  pub reads : ReadsClock started last moment before.calls read
+  pub end : ReportsEnd result (record before { calls = read }) after
+  pub turn : before.connections.closed ≡ []
+      → TakesTurnAtOnce moment result (record before { calls = read }) after
+
+-- The moment after a wait is read off the clock by one call. Then what the events reported is tried.
+pub record TriesReportedAt {A : Type 0} (started : Instant) (last moment : ℕ)
+    (result : Result (Arrival A) AllocError) (before after : SeenSockets A) : Type 0 where
+  pub read : List Call
+  pub reads : ReadsClock started last moment before.calls read
+  pub tries : TriesReported moment result (record before { calls = read }) after

@@ -1,10 +1,16 @@
 -- The effect of an action on the sockets of asks and on the connections.
-use Rattle.std.specs.Prelude.{◌≡◌, ℕ, ◌⊎◌, Bool, true, false, not, List, Option, Some, None, Result}
-use Rattle.std.specs.Prelude.{Ok, Err}
-use Rattle.std.specs.Prelude.{if◌then◌else◌}
+use Rattle.std.specs.Prelude.{◌≡◌, ℕ, ◌⊎◌, Bool, true, false, not, List, [], ◌∷◌, ◌++◌, Option, Some, None}
+use Rattle.std.specs.Prelude.{Result, Ok, Err, is_ok, if◌then◌else◌}
+use Rattle.std.specs.declared.io.Error.{Error}
+use Rattle.std.specs.declared.net.socket_addr.SocketAddr.{SocketAddr}
+use Rattle.system_calls.specs.Call.{Call, begin, send_to, watch_stream}
+use Rattle.system_calls.specs.declared.sockets.DatagramSocket.{DatagramSocket}
+use Rattle.system_calls.specs.declared.sockets.Stream.{Stream}
+use Rattle.ready_sockets.specs.Calling.{Watches}
+use Rattle.socket_wire.specs.Addresses.{IsAddressOf}
+use Rattle.socket_wire.specs.Arriving.{FreesBy}
 use Rattle.suffix_routes.specs.declared.peer.Peer.{Peer}
 use Rattle.ready_sockets.specs.declared.origin.Origin.TheVariants.{Server}
-use Rattle.ready_sockets.specs.declared.readiness.Ready.{Ready}
 use Rattle.ready_sockets.specs.Trying.{Noted}
 use Rattle.step_values.specs.declared.action.Action.{Action}
 use Rattle.step_values.specs.declared.action.Action.TheVariants.{AskUdp, AskTcp, CloseUdp, CloseTcp}
@@ -12,39 +18,78 @@ use Rattle.step_values.specs.declared.action.Action.TheVariants.{Reply}
 use Rattle.step_values.specs.declared.event.Client.TheVariants.{Udp, Tcp}
 use Rattle.stream_connections.specs.declared.client_stream.ClientStream.{ClientStream}
 use Rattle.stream_connections.specs.declared.servers.ServerStream.{ServerStream}
-use Rattle.socket_wire.specs.Asks.{ListsPort, SeenAsks, without_ask}
+use Rattle.socket_wire.specs.Asks.{OpensAsk, SendsQuery, without_ask}
 use Rattle.socket_wire.specs.Seen.{SeenSockets}
 use Rattle.stream_connections.specs.declared.lost.Lost.{Lost}
-use Rattle.stream_connections.specs.Listed.{RepliesOn, first_resting}
+use Rattle.stream_connections.specs.Listed.{RepliesOn}
 use Rattle.stream_connections.specs.Open.{Connections, with_server, without_client}
-use Rattle.stream_connections.specs.Open.{without_first, without_server}
+use Rattle.stream_connections.specs.Open.{without_server}
 use Rattle.stream_connections.specs.Queries.{IsBegunWith}
 use Rattle.stream_connections.specs.Serving.{is_over}
 
--- Nothing listed has changed, unless the oldest client that has waited for nothing for a while was
--- closed for its descriptor.
-abbrev pub MayMakeRoom : {A : Type 0} → (now : ℕ) → Connections A → Connections A → Type 0
-MayMakeRoom now before after =
-    (after ≡ record before { has_room = after.has_room })
-    ⊎ (after ≡ record (without_first (first_resting now before.clients) before)
-    { has_room = after.has_room })
+-- The calls that begin a connection, and have it watched. A refusal is the last call. Out of
+-- memory, none is made.
+abbrev pub BeginsOn : {A : Type 0} → (conn : ℕ) (server : Peer) (query : List ℕ)
+    → Result (ServerStream A) Error → (before after : List Call) → Type 0
+BeginsOn conn server query (Ok connection) before after =
+    (to : SocketAddr) × IsAddressOf server to × (stream : Stream)
+    × IsBegunWith stream server query connection
+    × Watches (Server conn) (λ token interest. watch_stream stream token interest (Ok tt))
+    (before ++ begin to (Ok stream) ∷ []) after
+BeginsOn conn server query (Err error) before after =
+    (after ≡ before)
+    ⊎ ((to : SocketAddr) × IsAddressOf server to
+    × ((after ≡ before ++ begin to (Err error) ∷ [])
+    ⊎ ((stream : Stream)
+    × Watches (Server conn) (λ token interest. watch_stream stream token interest (Err error))
+    (before ++ begin to (Ok stream) ∷ []) after)))
 
--- A begun query over TCP: its connection is listed.
-pub record Begins {A : Type 0} (conn : ℕ) (server : Peer) (query : List ℕ) (now : ℕ)
-    (before after : Connections A)
-    : Type 0 where
-  pub between : Connections A
-  pub stream : ServerStream A
-  pub begun : IsBegunWith server query stream
-  pub room : MayMakeRoom now before between
-  pub listed : after ≡ record (with_server conn stream between) { has_room = after.has_room }
+-- If the first attempt freed a descriptor, a second one is made.
+abbrev pub BeginsAgain : {A : Type 0} → (is_freed : Bool) → (conn : ℕ) (server : Peer) (query : List ℕ)
+    → (first begun : Result (ServerStream A) Error) → (before after : List Call) → Type 0
+BeginsAgain true conn server query first begun before after = BeginsOn conn server query begun before after
+BeginsAgain false conn server query first begun before after = (begun ≡ first) × (after ≡ before)
 
--- A query over TCP.
-abbrev pub ListsServer : {A : Type 0} → (conn : ℕ) (server : Peer) (query : List ℕ) (now : ℕ)
-    → (is_done : Bool)
-    → Connections A → Connections A → Type 0
-ListsServer conn server query now true before after = Begins conn server query now before after
-ListsServer conn server query now false before after = MayMakeRoom now before after
+-- A connection is begun. If no descriptor is left, the oldest client that has waited for nothing
+-- for a while is closed, and it is begun again.
+pub record BeginsWithRoom {A : Type 0} (conn : ℕ) (server : Peer) (query : List ℕ) (now : ℕ)
+    (begun : Result (ServerStream A) Error) (before after : SeenSockets A) : Type 0 where
+  pub first : Result (ServerStream A) Error
+  pub tried : List Call
+  pub is_freed : Bool
+  pub freed : SeenSockets A
+  pub begins : BeginsOn conn server query first before.calls tried
+  pub frees : FreesBy first now is_freed (record before { calls = tried }) freed
+  pub again : BeginsAgain is_freed conn server query first begun freed.calls after.calls
+  pub rest : after ≡ record freed { calls = after.calls }
+
+-- If the first attempt freed a descriptor, a second one is made.
+abbrev pub OpensAgain : (is_freed : Bool) → (port : ℕ) (server : Peer)
+    → (first opened : Result DatagramSocket Error) → (before after : List Call) → Type 0
+OpensAgain true port server first opened before after = OpensAsk port server opened before after
+OpensAgain false port server first opened before after = (opened ≡ first) × (after ≡ before)
+
+-- The socket of an ask is opened. If no descriptor is left, the oldest client that has waited for
+-- nothing for a while is closed, and it is opened again.
+pub record OpensWithRoom {A : Type 0} (port : ℕ) (server : Peer) (now : ℕ)
+    (opened : Result DatagramSocket Error) (before after : SeenSockets A) : Type 0 where
+  pub first : Result DatagramSocket Error
+  pub tried : List Call
+  pub is_freed : Bool
+  pub freed : SeenSockets A
+  pub opens : OpensAsk port server first before.calls tried
+  pub frees : FreesBy first now is_freed (record before { calls = tried }) freed
+  pub again : OpensAgain is_freed port server first opened freed.calls after.calls
+  pub rest : after ≡ record freed { calls = after.calls }
+
+-- A query by UDP: a socket is opened for it, which sends it.
+pub record AsksFrom {A : Type 0} (port : ℕ) (server : Peer) (query : List ℕ) (now : ℕ)
+    (is_done : Bool) (before after : SeenSockets A) : Type 0 where
+  pub opened : Result DatagramSocket Error
+  pub between : SeenSockets A
+  pub opens : OpensWithRoom port server now opened before between
+  pub sends : SendsQuery opened port query is_done between.calls after.calls between.asks after.asks
+  pub rest : after ≡ record between { asks = after.asks; calls = after.calls }
 
 -- whether a reply is on its way
 abbrev pub is_answered : Option (Result Bool Lost) → Bool
@@ -61,66 +106,78 @@ is_closed_after None = false
 -- A reply on the connection with this number, and the connection's end, if over then. No other
 -- client changes.
 pub record AnswersOn {A : Type 0} (conn : ℕ) (reply : List ℕ) (now : ℕ) (is_done : Bool)
-    (before after : Connections A) : Type 0 where
+    (calls calls' : List Call) (before after : Connections A) : Type 0 where
   pub answer : Option (Result Bool Lost)
   pub clients : List (ℕ × ClientStream A)
-  pub replies : RepliesOn conn reply now answer before.clients clients
+  pub replies : RepliesOn conn reply now answer calls calls' before.clients clients
   pub report : is_done ≡ is_answered answer
   pub closes : after ≡
       (if is_closed_after answer then without_client conn (record before { clients = clients })
       else record before { clients = clients })
 
--- The effect of an action, done or refused.
-abbrev pub Puts : {A : Type 0} → Action A → (now : ℕ) → (is_done : Bool)
-    → (asks asks' : SeenAsks)
-    → (before after : Connections A) → Type 0
-Puts (AskUdp port _ _) now is_done asks asks' before after =
-    ListsPort port is_done asks asks' × MayMakeRoom now before after
-Puts (AskTcp conn server query) now is_done asks asks' before after =
-    (asks' ≡ asks) × ListsServer conn server query now is_done before after
-Puts (CloseUdp port) now is_done asks asks' before after =
-    (is_done ≡ true) × (asks' ≡ without_ask port asks) × (after ≡ before)
-Puts (CloseTcp conn) now is_done asks asks' before after =
-    (is_done ≡ true) × (asks' ≡ asks) × (after ≡ without_server conn before)
-Puts (Reply (Udp _) _ _) now is_done asks asks' before after = (asks' ≡ asks) × (after ≡ before)
-Puts (Reply (Tcp conn) reply _) now is_done asks asks' before after =
-    (asks' ≡ asks) × AnswersOn conn reply now is_done before after
-
--- The sockets noted as ready by a query over TCP: its connection, once listed.
-abbrev pub NotesServer : {A : Type 0} → (conn : ℕ) → (is_done : Bool) → (before after : Ready A)
-    → Type 0
-NotesServer conn true before after = Noted (Server conn) before after
-NotesServer conn false before after = after ≡ before
-
--- The sockets noted as ready by an action: none but the connection of a query over TCP.
-abbrev pub NotesBy : {A : Type 0} → Action A → (is_done : Bool) → (before after : Ready A) → Type 0
-NotesBy (AskUdp _ _ _) is_done before after = after ≡ before
-NotesBy (AskTcp conn _ _) is_done before after = NotesServer conn is_done before after
-NotesBy (CloseUdp _) is_done before after = after ≡ before
-NotesBy (CloseTcp _) is_done before after = after ≡ before
-NotesBy (Reply _ _ _) is_done before after = after ≡ before
-
--- Putting an action.
-pub record PutsAction {A : Type 0} (action : Action A) (now : ℕ) (is_done : Bool)
+-- A reply by UDP is one call, with exactly its octets to its client. It is done if the system took
+-- it.
+pub record SendsReply {A : Type 0} (to : Peer) (reply : List ℕ) (is_done : Bool)
     (before after : SeenSockets A) : Type 0 where
-  pub puts : Puts action now is_done before.asks after.asks before.connections
-      after.connections
-  pub notes : NotesBy action is_done before.readiness.ready after.readiness.ready
+  pub address : SocketAddr
+  pub answer : Result ℕ Error
+  pub is_address : IsAddressOf to address
+  pub is_taken : is_done ≡ is_ok answer
   pub rest : after ≡ record before {
-    asks = after.asks;
-    connections = after.connections;
+    calls = before.calls ++ send_to before.datagrams reply address answer ∷ [];
+  }
+
+-- The connection of a query over TCP is listed, and noted as ready.
+pub record ListsServer {A : Type 0} (conn : ℕ) (stream : ServerStream A) (before after : SeenSockets A)
+    : Type 0 where
+  pub notes : Noted (Server conn) before.readiness.ready after.readiness.ready
+  pub rest : after ≡ record before {
+    connections = record (with_server conn stream before.connections) { has_room = after.connections.has_room };
     readiness = record before.readiness { ready = after.readiness.ready };
   }
 
--- Putting a query over TCP.
-pub record PutsQuery {A : Type 0} (conn : ℕ) (server : Peer) (query : List ℕ) (now : ℕ)
+-- The begun connection of a query over TCP is listed, unless memory ran out.
+abbrev pub ListsIfBegun : {A : Type 0} → (conn : ℕ) → Result (ServerStream A) Error → (is_done : Bool)
+    → (before after : SeenSockets A) → Type 0
+ListsIfBegun conn (Ok stream) true before after = ListsServer conn stream before after
+ListsIfBegun conn (Ok stream) false before after = after ≡ before
+ListsIfBegun conn (Err error) is_done before after = (is_done ≡ false) × (after ≡ before)
+
+-- A query over TCP, with room to report its end: a connection is begun for it.
+pub record BeginsQuery {A : Type 0} (conn : ℕ) (server : Peer) (query : List ℕ) (now : ℕ)
     (is_done : Bool) (before after : SeenSockets A) : Type 0 where
-  pub lists : ListsServer conn server query now is_done before.connections after.connections
-  pub notes : NotesServer conn is_done before.readiness.ready after.readiness.ready
-  pub rest : after ≡ record before {
-    connections = after.connections;
-    readiness = record before.readiness { ready = after.readiness.ready };
-  }
+  pub begun : Result (ServerStream A) Error
+  pub between : SeenSockets A
+  pub begins : BeginsWithRoom conn server query now begun before between
+  pub lists : ListsIfBegun conn begun is_done between after
+
+-- the sockets, with or without room to report one end more
+abbrev pub with_room : {A : Type 0} → Bool → SeenSockets A → SeenSockets A
+with_room has_room before =
+    record before { connections = record before.connections { has_room = has_room } }
+
+-- A query over TCP. Without room to report its end, it is not done.
+abbrev pub PutsQuery : {A : Type 0} → (conn : ℕ) (server : Peer) (query : List ℕ) (now : ℕ)
+    → (is_done : Bool) → (before after : SeenSockets A) → Type 0
+PutsQuery conn server query now is_done before after =
+    ((is_done ≡ false) × (after ≡ with_room after.connections.has_room before))
+    ⊎ BeginsQuery conn server query now is_done (with_room true before) after
+
+-- Putting an action, done or refused.
+abbrev pub PutsAction : {A : Type 0} → Action A → (now : ℕ) → (is_done : Bool)
+    → (before after : SeenSockets A) → Type 0
+PutsAction (AskUdp port server query) now is_done before after =
+    AsksFrom port server query now is_done before after
+PutsAction (AskTcp conn server query) now is_done before after =
+    PutsQuery conn server query now is_done before after
+PutsAction (CloseUdp port) now is_done before after =
+    (is_done ≡ true) × (after ≡ record before { asks = without_ask port before.asks })
+PutsAction (CloseTcp conn) now is_done before after =
+    (is_done ≡ true) × (after ≡ record before { connections = without_server conn before.connections })
+PutsAction (Reply (Udp to) reply _) now is_done before after = SendsReply to reply is_done before after
+PutsAction (Reply (Tcp conn) reply _) now is_done before after =
+    AnswersOn conn reply now is_done before.calls after.calls before.connections after.connections
+    × (after ≡ record before { connections = after.connections; calls = after.calls })
 
 -- the sockets once the random words in an action are spent: those of an ask
 abbrev pub with_spent : {A : Type 0} → Action A → SeenSockets A → SeenSockets A

@@ -6,23 +6,25 @@ use Rattle.step_values.specs.Values.{action_of}
 use Rattle.wires.specs.declared.wire.Arrival.{Arrival as OwnedArrival}
 use Rattle.wires.specs.declared.wire.Arrival.TheVariants.{Nothing}
 use Rattle.wires.specs.Wire.{Arrival, Put, Report, ◌then◌, arrival_of, arrived}
-use Rattle.mio.specs.declared.net.listener.TcpListener.{TcpListener}
-use Rattle.mio.specs.declared.net.udp.UdpSocket.{UdpSocket}
+use Rattle.system_calls.specs.Call.{Call}
+use Rattle.system_calls.specs.declared.sockets.DatagramSocket.{DatagramSocket}
+use Rattle.system_calls.specs.declared.sockets.Listener.{Listener}
 use Rattle.ready_sockets.specs.Seen.{SeenReadiness}
 use Rattle.stream_connections.specs.Open.{Connections}
 use Rattle.socket_wire.specs.Asks.{SeenAsks}
 use Rattle.socket_wire.specs.declared.numbers.Numbers.{Numbers}
 use Rattle.socket_wire.specs.declared.words.Words.{Words}
 
--- The allocator; what may be ready; the sockets of datagrams and for new connections; the
+-- The system's calls so far, in order; the allocator; what may be ready; the sockets of datagrams and for new connections; the
 -- connections and the numbers given to them; the sockets of asks; what was read last; the words;
 -- the time, in ms, for which a question may wait; the moment of the last sweep and the number of
 -- sweeps; and where the turns of clients, asks and servers go on.
 pub record SeenSockets (A : Type 0) : Type 0 where
+  pub calls : List Call
   pub alloc : A
   pub readiness : SeenReadiness A
-  pub datagrams : UdpSocket
-  pub listener : TcpListener
+  pub datagrams : DatagramSocket
+  pub listener : Listener
   pub connections : Connections A
   pub numbers : Numbers
   pub asks : SeenAsks
@@ -36,11 +38,14 @@ pub record SeenSockets (A : Type 0) : Type 0 where
   pub next_server : ℕ
 
 -- The arrivals, puts, moments and words that it gave and took so far; the number of faults that it
--- counted; and the time, in ms, for which a question on a connection may wait for its reply.
+-- counted; the time, in ms, for which a question on a connection may wait for its reply; the
+-- system's calls so far, in order; and the random words.
 pub record SeenWire : Type 0 where
   pub report : Report
   pub faults : ℕ
   pub deadline : ℕ
+  pub calls : List Call
+  pub words : Words
 
 -- the arrival that a turn gave, unless memory for it ran out
 abbrev pub came_of : {A : Type 0} → Result (OwnedArrival A) AllocError → Option Arrival

@@ -1,7 +1,11 @@
 -- Reading the sockets of clients and of asks.
 use Rattle.std.specs.Prelude.{◌≡◌, ℕ, ◌≤◌, length, Bool, true, false, not, ◌||◌, if◌then◌else◌}
-use Rattle.std.specs.Prelude.{IfOk, is_ok}
-use Rattle.std.specs.Prelude.{List, take, Option, Some, None, Result, Ok, Err}
+use Rattle.std.specs.Prelude.{is_ok, List, [], ◌∷◌, ◌++◌, take, Option, Some, None, Result, Ok, Err}
+use Rattle.std.specs.Ordering.{nat_cmp}
+use Rattle.std.specs.Map.{lookup}
+use Rattle.std.specs.BTreeMap.{is_at}
+use Rattle.system_calls.specs.Call.{receive}
+use Rattle.system_calls.specs.declared.sockets.DatagramSocket.{DatagramSocket}
 use Rattle.std.specs.declared.alloc.AllocError.{AllocError}
 use Rattle.step_values.specs.declared.Path.TheVariants as path
 use Rattle.socket_wire.specs.Asks.{SeenAsks, without_ask}
@@ -32,19 +36,6 @@ use Rattle.stream_connections.specs.Open.{Connections, ServesServer, without_cli
 abbrev pub IsPiece : (count : ℕ) (buffer octets : List ℕ) → Type 0
 IsPiece count buffer octets = count ≤ length buffer → octets ≡ take count buffer
 
--- The arrival carries the front of the buffer, as many octets as were received.
-abbrev pub CarriesFront : {A : Type 0} → (buffer : List ℕ) → (List ℕ → Arrival A) → Arrival A
-    → Type 0
-CarriesFront buffer carrying arrival = (count : ℕ) × (count ≤ length buffer)
-    × (arrival ≡ carrying (take count buffer))
-
--- A client's datagram, if any.
-abbrev pub IsDatagram : {A : Type 0} → (buffer : List ℕ) → Tried A → Type 0
-IsDatagram buffer (Arrived arrival) = (from : Peer)
-    × CarriesFront buffer (ClientDatagram from) arrival
-IsDatagram buffer Served = Unit {0}
-IsDatagram buffer Nothing = Unit {0}
-
 -- A datagram arrives from this peer with the received octets at the buffer's front, unless memory
 -- ran out. A datagram without a peer, over IPv6, does not.
 abbrev pub IsReceived : {A : Type 0} → (count : ℕ) → Option Peer → (buffer : List ℕ)
@@ -63,11 +54,16 @@ HearsDatagram (Ok (count, from)) buffer result = IsReceived count (peer_at from)
     ClientDatagram result
 HearsDatagram (Err error) buffer result = result ≡ Ok Nothing
 
--- Reading the socket for datagrams. No connection, no ask and no number changes.
+-- The socket for clients' datagrams is read by one call, and its answer decides. No connection, no
+-- ask and no number changes.
 pub record TakesDatagram {A : Type 0} (result : Result (Tried A) AllocError)
     (before after : SeenSockets A) : Type 0 where
-  pub arrives : IfOk result (IsDatagram after.buffer)
-  pub rest : after ≡ record before { buffer = after.buffer }
+  pub answer : Result (ℕ × SocketAddr) Error
+  pub hears : HearsDatagram answer after.buffer result
+  pub rest : after ≡ record before {
+    buffer = after.buffer;
+    calls = before.calls ++ receive before.datagrams after.buffer answer ∷ [];
+  }
 
 -- The arrival of the client with this number: the octets that were heard, unless memory ran out.
 abbrev pub Arrives : {A : Type 0} → (conn : ℕ) (buffer : List ℕ) → Option Heard
@@ -107,13 +103,18 @@ pub record TakesClient {A : Type 0} (conn now : ℕ) (result : Result (Tried A) 
   pub heard : Option Heard
   pub clients : List (ℕ × ClientStream A)
   pub late : Bool
-  pub serves : ServesOn conn heard now after.buffer before.connections.clients clients
+  pub serves : ServesOn conn heard now after.buffer before.calls after.calls
+      before.connections.clients clients
   pub is_late : late ≡ is_late_on conn now before.deadline clients
   pub arrives : ArrivesUnless late conn after.buffer heard result
   pub closes : after.connections ≡ closed_if (late || is_closed_then heard (is_ok result))
       (without_client conn)
       (record before.connections { clients = clients })
-  pub rest : after ≡ record before { connections = after.connections; buffer = after.buffer }
+  pub rest : after ≡ record before {
+    connections = after.connections;
+    buffer = after.buffer;
+    calls = after.calls;
+  }
 
 -- The arrival of the server on the connection with this number: the octets read, unless memory ran
 -- out. Nothing arrives if the server sends nothing more, the stream failed, or the read would
@@ -143,24 +144,16 @@ pub record TakesServer {A : Type 0} (conn : ℕ) (result : Result (Tried A) Allo
     (before after : SeenSockets A) : Type 0 where
   pub served : Option ServerHeard
   pub servers : List (ℕ × ServerConnection A)
-  pub serves : ServesServer conn served after.buffer before.connections.servers servers
+  pub serves : ServesServer conn served after.buffer before.calls after.calls
+      before.connections.servers servers
   pub arrives : ArrivesOf conn after.buffer served result
   pub closes : after.connections ≡ closed_if (is_closed_by result) (without_server conn)
       (record before.connections { servers = servers })
-  pub rest : after ≡ record before { connections = after.connections; buffer = after.buffer }
-
--- the sockets of asks, without the socket at this port if its end is reported
-abbrev pub left_by : {A : Type 0} → (port : ℕ) → Result (Tried A) AllocError → SeenAsks → SeenAsks
-left_by port (Ok (Arrived (PathGone _))) asks = without_ask port asks
-left_by port _ asks = asks
-
--- A datagram at this port, or the end of its path, if any.
-abbrev pub IsOfAsk : {A : Type 0} → (port : ℕ) (buffer : List ℕ) → Tried A → Type 0
-IsOfAsk port buffer (Arrived (PathGone gone)) = gone ≡ path.Udp port
-IsOfAsk port buffer (Arrived arrival) = (from : Peer)
-    × CarriesFront buffer (ServerDatagram port from) arrival
-IsOfAsk port buffer Served = Unit {0}
-IsOfAsk port buffer Nothing = Unit {0}
+  pub rest : after ≡ record before {
+    connections = after.connections;
+    buffer = after.buffer;
+    calls = after.calls;
+  }
 
 -- The path of the ask at this port is gone, and its socket too.
 abbrev pub IsLost : {A : Type 0} → (port : ℕ) → Tried A → (before after : SeenAsks) → Type 0
@@ -188,9 +181,25 @@ HearsAsk port (Err error) buffer (Ok tried) before after = LosesAsk port (refusa
     before after
 HearsAsk port (Err error) buffer (Err _) before after = ⊥
 
--- Reading the socket of the ask at this port.
-pub record TakesAsk {A : Type 0} (port : ℕ) (result : Result (Tried A) AllocError)
-    (before after : SeenSockets A) : Type 0 where
-  pub asks : after.asks ≡ left_by port result before.asks
-  pub arrives : IfOk result (IsOfAsk port after.buffer)
-  pub rest : after ≡ record before { asks = after.asks; buffer = after.buffer }
+-- The socket of the ask at this port is read by one call, and its answer decides.
+pub record ReadsAsk {A : Type 0} (port : ℕ) (socket : DatagramSocket)
+    (result : Result (Tried A) AllocError) (before after : SeenSockets A) : Type 0 where
+  pub answer : Result (ℕ × SocketAddr) Error
+  pub hears : HearsAsk port answer after.buffer result before.asks after.asks
+  pub rest : after ≡ record before {
+    asks = after.asks;
+    buffer = after.buffer;
+    calls = before.calls ++ receive socket after.buffer answer ∷ [];
+  }
+
+-- Reading the socket of an ask, if any is open at the port.
+abbrev pub TakesOfAsk : {A : Type 0} → (port : ℕ) → Option DatagramSocket
+    → Result (Tried A) AllocError → (before after : SeenSockets A) → Type 0
+TakesOfAsk port (Some socket) result before after = ReadsAsk port socket result before after
+TakesOfAsk port None result before after = (result ≡ Ok Nothing) × (after ≡ before)
+
+-- Reading the socket of the ask that is listed at this port.
+abbrev pub TakesAsk : {A : Type 0} → (port : ℕ) → Result (Tried A) AllocError
+    → (before after : SeenSockets A) → Type 0
+TakesAsk port result before after =
+    TakesOfAsk port (lookup (is_at (nat_cmp port)) before.asks.listed) result before after

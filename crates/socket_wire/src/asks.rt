@@ -1,12 +1,15 @@
 //! The sockets of asks.
 
-ghost use Rattle.std.specs.Prelude.{◌≡◌, [], Err, IfErr, OnOk, is_ok, length, nat_lt};
+ghost use Rattle.std.specs.Prelude.{◌≡◌, [], is_ok, length, nat_lt};
+ghost use Rattle.std.specs.BTreeMap.{is_at};
+ghost use Rattle.std.specs.Map.{lookup};
+ghost use Rattle.std.specs.Option.{option_copied};
+ghost use Rattle.std.specs.Ordering.{nat_cmp};
 ghost use Rattle.stream_connections.specs.Listed.{first_number};
-ghost use Rattle.socket_wire.specs.Asks.{ListsPort, ListsThis, without_ask};
+ghost use Rattle.socket_wire.specs.Asks.{OpensAsk, SentBy, without_ask};
 
 use crate::address::ends_of;
 use crate::answers::{kept_if, sent};
-use mio::net::UdpSocket;
 use ready_sockets::{Origin, Readiness};
 use std::alloc::Allocator;
 use std::collections::BTreeMap;
@@ -15,12 +18,13 @@ use std::marker::Model;
 use std::net::Net;
 use stream_connections::Dropped;
 use suffix_routes::Peer;
+use system_calls::{Calls, DatagramSocket};
 
 /// The open sockets of asks, by their ports. A socket that leaves the list is dropped.
 #[derive(Drop)]
 pub(crate) struct Asks<A: Allocator> {
-    listed: BTreeMap<u16, UdpSocket, A>,
-    gone: Dropped<UdpSocket>,
+    listed: BTreeMap<u16, DatagramSocket, A>,
+    gone: Dropped<DatagramSocket>,
 }
 
 impl<A: Allocator> Model for Asks<A> {
@@ -47,12 +51,10 @@ impl<A: Allocator + Copy> Asks<A> {
     pub fn list(
         &mut self,
         port: u16,
-        socket: UdpSocket,
+        socket: DatagramSocket,
         answer: io::Result<usize>,
     ) -> io::Result<()>
-        ensures sent { OnOk answer (ListsThis port socket (is_ok result) self.old self.new) }
-        ensures refused { IfErr answer (λ error. (result ≡ Err error) × (self.new ≡ self.old)) }
-        ensures lists { ListsPort port (is_ok result) self.old self.new }
+        ensures { SentBy answer port socket (is_ok result) self.old self.new }
     {
         sent(answer)?;
         if let Some(replaced) = self.listed.insert(port, socket)? {
@@ -71,7 +73,9 @@ impl<A: Allocator + Copy> Asks<A> {
     }
 
     /// Returns the socket at this port.
-    pub fn at(&self, port: u16) -> Option<&UdpSocket> {
+    pub fn at(&self, port: u16) -> Option<&DatagramSocket>
+        ensures { option_copied result ≡ lookup (is_at (nat_cmp port)) self.now.listed }
+    {
         self.listed.get(&port)
     }
 
@@ -94,15 +98,18 @@ impl<A: Allocator + Copy> Asks<A> {
 /// Binds a socket at this port and connects it to the server, so that no stranger's datagram
 /// arrives and a closed port is reported. `Err` if the system refuses.
 pub(crate) fn ask_socket<R: Net, A: Allocator + Copy>(
+    calls: &mut Calls,
     rt: &R,
     readiness: &Readiness<A>,
     port: u16,
     server: Peer,
-) -> io::Result<UdpSocket> {
+) -> io::Result<DatagramSocket>
+    ensures { OpensAsk port server result calls.old calls.new }
+{
     let ends = ends_of(port, server);
-    let socket = UdpSocket::bind(rt, ends.own)?;
-    let connected = socket.connect(ends.server);
+    let socket = calls.bind(rt, ends.own)?;
+    let connected = calls.connect(&socket, ends.server);
     let mut socket = kept_if(socket, connected)?;
-    let watched = readiness.watch(&mut socket, Origin::Ask(port));
+    let watched = readiness.watch_datagrams(calls, &mut socket, Origin::Ask(port));
     kept_if(socket, watched)
 }

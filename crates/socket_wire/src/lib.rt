@@ -9,7 +9,6 @@ mod log;
 mod moments;
 mod noted;
 mod numbers;
-mod receive_buffer;
 mod sockets;
 mod spare;
 mod wire;

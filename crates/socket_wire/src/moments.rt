@@ -1,12 +1,14 @@
 //! Moments that never fall.
 
-ghost use Rattle.std.specs.Prelude.{◌≡◌, ◌≤◌, ◌∷◌, ◌++◌, [], max, true, false, IfOk, OnErr};
-ghost use Rattle.socket_wire.specs.Moments.{moment_of};
+ghost use Rattle.std.specs.Prelude.{◌≡◌, ◌≤◌, ◌∷◌, ◌++◌, [], true, false, IfOk, Ok};
+ghost use Rattle.system_calls.specs.Call.{start_clock};
+ghost use Rattle.socket_wire.specs.Moments.{ReadsOnce, moment_by, moment_of};
 
 use call_log::CallLog;
 use std::io;
 use std::rt::Clock;
 use std::time::{Duration, Instant};
+use system_calls::Calls;
 
 /// A clock: ms since its making, by the system's monotonic clock. One reading serves an arrival and
 /// all steps of its turn.
@@ -24,12 +26,14 @@ pub(crate) struct Moments<'a, R: Clock> {
 
 impl<'a, R: Clock> Moments<'a, R> {
     /// Starts with no moment returned yet. `Err` if the clock fails.
-    pub fn new(rt: &'a R) -> io::Result<Moments<'a, R>>
-        ensures { IfOk result (λ moments. (moments.last ≡ 0) × (moments.given.calls ≡ [])) }
+    pub fn new(calls: &mut Calls, rt: &'a R) -> io::Result<Moments<'a, R>>
+        ensures new { IfOk result (λ moments. (moments.last ≡ 0) × (moments.given.calls ≡ [])) }
+        ensures calls { IfOk result (λ moments.
+            calls.new ≡ calls.old ++ start_clock (Ok moments.started) ∷ []) }
     {
         Ok(Moments {
             rt,
-            started: Instant::now(rt)?,
+            started: calls.start_clock(rt)?,
             last: 0,
             is_read: false,
             given: CallLog::new(),
@@ -37,12 +41,15 @@ impl<'a, R: Clock> Moments<'a, R> {
     }
 
     /// Gives a step its moment, in ms, and notes it.
-    pub fn give(&mut self) -> u64
+    pub fn give(&mut self, calls: &mut Calls) -> u64
         ensures report { result ≡ self.new.last }
         ensures rises { self.old.last ≤ self.new.last }
+        ensures reads { ReadsOnce self.old.is_read self.old.started self.old.last self.new.last
+            calls.old calls.new }
+        ensures same { self.new.started ≡ self.old.started }
         ensures notes { self.new.given.calls ≡ self.old.given.calls ++ (result, tt) ∷ [] }
     {
-        let now = self.now();
+        let now = self.now(calls);
         self.given = self.given.and(&now, &());
         now
     }
@@ -56,18 +63,18 @@ impl<'a, R: Clock> Moments<'a, R> {
 
     /// Returns the moment, in ms. The last moment again, if the clock is not to be read again,
     /// fails or goes back.
-    pub fn now(&mut self) -> u64
+    pub fn now(&mut self, calls: &mut Calls) -> u64
         ensures report { result ≡ self.new.last }
         ensures rises { self.old.last ≤ self.new.last }
-        ensures once { self.old.is_read ≡ true → self.new ≡ self.old }
-        ensures read { self.new.is_read ≡ true }
-        ensures given { self.new.given ≡ self.old.given }
+        ensures reads { ReadsOnce self.old.is_read self.old.started self.old.last self.new.last
+            calls.old calls.new }
+        ensures rest { self.new ≡ record self.old { last = self.new.last; is_read = true } }
     {
         if self.is_read {
             return self.last;
         }
         self.is_read = true;
-        let spent = self.started.elapsed(self.rt);
+        let spent = calls.read_clock(self.rt, &self.started);
         self.note(spent);
         self.last
     }
@@ -75,11 +82,8 @@ impl<'a, R: Clock> Moments<'a, R> {
     /// Notes the moment after this time, by the clock's answer, unless earlier than the last or the
     /// clock failed.
     fn note(&mut self, spent: io::Result<Duration>)
-        ensures ok { IfOk spent (λ spent. self.new
-            ≡ record self.old { last = max self.old.last (moment_of spent) }) }
-        ensures err { OnErr spent (self.new ≡ self.old) }
+        ensures notes { self.new ≡ record self.old { last = moment_by spent self.old.last } }
         ensures rises { self.old.last ≤ self.new.last }
-        ensures rest { self.new ≡ record self.old { last = self.new.last } }
     {
         if let Ok(spent) = spent {
             self.last = self.last.max(moment_of(spent));

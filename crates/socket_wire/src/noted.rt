@@ -1,11 +1,11 @@
 //! The sockets of a wire, with a note of what they gave and took.
 
-ghost use Rattle.std.specs.Prelude.{◌≡◌, ◌-◌, ◌^◌, [], Some, true, is_ok};
+ghost use Rattle.std.specs.Prelude.{◌≡◌, ◌-◌, ◌^◌, ◌∷◌, ◌++◌, [], Some, true, is_ok};
 ghost use Rattle.step_values.specs.Values.{action_of};
 ghost use Rattle.wires.specs.Wire.{◌then◌, arrived, silence, was_put, words_were};
 ghost use Rattle.wires.specs.Wire.Arrival.{nothing};
-ghost use Rattle.socket_wire.specs.Arriving.{ReportsEnd};
-ghost use Rattle.socket_wire.specs.Looking.{TakesTurnAtOnce, TriesReported};
+ghost use Rattle.socket_wire.specs.Looking.{TakesTurnAt, TriesReportedAt};
+ghost use Rattle.socket_wire.specs.Moments.{ReadsOnce};
 ghost use Rattle.socket_wire.specs.Putting.{PutsAction, with_spent};
 ghost use Rattle.socket_wire.specs.Seen.{came_of, report_at_once};
 ghost use Rattle.socket_wire.specs.Words.{GivesWords};
@@ -46,14 +46,15 @@ impl<'a, R: Net, A: Allocator + Copy> Noted<'a, R, A> {
         &mut self,
         moments: &mut Moments<'_, C>,
     ) -> Result<Arrival<A>, AllocError>
-        ensures end { ReportsEnd result self.old.sockets self.new.sockets }
-        ensures turn { self.old.sockets.connections.closed ≡ []
-            → TakesTurnAtOnce moments.new.last result self.old.sockets self.new.sockets }
+        ensures turn { TakesTurnAt moments.old.started moments.old.last moments.new.last result
+            self.old.sockets self.new.sockets }
         ensures notes { self.new.log ≡ report_at_once self.old.log result }
-        ensures given { moments.new.given ≡ moments.old.given }
+        ensures moments { moments.new
+            ≡ record moments.old { last = moments.new.last; is_read = true } }
     {
         moments.read_again();
-        let came = self.sockets.arrival(moments.now());
+        let now = self.sockets.moment(moments);
+        let came = self.sockets.arrival(now);
         match &came {
             Ok(Arrival::Nothing) => {}
             _ => self.log.came(&came),
@@ -67,14 +68,30 @@ impl<'a, R: Net, A: Allocator + Copy> Noted<'a, R, A> {
         &mut self,
         moments: &mut Moments<'_, C>,
     ) -> Result<Arrival<A>, AllocError>
-        ensures tries { TriesReported moments.new.last result self.old.sockets self.new.sockets }
+        ensures tries { TriesReportedAt moments.old.started moments.old.last moments.new.last
+            result self.old.sockets self.new.sockets }
         ensures notes { self.new.log ≡ self.old.log then arrived (came_of result) }
-        ensures given { moments.new.given ≡ moments.old.given }
+        ensures moments { moments.new
+            ≡ record moments.old { last = moments.new.last; is_read = true } }
     {
         moments.read_again();
-        let came = self.sockets.reported(moments.now());
+        let now = self.sockets.moment(moments);
+        let came = self.sockets.reported(now);
         self.log.came(&came);
         came
+    }
+
+    /// Gives a step its moment, in ms.
+    pub fn moment<C: Clock>(&mut self, moments: &mut Moments<'_, C>) -> u64
+        ensures reads { ReadsOnce moments.old.is_read moments.old.started moments.old.last result
+            self.old.sockets.calls self.new.sockets.calls }
+        ensures report { result ≡ moments.new.last }
+        ensures notes { moments.new.given.calls ≡ moments.old.given.calls ++ (result, tt) ∷ [] }
+        ensures rest { self.new ≡ record self.old {
+          sockets = record self.old.sockets { calls = self.new.sockets.calls };
+        } }
+    {
+        self.sockets.give_moment(moments)
     }
 
     /// Does an action, at the moment of its step. `Err` if the system refuses, or memory ran out.

@@ -1,9 +1,12 @@
 //! The sockets of a wire, and what arrives on them.
 
-ghost use Rattle.std.specs.Prelude.{◌≡◌, [], IfOk};
+ghost use Rattle.std.specs.Prelude.{◌≡◌, ◌∷◌, ◌++◌, [], IfOk, Ok, true};
+ghost use Rattle.system_calls.specs.Call.{start_clock};
 ghost use Rattle.socket_wire.specs.Arriving.{AreNew, ReportsEnd};
 ghost use Rattle.socket_wire.specs.Attempting.{TriesReady};
+ghost use Rattle.socket_wire.specs.Listening.{OpensBoth};
 ghost use Rattle.socket_wire.specs.Looking.{EndsTurn, Looks, TakesTurn, TakesTurnAtOnce, TriesReported, has_asks};
+ghost use Rattle.socket_wire.specs.Moments.{ReadsOnce};
 ghost use Rattle.socket_wire.specs.Words.{GivesWords};
 
 mod putting;
@@ -13,19 +16,21 @@ mod trying;
 use crate::address::address_of;
 use crate::asks::Asks;
 use crate::listeners::{connections_at, datagrams_at};
+use crate::moments::Moments;
 use crate::numbers::Numbers;
 use crate::spare::Spare;
 use crate::words::Words;
-use mio::net::{TcpListener, UdpSocket};
 use plain_values::Octets;
 use ready_sockets::Readiness;
 use std::alloc::{AllocError, Allocator};
 use std::io;
 use std::marker::Model;
 use std::net::Net;
+use std::rt::Clock;
 use step_values::Path;
 use stream_connections::{Closed, Connections};
 use suffix_routes::{Limits, Peer};
+use system_calls::{Calls, DatagramSocket, Listener};
 use taking::Tried;
 use wires::Arrival;
 
@@ -43,10 +48,12 @@ const TRIES: u8 = 64;
 #[derive(Drop)]
 pub(crate) struct Sockets<'a, R: Net, A: Allocator> {
     rt: &'a R,
+    /// The system's calls, for proofs alone.
+    calls: Calls,
     alloc: A,
     readiness: Readiness<A>,
-    datagrams: UdpSocket,
-    listener: TcpListener,
+    datagrams: DatagramSocket,
+    listener: Listener,
     /// The connections of clients and of asks.
     connections: Connections<A>,
     numbers: Numbers,
@@ -71,6 +78,7 @@ impl<'a, R: Net, A: Allocator> Model for Sockets<'a, R, A> {
     ghost Value = { SeenSockets A };
 
     ghost view = { λ s. record {
+      calls = s.calls;
       alloc = s.alloc;
       readiness = s.readiness;
       datagrams = s.datagrams;
@@ -93,6 +101,7 @@ impl<'a, R: Net, A: Allocator + Copy> Sockets<'a, R, A> {
     /// Listens at the peer's address by UDP and TCP. `Err` if the system refuses, or memory ran
     /// out.
     pub fn new(
+        mut calls: Calls,
         rt: &'a R,
         alloc: A,
         listen: Peer,
@@ -103,14 +112,17 @@ impl<'a, R: Net, A: Allocator + Copy> Sockets<'a, R, A> {
         ensures alloc { IfOk result (λ sockets. sockets.alloc ≡ alloc) }
         ensures deadline { IfOk result (λ sockets. sockets.deadline ≡ limits.now.deadline_ms) }
         ensures words { IfOk result (λ sockets. sockets.words ≡ words) }
+        ensures opens { IfOk result (λ sockets.
+            OpensBoth listen sockets.datagrams sockets.listener calls sockets.calls) }
     {
-        let readiness = Readiness::new(rt, alloc)?;
+        let readiness = Readiness::new(&mut calls, rt, alloc)?;
         let at = address_of(listen);
-        let datagrams = datagrams_at(rt, &readiness, at)?;
-        let listener = connections_at(rt, &readiness, at)?;
+        let datagrams = datagrams_at(&mut calls, rt, &readiness, at)?;
+        let listener = connections_at(&mut calls, rt, &readiness, at)?;
         let buffer = Box::new(alloc, [0u8; LARGEST])?;
         Ok(Sockets {
             rt,
+            calls,
             alloc,
             readiness,
             datagrams,
@@ -136,6 +148,40 @@ impl<'a, R: Net, A: Allocator + Copy> Sockets<'a, R, A> {
         ensures rest { self.new ≡ record self.old { words = self.new.words } }
     {
         self.words.next()
+    }
+
+    /// Starts the clock. `Err` if it fails.
+    pub fn started<'c, C: Clock>(&mut self, clock: &'c C) -> io::Result<Moments<'c, C>>
+        ensures new { IfOk result (λ moments. (moments.last ≡ 0) × (moments.given.calls ≡ [])) }
+        ensures calls { IfOk result (λ moments.
+            self.new.calls ≡ self.old.calls ++ start_clock (Ok moments.started) ∷ []) }
+        ensures rest { self.new ≡ record self.old { calls = self.new.calls } }
+    {
+        Moments::new(&mut self.calls, clock)
+    }
+
+    /// Returns the moment, in ms.
+    pub fn moment<C: Clock>(&mut self, moments: &mut Moments<'_, C>) -> u64
+        ensures report { result ≡ moments.new.last }
+        ensures reads { ReadsOnce moments.old.is_read moments.old.started moments.old.last
+            moments.new.last self.old.calls self.new.calls }
+        ensures moments { moments.new
+            ≡ record moments.old { last = moments.new.last; is_read = true } }
+        ensures rest { self.new ≡ record self.old { calls = self.new.calls } }
+    {
+        moments.now(&mut self.calls)
+    }
+
+    /// Gives a step its moment, in ms, and notes it.
+    pub fn give_moment<C: Clock>(&mut self, moments: &mut Moments<'_, C>) -> u64
+        ensures reads { ReadsOnce moments.old.is_read moments.old.started moments.old.last result
+            self.old.calls self.new.calls }
+        ensures report { result ≡ moments.new.last }
+        ensures same { moments.new.started ≡ moments.old.started }
+        ensures notes { moments.new.given.calls ≡ moments.old.given.calls ++ (result, tt) ∷ [] }
+        ensures rest { self.new ≡ record self.old { calls = self.new.calls } }
+    {
+        moments.give(&mut self.calls)
     }
 
     /// Takes back the memory of served octets, for the next arrivals.
@@ -188,7 +234,7 @@ impl<'a, R: Net, A: Allocator + Copy> Sockets<'a, R, A> {
         ensures { EndsTurn self.old self.new }
     {
         if self.readiness.is_empty() {
-            self.readiness.wait(PAUSE);
+            self.readiness.wait(&mut self.calls, PAUSE);
         }
     }
 
@@ -201,13 +247,13 @@ impl<'a, R: Net, A: Allocator + Copy> Sockets<'a, R, A> {
         if now.saturating_sub(self.tried) >= PAUSE {
             self.tried = now;
             if !self.readiness.is_empty() {
-                self.readiness.wait(0);
+                self.readiness.wait(&mut self.calls, 0);
             }
             self.try_others();
             return;
         }
         if !self.readiness.is_empty() && self.readiness.has_no_server() && self.has_asks() {
-            self.readiness.wait(0);
+            self.readiness.wait(&mut self.calls, 0);
         }
     }
 

@@ -2,6 +2,7 @@
 
 ghost use Rattle.std.specs.Prelude.{◌≡◌, ◌+◌, Some, IfOk, OnErr, OnOk};
 ghost use Rattle.wires.specs.Wire.{silence};
+ghost use Rattle.socket_wire.specs.Listening.{IsOpenedAt};
 
 use crate::answers::kept_if;
 use crate::moments::Moments;
@@ -17,11 +18,13 @@ use std::random::RandomSource;
 use std::rt::Clock;
 use step_values::Action;
 use suffix_routes::{Limits, Peer};
+use system_calls::Calls;
 use wires::{Arrival, Wire, WireFault};
 
 /// A wire over sockets. It listens at one address by UDP and TCP, asks from a socket of its own for
 /// each ask, and waits for none of them. Contracts see what its calls gave and took, the number of
-/// faults it counted, and how long a question on a connection may wait.
+/// faults it counted, how long a question on a connection may wait, the system's calls, and the
+/// random words.
 #[derive(Drop)]
 pub struct MioWire<'a, R: Net + Clock, A: Allocator = Global> {
     sockets: Noted<'a, R, A>,
@@ -38,6 +41,8 @@ impl<'a, R: Net + Clock, A: Allocator> Model for MioWire<'a, R, A> {
       report = with_moments w.sockets.log w.moments.given.calls;
       faults = w.faults;
       deadline = w.sockets.sockets.deadline;
+      calls = w.sockets.sockets.calls;
+      words = w.sockets.sockets.words;
     } };
 }
 
@@ -49,13 +54,17 @@ impl<'a, R: Net + Clock + RandomSource, A: Allocator + Copy> MioWire<'a, R, A> {
         ensures report { IfOk result (λ wire. wire.report ≡ silence) }
         ensures faults { IfOk result (λ wire. wire.faults ≡ 0) }
         ensures deadline { IfOk result (λ wire. wire.deadline ≡ limits.now.deadline_ms) }
+        ensures opened { IfOk result (λ wire. IsOpenedAt listen wire) }
     {
+        let mut calls = Calls::new();
         let mut seed = [0u8; 32];
-        let filled = rt.fill_bytes(&mut seed);
+        let filled = calls.fill_random(rt, &mut seed);
         let words = Words::new(kept_if(seed, filled)?);
+        let mut sockets = Sockets::new(calls, rt, alloc, listen, limits, words)?;
+        let moments = sockets.started(rt)?;
         Ok(MioWire {
-            sockets: Noted::new(Sockets::new(rt, alloc, listen, limits, words)?),
-            moments: Moments::new(rt)?,
+            sockets: Noted::new(sockets),
+            moments,
             faults: 0,
         })
     }
@@ -112,7 +121,7 @@ impl<R: Net + Clock, A: Allocator + Copy> Wire<A> for MioWire<'_, R, A> {
     }
 
     fn moment(&mut self) -> u64 {
-        self.moments.give()
+        self.sockets.moment(&mut self.moments)
     }
 
     fn words(&mut self) -> [u32; 8] {

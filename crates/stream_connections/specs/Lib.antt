@@ -4,4 +4,5 @@ pub mod Listed
 pub mod Open
 pub mod Queries
 pub mod Serving
+pub mod Streams
 pub mod Waiting

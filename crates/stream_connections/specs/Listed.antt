@@ -6,6 +6,8 @@ use Rattle.std.specs.declared.ops.Bound.TheVariants.{Included, Unbounded}
 use Rattle.std.specs.Map.{lookup, set_value}
 use Rattle.std.specs.BTreeMap.{insert_entry, is_at}
 use Rattle.std.specs.BTreeMap.Range.{entries_between}
+use Rattle.system_calls.specs.Call.{Call}
+use Rattle.system_calls.specs.declared.sockets.Stream.{Stream}
 use Rattle.stream_connections.specs.declared.client_stream.ClientStream.{ClientStream}
 use Rattle.stream_connections.specs.declared.answers.Heard.{Heard}
 use Rattle.stream_connections.specs.declared.lost.Lost.{Lost}
@@ -25,22 +27,26 @@ pub record IsNotOpen {X : Type 0} (conn : ℕ) (before after : List (ℕ × X)) 
   pub is_not_open : lookup (is_at (nat_cmp conn)) before ≡ None
   pub same : after ≡ before
 
--- Serving the connection with this number.
+-- Serving the connection with this number, by these calls; by none if not open.
 abbrev pub ServesOn : {A : Type 0} → (conn : ℕ) → Option Heard → (now : ℕ) (buffer : List ℕ)
-    → (before after : List (ℕ × ClientStream A)) → Type 0
-ServesOn conn (Some heard) now buffer before after = ChangesAt conn (Serves heard now buffer) before after
-ServesOn conn None now buffer before after = IsNotOpen conn before after
+    → (calls calls' : List Call) → (before after : List (ℕ × ClientStream A)) → Type 0
+ServesOn conn (Some heard) now buffer calls calls' before after =
+    ChangesAt conn (Serves heard now buffer calls calls') before after
+ServesOn conn None now buffer calls calls' before after = IsNotOpen conn before after × (calls' ≡ calls)
 
--- Replying on the connection with this number.
+-- Replying on the connection with this number, by these calls; by none if not open.
 abbrev pub RepliesOn : {A : Type 0} → (conn : ℕ) (reply : List ℕ) (now : ℕ) → Option (Result Bool Lost)
-    → (before after : List (ℕ × ClientStream A)) → Type 0
-RepliesOn conn reply now (Some answer) before after = ChangesAt conn (Replies reply now answer) before after
-RepliesOn conn reply now None before after = IsNotOpen conn before after
+    → (calls calls' : List Call) → (before after : List (ℕ × ClientStream A)) → Type 0
+RepliesOn conn reply now (Some answer) calls calls' before after =
+    ChangesAt conn (Replies reply now answer calls calls') before after
+RepliesOn conn reply now None calls calls' before after = IsNotOpen conn before after × (calls' ≡ calls)
 
--- An admitted connection is listed under its number, as a new client's; the rest stays.
-pub record Admits {A : Type 0} (conn now : ℕ) (before after : List (ℕ × ClientStream A)) : Type 0 where
+-- An admitted connection is listed under its number, as a new client's on this stream; the rest
+-- stays.
+pub record Admits {A : Type 0} (conn : ℕ) (stream : Stream) (now : ℕ)
+    (before after : List (ℕ × ClientStream A)) : Type 0 where
   pub client : ClientStream A
-  pub is_new : IsNew now client
+  pub is_new : IsNew stream now client
   pub listed : after ≡ insert_entry nat_cmp before conn client
 
 -- the number of the first client that waits for nothing

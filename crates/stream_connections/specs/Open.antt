@@ -5,13 +5,14 @@ use Rattle.std.specs.Ordering.{nat_cmp}
 use Rattle.std.specs.Map.{lookup, remove_entry}
 use Rattle.std.specs.BTreeMap.{insert_entry, is_at}
 use Rattle.suffix_routes.specs.declared.peer.Peer.{Peer}
+use Rattle.system_calls.specs.Call.{Call}
 use Rattle.stream_connections.specs.declared.client_stream.ClientStream.{ClientStream}
 use Rattle.stream_connections.specs.declared.servers.ServerStream.{ServerStream}
 use Rattle.stream_connections.specs.declared.connections.Closed.{Closed}
 use Rattle.stream_connections.specs.declared.connections.Closed.TheVariants.{Client, Server}
 use Rattle.stream_connections.specs.declared.connections.ServerHeard.{ServerHeard}
 use Rattle.stream_connections.specs.Dropped.{with_dropped}
-use Rattle.stream_connections.specs.Queries.{IsWithin, SendsQuery}
+use Rattle.stream_connections.specs.Queries.{IsWithin, ServesQuery}
 use Rattle.stream_connections.specs.Listed.{ChangesAt, IsNotOpen, first_idle}
 
 -- The connections of clients and of asks, each in the order of their numbers; the closed
@@ -81,12 +82,14 @@ pub record MakesPlace {A : Type 0} (made : Bool) (before after : Connections A) 
       (if nat_lt (length before.clients) 1024 then before else without_first (first_idle before.clients) before)
 
 -- A connection to a server is served.
-abbrev pub Serves : {A : Type 0} → Peer → ServerStream A → ServerStream A → Type 0
-Serves from before after = (from ≡ before.server) × SendsQuery before after
+abbrev pub Serves : {A : Type 0} → ServerHeard → (buffer : List ℕ) → (calls calls' : List Call)
+    → ServerStream A → ServerStream A → Type 0
+Serves served buffer calls calls' before after =
+    (served.server ≡ before.server) × ServesQuery served.heard buffer calls calls' before after
 
--- Serving the server on the connection with this number.
+-- Serving the server on the connection with this number, by these calls; by none if not open.
 abbrev pub ServesServer : {A : Type 0} → (conn : ℕ) → Option ServerHeard → (buffer : List ℕ)
-    → (before after : List (ℕ × ServerStream A)) → Type 0
-ServesServer conn (Some heard) buffer before after =
-    ChangesAt conn (Serves heard.server) before after × IsWithin heard.heard buffer
-ServesServer conn None buffer before after = IsNotOpen conn before after
+    → (calls calls' : List Call) → (before after : List (ℕ × ServerStream A)) → Type 0
+ServesServer conn (Some served) buffer calls calls' before after =
+    ChangesAt conn (Serves served buffer calls calls') before after × IsWithin served.heard buffer
+ServesServer conn None buffer calls calls' before after = IsNotOpen conn before after × (calls' ≡ calls)

@@ -1,13 +1,15 @@
 -- Waiting clients, and clients silent for too long (RFC 7766 6.2.3).
 use Rattle.std.specs.Prelude.{◌≡◌, ℕ, ◌+◌, ◌-◌, ◌^◌, ◌==◌, ◌&&◌, min, Bool, false, nat_le, List, [], length}
 use Rattle.std.specs.Prelude.{if◌then◌else◌}
+use Rattle.system_calls.specs.declared.sockets.Stream.{Stream}
 use Rattle.tcp_frames.specs.declared.framing.Within.TheVariants as within
 use Rattle.stream_connections.specs.declared.answers.Heard.{Heard}
 use Rattle.stream_connections.specs.declared.answers.Heard.TheVariants.{Nothing, Done}
 use Rattle.stream_connections.specs.declared.client_stream.ClientStream.{ClientStream}
 
--- A new client has sent nothing.
-pub record IsNew {A : Type 0} (now : ℕ) (client : ClientStream A) : Type 0 where
+-- A new client, on this stream, has sent nothing.
+pub record IsNew {A : Type 0} (stream : Stream) (now : ℕ) (client : ClientStream A) : Type 0 where
+  pub on : client.stream ≡ stream
   pub unsent : client.unsent ≡ record { left = []; taken = 0 }
   pub within : client.within ≡ within.Nothing
   pub unanswered : client.unanswered ≡ 0

@@ -1,21 +1,21 @@
 //! A connection of a client.
 
-ghost use Rattle.std.specs.Prelude.{◌≡◌, ◌+◌, ◌-◌, ◌^◌, not, nat_lt, length, Ok, Err, OnOk, OnErr};
+ghost use Rattle.std.specs.Prelude.{◌≡◌, ◌≤◌, ◌+◌, ◌-◌, ◌^◌, not, nat_lt, length, Ok, Err, OnOk, OnErr};
 ghost use Rattle.std.specs.Io.{ReadsAtMost};
-ghost use Rattle.stream_connections.specs.declared.answers.Heard.TheVariants.{Failed};
 ghost use Rattle.stream_connections.specs.declared.lost.Lost.TheVariants.{Gone};
-ghost use Rattle.stream_connections.specs.Answers.{heard_by, taken_by};
+ghost use Rattle.stream_connections.specs.Answers.{heard_by};
+ghost use Rattle.stream_connections.specs.Queries.{IsWithin};
 ghost use Rattle.stream_connections.specs.Waiting.{IsNew, is_done, is_idle, is_late, is_resting, silence_of};
-ghost use Rattle.stream_connections.specs.Serving.{HearsBy, HearsPiece, Keeps, Receives, Replies, Sends};
+ghost use Rattle.stream_connections.specs.Serving.{HearsBy, HearsPiece, Receives, ReceivesAfter, Replies, Sends};
 ghost use Rattle.stream_connections.specs.Serving.{Serves, WroteBy, with_frame};
 
-use crate::answers::{Heard, heard_by, taken_by};
+use crate::answers::{Heard, heard_by};
 use crate::lost::Lost;
-use mio::net::TcpStream;
+use crate::streams::offer;
 use plain_values::Octets;
 use std::alloc::{AllocError, Allocator};
 use std::io;
-use std::io::Read;
+use system_calls::{Calls, Stream};
 use tcp_frames::{Unsent, Within, frame};
 
 /// The time, in ms, without a whole message, or without octets taken, after which a client is
@@ -32,7 +32,7 @@ const MOST_UNSENT: usize = 1 << 20;
 /// A connection that a client opened.
 #[derive(Drop)]
 pub(crate) struct ClientStream<A: Allocator> {
-    stream: TcpStream,
+    stream: Stream,
     /// Frames of replies that the client has not taken yet.
     unsent: Unsent<A>,
     within: Within,
@@ -47,8 +47,8 @@ pub(crate) struct ClientStream<A: Allocator> {
 }
 
 impl<A: Allocator + Copy> ClientStream<A> {
-    pub fn new(alloc: A, stream: TcpStream, now: u64) -> ClientStream<A>
-        ensures { IsNew now result }
+    pub fn new(alloc: A, stream: Stream, now: u64) -> ClientStream<A>
+        ensures { IsNew stream now result }
     {
         ClientStream {
             stream,
@@ -89,45 +89,49 @@ impl<A: Allocator + Copy> ClientStream<A> {
     }
 
     /// Sends the octets left, and reads into the buffer.
-    pub fn serve(&mut self, buffer: &mut [u8], now: u64) -> Heard
-        ensures { Serves result now buffer.new self.old self.new }
+    pub fn serve(&mut self, calls: &mut Calls, buffer: &mut [u8], now: u64) -> Heard
+        ensures { Serves result now buffer.new calls.old calls.new self.old self.new }
     {
-        let sent = self.send(now);
-        self.receive_after(sent, buffer, now)
+        let sent = self.send(calls, now);
+        self.receive_after(sent, calls, buffer, now)
     }
 
     /// Sends a reply after its length in two octets (RFC 1035 4.2.2). Returns whether the
     /// connection goes on.
-    pub fn reply(&mut self, alloc: A, reply: &[u8], now: u64) -> Result<bool, Lost>
-        ensures { Replies reply.now now result self.old self.new }
+    pub fn reply(
+        &mut self,
+        calls: &mut Calls,
+        alloc: A,
+        reply: &[u8],
+        now: u64,
+    ) -> Result<bool, Lost>
+        ensures { Replies reply.now now result calls.old calls.new self.old self.new }
     {
         if self.is_too_much(reply.len()) {
             return Err(Lost::TooMuch);
         }
         self.list(frame(alloc, reply)?, now)?;
-        let sent = self.send(now);
+        let sent = self.send(calls, now);
         self.goes_on_after(sent)
     }
 
     /// Sends as many octets of the replies as the stream takes. `Err` if the stream takes none any
     /// more.
-    fn send(&mut self, now: u64) -> io::Result<()>
-        ensures ok { OnOk result (Sends now self.old self.new) }
-        ensures err { OnErr result (Keeps self.old self.new) }
+    fn send(&mut self, calls: &mut Calls, now: u64) -> io::Result<()>
+        ensures sends { Sends now result calls.old calls.new self.old self.new }
+        ensures fewer { length self.new.unsent.left ≤ length self.old.unsent.left }
     {
-        if self.unsent.is_empty() {
-            return Ok(());
-        }
-        let answer = self.unsent.send(&mut self.stream);
-        self.wrote(answer, now)
+        let taken = offer(calls, &mut self.stream, &mut self.unsent);
+        self.wrote(taken, now)
     }
 
-    /// Notes the progress of a write, by the stream's answer: a write without taken octets is none.
-    /// `Err` if the stream takes nothing any more.
-    fn wrote(&mut self, answer: io::Result<usize>, now: u64) -> io::Result<()>
-        ensures { WroteBy (taken_by answer) now result self.old self.new }
+    /// Notes the progress of a write, by the number of taken octets: none are no progress. `Err` if
+    /// the stream takes nothing any more.
+    fn wrote(&mut self, taken: io::Result<usize>, now: u64) -> io::Result<()>
+        ensures wrote { WroteBy taken now result self.old self.new }
+        ensures rest { self.new ≡ record self.old { took = self.new.took } }
     {
-        match taken_by(answer) {
+        match taken {
             Ok(0) => Ok(()),
             Ok(_) => {
                 self.took = now;
@@ -138,31 +142,37 @@ impl<A: Allocator + Copy> ClientStream<A> {
     }
 
     /// Reads into the buffer, unless the send before failed.
-    fn receive_after(&mut self, sent: io::Result<()>, buffer: &mut [u8], now: u64) -> Heard
-        ensures ok { OnOk sent (Receives result now buffer.new self.old self.new) }
-        ensures err { OnErr sent ((result ≡ Failed) × (self.new ≡ self.old)) }
+    fn receive_after(
+        &mut self,
+        sent: io::Result<()>,
+        calls: &mut Calls,
+        buffer: &mut [u8],
+        now: u64,
+    ) -> Heard
+        ensures { ReceivesAfter sent result now buffer.new calls.old calls.new self.old self.new }
     {
         match sent {
-            Ok(()) => self.receive(buffer, now),
+            Ok(()) => self.receive(calls, buffer, now),
             Err(_) => Heard::Failed,
         }
     }
 
     /// Reads a piece of the stream into the buffer.
-    fn receive(&mut self, buffer: &mut [u8], now: u64) -> Heard
-        ensures { Receives result now buffer.new self.old self.new }
+    fn receive(&mut self, calls: &mut Calls, buffer: &mut [u8], now: u64) -> Heard
+        ensures { Receives result now buffer.new calls.old calls.new self.old self.new }
     {
         if self.ended {
             return self.silence();
         }
-        let answer = self.stream.read(buffer);
+        let answer = calls.read(&mut self.stream, buffer);
         self.hear(answer, buffer, now)
     }
 
     /// Notes the stream's answer to a read into the buffer: a piece, the end, or neither.
     fn hear(&mut self, answer: io::Result<usize>, buffer: &[u8], now: u64) -> Heard
         requires within { ReadsAtMost answer buffer.now }
-        ensures { HearsBy (heard_by answer) now buffer.now result self.old self.new }
+        ensures hears { HearsBy (heard_by answer) now buffer.now result self.old self.new }
+        ensures bound { IsWithin result buffer.now }
     {
         match heard_by(answer) {
             Heard::Octets(count) => {

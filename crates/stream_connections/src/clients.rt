@@ -10,10 +10,10 @@ ghost use Rattle.stream_connections.specs.Listed.{is_late_on};
 use crate::answers::Heard;
 use crate::client_stream::ClientStream;
 use crate::lost::Lost;
-use mio::net::TcpStream;
 use std::alloc::{AllocError, Allocator};
 use std::collections::BTreeMap;
 use std::marker::Model;
+use system_calls::{Calls, Stream};
 
 /// The most connections of clients.
 const MOST: usize = 1024;
@@ -65,11 +65,11 @@ impl<A: Allocator + Copy> Clients<A> {
         &mut self,
         alloc: A,
         conn: u64,
-        stream: TcpStream,
+        stream: Stream,
         now: u64,
     ) -> Result<Option<ClientStream<A>>, AllocError>
         requires { length self.old < 1024 }
-        ensures ok { OnOk result (Admits conn now self.old self.new) }
+        ensures ok { OnOk result (Admits conn stream now self.old self.new) }
         ensures before { IfOk result (λ before. before ≡ lookup (is_at (nat_cmp conn)) self.old) }
         ensures err { OnErr result (self.new ≡ self.old) }
         ensures number { length self.new ≤ length self.old + 1 }
@@ -82,28 +82,35 @@ impl<A: Allocator + Copy> Clients<A> {
 
     /// Sends the octets left for the client with this number, and reads a piece of its stream into
     /// the buffer; `None` if not open.
-    pub fn serve(&mut self, conn: u64, buffer: &mut [u8], now: u64) -> Option<Heard>
-        ensures serves { ServesOn conn result now buffer.new self.old self.new }
+    pub fn serve(
+        &mut self,
+        calls: &mut Calls,
+        conn: u64,
+        buffer: &mut [u8],
+        now: u64,
+    ) -> Option<Heard>
+        ensures serves { ServesOn conn result now buffer.new calls.old calls.new self.old self.new }
         ensures number { length self.new ≡ length self.old }
     {
         let client = self.open.get_mut(&conn)?;
-        Some(client.serve(buffer, now))
+        Some(client.serve(calls, buffer, now))
     }
 
     /// Replies to the client with this number, and returns whether its connection goes on; `None`
     /// if not open.
     pub fn reply(
         &mut self,
+        calls: &mut Calls,
         alloc: A,
         conn: u64,
         reply: &[u8],
         now: u64,
     ) -> Option<Result<bool, Lost>>
-        ensures replies { RepliesOn conn reply.now now result self.old self.new }
+        ensures replies { RepliesOn conn reply.now now result calls.old calls.new self.old self.new }
         ensures number { length self.new ≡ length self.old }
     {
         let client = self.open.get_mut(&conn)?;
-        Some(client.reply(alloc, reply, now))
+        Some(client.reply(calls, alloc, reply, now))
     }
 
     /// Takes out the connection with this number, if open.

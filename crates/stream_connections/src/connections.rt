@@ -17,11 +17,11 @@ use crate::clients::Clients;
 use crate::dropped::Dropped;
 use crate::lost::Lost;
 use crate::servers::ServerStream;
-use mio::net::TcpStream;
 use std::alloc::{AllocError, Allocator, Global};
 use std::collections::{BTreeMap, VecDeque};
 use std::marker::Model;
 use suffix_routes::Peer;
+use system_calls::{Calls, Stream};
 
 /// The server on a connection, and what its stream gave.
 #[derive(Drop)]
@@ -145,16 +145,10 @@ impl<A: Allocator + Copy> Connections<A> {
     }
 
     /// Lists a client's connection under its number, in place of the one listed there before.
-    pub fn admit(
-        &mut self,
-        alloc: A,
-        conn: u64,
-        stream: TcpStream,
-        now: u64,
-    ) -> Result<(), AllocError>
+    pub fn admit(&mut self, alloc: A, conn: u64, stream: Stream, now: u64) -> Result<(), AllocError>
         requires place { length self.old.clients < 1024 }
         requires room { self.old.has_room ≡ true }
-        ensures ok { OnOk result (Admits conn now self.old.clients self.new.clients) }
+        ensures ok { OnOk result (Admits conn stream now self.old.clients self.new.clients) }
         ensures gone { OnOk result (self.new.gone_clients
             ≡ with_dropped (lookup (is_at (nat_cmp conn)) self.old.clients) self.old.gone_clients) }
         ensures err { OnErr result (self.new ≡ self.old) }
@@ -185,22 +179,35 @@ impl<A: Allocator + Copy> Connections<A> {
 
     /// Sends the octets left for the client with this number, and reads a piece of its stream into
     /// the buffer; `None` if not open.
-    pub fn serve_client(&mut self, conn: u64, buffer: &mut [u8], now: u64) -> Option<Heard>
-        ensures serves { ServesOn conn result now buffer.new self.old.clients self.new.clients }
+    pub fn serve_client(
+        &mut self,
+        calls: &mut Calls,
+        conn: u64,
+        buffer: &mut [u8],
+        now: u64,
+    ) -> Option<Heard>
+        ensures serves { ServesOn conn result now buffer.new calls.old calls.new
+            self.old.clients self.new.clients }
         ensures rest { self.new ≡ record self.old { clients = self.new.clients } }
     {
-        self.clients.serve(conn, buffer, now)
+        self.clients.serve(calls, conn, buffer, now)
     }
 
     /// Sends the octets left for the server on the connection with this number, and reads a piece
     /// of its stream into the buffer; `None` if not open.
-    pub fn serve_server(&mut self, conn: u64, buffer: &mut [u8]) -> Option<ServerHeard>
-        ensures serves { ServesServer conn result buffer.new self.old.servers self.new.servers }
+    pub fn serve_server(
+        &mut self,
+        calls: &mut Calls,
+        conn: u64,
+        buffer: &mut [u8],
+    ) -> Option<ServerHeard>
+        ensures serves { ServesServer conn result buffer.new calls.old calls.new
+            self.old.servers self.new.servers }
         ensures rest { self.new ≡ record self.old { servers = self.new.servers } }
     {
         let stream = self.servers.get_mut(&conn)?;
         let server = stream.server;
-        let heard = stream.serve(buffer);
+        let heard = stream.serve(calls, buffer);
         Some(ServerHeard { server, heard })
     }
 
@@ -208,15 +215,17 @@ impl<A: Allocator + Copy> Connections<A> {
     /// whether the connection goes on; `None` if not open. At most 1 MiB is left for a client.
     pub fn reply(
         &mut self,
+        calls: &mut Calls,
         alloc: A,
         conn: u64,
         reply: &[u8],
         now: u64,
     ) -> Option<Result<bool, Lost>>
-        ensures replies { RepliesOn conn reply.now now result self.old.clients self.new.clients }
+        ensures replies { RepliesOn conn reply.now now result calls.old calls.new
+            self.old.clients self.new.clients }
         ensures rest { self.new ≡ record self.old { clients = self.new.clients } }
     {
-        self.clients.reply(alloc, conn, reply, now)
+        self.clients.reply(calls, alloc, conn, reply, now)
     }
 
     /// Returns the first client from this number on.

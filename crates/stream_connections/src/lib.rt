@@ -9,6 +9,7 @@ mod connections;
 mod dropped;
 mod lost;
 mod servers;
+mod streams;
 
 pub use answers::{Heard, Refusal};
 pub use connections::{Closed, Connections, ServerHeard};

@@ -1,16 +1,17 @@
 //! The connections of asks.
 
-ghost use Rattle.std.specs.Prelude.{◌≡◌, IfOk, OnErr};
+ghost use Rattle.std.specs.Prelude.{◌≡◌, IfOk};
 ghost use Rattle.tcp_frames.specs.Frames.{framed};
-ghost use Rattle.stream_connections.specs.declared.answers.Heard.TheVariants.{Failed};
-ghost use Rattle.stream_connections.specs.Queries.{IsWithin, SendsQuery};
+ghost use Rattle.stream_connections.specs.Queries.{IsWithin, ServesQuery};
+ghost use Rattle.stream_connections.specs.Streams.{HearsAfter};
 
-use crate::answers::{Heard, heard_by, taken_by};
-use mio::net::TcpStream;
+use crate::answers::{Heard, heard_by};
+use crate::streams::offer;
 use std::alloc::{Allocator, Global};
 use std::io;
-use std::io::{ErrorKind, Read};
+use std::io::ErrorKind;
 use suffix_routes::Peer;
+use system_calls::{Calls, Stream};
 use tcp_frames::{Unsent, frame};
 
 /// The octets of a query over TCP: its length in two octets, then the query (RFC 1035 4.2.2). `Err`
@@ -29,14 +30,15 @@ pub fn unsent_query<A: Allocator + Copy>(alloc: A, query: &[u8]) -> io::Result<U
 /// A connection to a server, with the untaken rest of the query.
 #[derive(Drop)]
 pub struct ServerStream<A: Allocator = Global> {
-    stream: TcpStream,
+    stream: Stream,
     pub(crate) server: Peer,
     unsent: Unsent<A>,
 }
 
 impl<A: Allocator + Copy> ServerStream<A> {
     /// Makes a connection begun to this server, with these octets to take.
-    pub fn new(stream: TcpStream, server: Peer, unsent: Unsent<A>) -> ServerStream<A>
+    pub fn new(stream: Stream, server: Peer, unsent: Unsent<A>) -> ServerStream<A>
+        ensures stream { result.stream ≡ stream }
         ensures server { result.server ≡ server }
         ensures unsent { result.unsent ≡ unsent }
     {
@@ -47,34 +49,28 @@ impl<A: Allocator + Copy> ServerStream<A> {
         }
     }
 
-    /// Sends the rest of the query, and reads into the buffer.
-    pub(crate) fn serve(&mut self, buffer: &mut [u8]) -> Heard
+    /// Sends as many octets of the query as the server takes, and reads into the buffer.
+    pub(crate) fn serve(&mut self, calls: &mut Calls, buffer: &mut [u8]) -> Heard
         ensures bound { IsWithin result buffer.new }
-        ensures sends { SendsQuery self.old self.new }
+        ensures serves { ServesQuery result buffer.new calls.old calls.new self.old self.new }
     {
-        let sent = self.send();
-        self.receive_after(sent, buffer)
-    }
-
-    /// Sends as many octets of the query as the server takes. `Err` if the server takes none any
-    /// more.
-    fn send(&mut self) -> io::Result<usize>
-        ensures { SendsQuery self.old self.new }
-    {
-        if self.unsent.is_empty() {
-            return Ok(0);
-        }
-        taken_by(self.unsent.send(&mut self.stream))
+        let sent = offer(calls, &mut self.stream, &mut self.unsent);
+        self.receive_after(sent, calls, buffer)
     }
 
     /// Reads into the buffer, unless the send before failed.
-    fn receive_after(&mut self, sent: io::Result<usize>, buffer: &mut [u8]) -> Heard
+    fn receive_after(
+        &mut self,
+        sent: io::Result<usize>,
+        calls: &mut Calls,
+        buffer: &mut [u8],
+    ) -> Heard
         ensures bound { IsWithin result buffer.new }
+        ensures hears { HearsAfter sent self.old.stream buffer.new result calls.old calls.new }
         ensures same { self.new ≡ self.old }
-        ensures err { OnErr sent (result ≡ Failed) }
     {
         match sent {
-            Ok(_) => heard_by(self.stream.read(buffer)),
+            Ok(_) => heard_by(calls.read(&mut self.stream, buffer)),
             Err(_) => Heard::Failed,
         }
     }

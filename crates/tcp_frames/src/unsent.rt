@@ -1,14 +1,10 @@
 //! Octets for a slow stream.
 
-ghost use Rattle.std.specs.Prelude.{◌≡◌, ◌==◌, ◌≤◌, ◌++◌, [], length, IfOk, OnOk, OnErr};
-ghost use Rattle.std.specs.Io.{WritesAtMost};
-ghost use Rattle.std.specs.Io.KnownBytes.{WriteAppends};
+ghost use Rattle.std.specs.Prelude.{◌≡◌, ◌==◌, ◌≤◌, ◌++◌, [], length, OnOk, OnErr};
 ghost use Rattle.tcp_frames.specs.Unsent.{pushed, sent};
 
 use plain_values::Octets;
 use std::alloc::{AllocError, Allocator};
-use std::io;
-use std::io::Write;
 use std::marker::Model;
 
 /// The octets that a stream has not yet taken, in order. Contracts see these octets, and the number
@@ -90,20 +86,22 @@ impl<A: Allocator + Copy> Unsent<A> {
         Ok(())
     }
 
-    /// Offers the octets to the stream, once; returns the number of taken octets, 0 if the stream
-    /// takes none any more. `Err` as reported by the stream; then none was taken.
-    pub fn send<W: Write>(&mut self, stream: &mut W) -> io::Result<usize>
-        ensures taken { IfOk result (λ count. self.new ≡ sent count self.old) }
-        ensures bound { WritesAtMost result self.old.left }
-        ensures written { WriteAppends (W.contents stream.old) (W.contents stream.new) result self.old.left }
-        ensures err { OnErr result (self.new ≡ self.old) }
+    /// Returns the octets, to be offered to the stream.
+    pub fn octets(&self) -> &[u8]
+        ensures { result.now ≡ self.now.left }
     {
-        let count = stream.write(&self.octets[self.taken..])?;
+        &self.octets[self.taken..]
+    }
+
+    /// Leaves out the first octets, as many as the stream took.
+    pub fn leave_out(&mut self, count: usize)
+        requires { count ≤ length self.old.left }
+        ensures { self.new ≡ sent count self.old }
+    {
         self.taken += count;
         if self.taken >= self.octets.len() {
             self.octets = Vec::new(self.alloc);
             self.taken = 0;
         }
-        Ok(count)
     }
 }

@@ -1,17 +1,15 @@
 //! The actions of a wire.
 
-ghost use Rattle.std.specs.Prelude.{◌≡◌, IfOk, is_ok};
-ghost use Rattle.stream_connections.specs.Queries.{IsBegunWith};
-ghost use Rattle.socket_wire.specs.Asks.{ListsPort};
-ghost use Rattle.socket_wire.specs.Putting.{AnswersOn, MayMakeRoom};
-ghost use Rattle.socket_wire.specs.Putting.{PutsAction, PutsQuery};
+ghost use Rattle.std.specs.Prelude.{◌≡◌, is_ok};
+ghost use Rattle.socket_wire.specs.Asks.{OpensAsk, SendsQuery};
+ghost use Rattle.socket_wire.specs.Putting.{AnswersOn, AsksFrom, BeginsOn, BeginsWithRoom};
+ghost use Rattle.socket_wire.specs.Putting.{OpensWithRoom, PutsAction, PutsQuery, SendsReply};
 ghost use Rattle.socket_wire.specs.Putting.{with_spent};
 
 use super::Sockets;
 use crate::address::address_of;
 use crate::answers::{kept_if, sent};
 use crate::asks::ask_socket;
-use mio::net::TcpStream;
 use ready_sockets::Origin;
 use std::alloc::Allocator;
 use std::io;
@@ -20,6 +18,7 @@ use std::net::Net;
 use step_values::{Action, Client};
 use stream_connections::{ServerStream, unsent_query};
 use suffix_routes::Peer;
+use system_calls::DatagramSocket;
 
 impl<R: Net, A: Allocator + Copy> Sockets<'_, R, A> {
     /// Does an action. `Err` if the system refuses, or memory ran out. An ask spends the random
@@ -59,30 +58,60 @@ impl<R: Net, A: Allocator + Copy> Sockets<'_, R, A> {
                 Ok(())
             }
             Action::Reply { client, bytes, .. } => match client {
-                Client::Udp(peer) => {
-                    sent(self.datagrams.send_to(bytes.as_slice(), address_of(*peer)))
-                }
+                Client::Udp(peer) => self.send_reply(*peer, bytes.as_slice()),
                 Client::Tcp(conn) => self.reply(*conn, bytes.as_slice(), now),
             },
         }
     }
 
-    /// Sends a query from this port. If no descriptor is left, the oldest connection of a client
-    /// that has waited for nothing for a while is closed.
-    fn ask_udp(&mut self, port: u16, server: Peer, query: &[u8], now: u64) -> io::Result<()>
-        ensures lists { ListsPort port (is_ok result) self.old.asks self.new.asks }
-        ensures room { MayMakeRoom now self.old.connections self.new.connections }
-        ensures rest { self.new ≡ record self.old {
-          asks = self.new.asks;
-          connections = self.new.connections;
-        } }
+    /// Sends a reply by UDP. `Err` if the system refuses.
+    fn send_reply(&mut self, to: Peer, reply: &[u8]) -> io::Result<()>
+        ensures { SendsReply to reply.now (is_ok result) self.old self.new }
     {
-        let mut opened = ask_socket(self.rt, &self.readiness, port, server);
+        sent(self.calls.send_to(&self.datagrams, reply, address_of(to)))
+    }
+
+    /// Sends a query from this port.
+    fn ask_udp(&mut self, port: u16, server: Peer, query: &[u8], now: u64) -> io::Result<()>
+        ensures { AsksFrom port server query.now now (is_ok result) self.old self.new }
+    {
+        let opened = self.open_with_room(port, server, now);
+        self.send_query(opened, port, query)
+    }
+
+    /// Opens the socket of an ask. If no descriptor is left, the oldest connection of a client that
+    /// has waited for nothing for a while is closed.
+    fn open_with_room(&mut self, port: u16, server: Peer, now: u64) -> io::Result<DatagramSocket>
+        ensures { OpensWithRoom port server now result self.old self.new }
+    {
+        let opened = self.open(port, server);
         if self.frees_for(&opened, now) {
-            opened = ask_socket(self.rt, &self.readiness, port, server);
+            return self.open(port, server);
         }
+        opened
+    }
+
+    /// Opens the socket of an ask. `Err` if the system refuses.
+    fn open(&mut self, port: u16, server: Peer) -> io::Result<DatagramSocket>
+        ensures opens { OpensAsk port server result self.old.calls self.new.calls }
+        ensures rest { self.new ≡ record self.old { calls = self.new.calls } }
+    {
+        ask_socket(&mut self.calls, self.rt, &self.readiness, port, server)
+    }
+
+    /// Sends a query with the socket that was opened for it, and lists the socket.
+    fn send_query(
+        &mut self,
+        opened: io::Result<DatagramSocket>,
+        port: u16,
+        query: &[u8],
+    ) -> io::Result<()>
+        ensures sends { SendsQuery opened port query.now (is_ok result)
+            self.old.calls self.new.calls self.old.asks self.new.asks }
+        ensures rest { self.new ≡ record self.old { asks = self.new.asks; calls = self.new.calls } }
+    {
         let socket = opened?;
-        let answer = socket.send(query);
+        let answer = self.calls.send(&socket, query);
         self.asks.list(port, socket, answer)
     }
 
@@ -106,10 +135,8 @@ impl<R: Net, A: Allocator + Copy> Sockets<'_, R, A> {
         query: &[u8],
         now: u64,
     ) -> io::Result<ServerStream<A>>
-        ensures begun { IfOk result (λ stream. IsBegunWith server query.now stream) }
-        ensures room { MayMakeRoom now self.old.connections self.new.connections }
+        ensures begins { BeginsWithRoom conn server query.now now result self.old self.new }
         ensures has { self.new.connections.has_room ≡ self.old.connections.has_room }
-        ensures rest { self.new ≡ record self.old { connections = self.new.connections } }
     {
         let begun = self.begin(conn, server, query);
         if self.frees_for(&begun, now) {
@@ -120,23 +147,33 @@ impl<R: Net, A: Allocator + Copy> Sockets<'_, R, A> {
 
     /// Begins to connect, with the query after its length. `Err` if the system refuses, or memory
     /// ran out.
-    fn begin(&self, conn: u64, server: Peer, query: &[u8]) -> io::Result<ServerStream<A>>
-        ensures { IfOk result (λ stream. IsBegunWith server query.now stream) }
+    fn begin(&mut self, conn: u64, server: Peer, query: &[u8]) -> io::Result<ServerStream<A>>
+        ensures begins { BeginsOn conn server query.now result self.old.calls self.new.calls }
+        ensures rest { self.new ≡ record self.old { calls = self.new.calls } }
     {
         let unsent = unsent_query(self.alloc, query)?;
-        let mut stream = TcpStream::connect(self.rt, address_of(server))?;
-        let watched = self.readiness.watch(&mut stream, Origin::Server(conn));
+        let mut stream = self.calls.begin(self.rt, address_of(server))?;
+        let origin = Origin::Server(conn);
+        let watched = self
+            .readiness
+            .watch_stream(&mut self.calls, &mut stream, origin);
         Ok(ServerStream::new(kept_if(stream, watched)?, server, unsent))
     }
 
     /// Replies on a client's connection. `Err` if the reply is lost. A connection that is over is
     /// closed.
     fn reply(&mut self, conn: u64, reply: &[u8], now: u64) -> io::Result<()>
-        ensures answers { AnswersOn conn reply.now now (is_ok result)
+        ensures answers { AnswersOn conn reply.now now (is_ok result) self.old.calls self.new.calls
             self.old.connections self.new.connections }
-        ensures rest { self.new ≡ record self.old { connections = self.new.connections } }
+        ensures rest { self.new ≡ record self.old {
+          connections = self.new.connections;
+          calls = self.new.calls;
+        } }
     {
-        match self.connections.reply(self.alloc, conn, reply, now) {
+        match self
+            .connections
+            .reply(&mut self.calls, self.alloc, conn, reply, now)
+        {
             None => Err(io::Error::from(ErrorKind::NotConnected)),
             Some(Ok(true)) => Ok(()),
             Some(Ok(false)) => {

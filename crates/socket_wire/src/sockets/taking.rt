@@ -1,6 +1,6 @@
 //! Reads what a socket has received.
 
-ghost use Rattle.std.specs.Prelude.{◌≡◌, Ok, IfOk};
+ghost use Rattle.std.specs.Prelude.{◌≡◌, IfOk};
 ghost use Rattle.std.specs.Counts.{IsPrefixLen};
 ghost use Rattle.socket_wire.specs.Arriving.{AcceptsBy, FreesBy, FreesFor, MayCloseResting};
 ghost use Rattle.socket_wire.specs.Arriving.{TakesConnection, TakesIn};
@@ -13,7 +13,6 @@ use super::{LARGEST, Sockets};
 use crate::address::peer_of;
 use crate::answers::kept_if;
 use crate::spare::Spare;
-use mio::net::TcpStream;
 use plain_values::Octets;
 use ready_sockets::Origin;
 use std::alloc::{AllocError, Allocator};
@@ -21,6 +20,7 @@ use std::io;
 use std::net::{Net, SocketAddr};
 use step_values::Path;
 use stream_connections::{Heard, Refusal, ServerHeard};
+use system_calls::Stream;
 use wires::Arrival;
 
 /// The result of trying a socket.
@@ -50,7 +50,7 @@ impl<R: Net, A: Allocator + Copy> Sockets<'_, R, A> {
     fn take_datagram(&mut self) -> Result<Tried<A>, AllocError>
         ensures { TakesDatagram result self.old self.new }
     {
-        let answer = self.datagrams.recv_from(&mut self.buffer[..]);
+        let answer = self.calls.receive(&self.datagrams, &mut self.buffer[..]);
         self.hear_datagram(answer)
     }
 
@@ -61,7 +61,6 @@ impl<R: Net, A: Allocator + Copy> Sockets<'_, R, A> {
     ) -> Result<Tried<A>, AllocError>
         requires within { IfOk answer (λ received. IsPrefixLen received.0 self.old.buffer) }
         ensures hears { HearsDatagram answer self.old.buffer result }
-        ensures takes { TakesDatagram result self.old self.new }
         ensures same { self.new ≡ self.old }
     {
         let Ok((count, from)) = answer else {
@@ -79,14 +78,13 @@ impl<R: Net, A: Allocator + Copy> Sockets<'_, R, A> {
     fn take_connection(&mut self, now: u64) -> Tried<A>
         ensures { TakesConnection now result self.old self.new }
     {
-        let answer = self.listener.accept();
+        let answer = self.calls.accept(&self.listener);
         self.accept(answer, now)
     }
 
     /// A client's connection, by the answer of the listener.
-    fn accept(&mut self, answer: io::Result<(TcpStream, SocketAddr)>, now: u64) -> Tried<A>
-        ensures by { AcceptsBy answer now result self.old self.new }
-        ensures takes { TakesConnection now result self.old self.new }
+    fn accept(&mut self, answer: io::Result<(Stream, SocketAddr)>, now: u64) -> Tried<A>
+        ensures { AcceptsBy answer now result self.old self.new }
     {
         match answer {
             Ok((stream, _)) => {
@@ -131,8 +129,8 @@ impl<R: Net, A: Allocator + Copy> Sockets<'_, R, A> {
     /// Lists a client's connection under the next number. Of the most connections, the oldest that
     /// waits for nothing goes, otherwise the new one. `Err` if the new one goes because the system
     /// refuses or memory ran out.
-    fn admit(&mut self, stream: TcpStream, now: u64) -> io::Result<()>
-        ensures { TakesIn now self.old self.new }
+    fn admit(&mut self, stream: Stream, now: u64) -> io::Result<()>
+        ensures { TakesIn stream now self.old self.new }
     {
         if !self.connections.make_place() {
             return Ok(());
@@ -140,9 +138,12 @@ impl<R: Net, A: Allocator + Copy> Sockets<'_, R, A> {
         let Some(conn) = self.numbers.give() else {
             return Ok(());
         };
-        let is_prompt = stream.set_nodelay(true);
+        let is_prompt = self.calls.set_no_delay(&stream);
         let mut stream = kept_if(stream, is_prompt)?;
-        let watched = self.readiness.watch(&mut stream, Origin::Client(conn));
+        let origin = Origin::Client(conn);
+        let watched = self
+            .readiness
+            .watch_stream(&mut self.calls, &mut stream, origin);
         let stream = kept_if(stream, watched)?;
         self.connections.keep_room()?;
         self.connections.admit(self.alloc, conn, stream, now)?;
@@ -156,7 +157,7 @@ impl<R: Net, A: Allocator + Copy> Sockets<'_, R, A> {
     {
         let heard = self
             .connections
-            .serve_client(conn, &mut self.buffer[..], now);
+            .serve_client(&mut self.calls, conn, &mut self.buffer[..], now);
         if self.connections.is_late(conn, now, self.deadline) {
             self.connections.close_client(conn);
             return Ok(Tried::Served);
@@ -189,7 +190,7 @@ impl<R: Net, A: Allocator + Copy> Sockets<'_, R, A> {
         let Some(socket) = self.asks.at(port) else {
             return Ok(Tried::Nothing);
         };
-        let answer = socket.recv_from(&mut self.buffer[..]);
+        let answer = self.calls.receive(socket, &mut self.buffer[..]);
         self.hear_ask(port, answer)
     }
 
@@ -203,7 +204,7 @@ impl<R: Net, A: Allocator + Copy> Sockets<'_, R, A> {
         requires within { IfOk answer (λ received. IsPrefixLen received.0 self.old.buffer) }
         ensures hears { HearsAsk port answer self.old.buffer result
             self.old.asks self.new.asks }
-        ensures takes { TakesAsk port result self.old self.new }
+        ensures rest { self.new ≡ record self.old { asks = self.new.asks } }
     {
         match answer {
             Ok((count, from)) => {
@@ -221,7 +222,7 @@ impl<R: Net, A: Allocator + Copy> Sockets<'_, R, A> {
     /// For any other reason the socket is dropped, and its end reported.
     fn lose_ask(&mut self, port: u16, refusal: Refusal) -> Tried<A>
         ensures loses { LosesAsk port refusal result self.old.asks self.new.asks }
-        ensures takes { TakesAsk port (Ok result) self.old self.new }
+        ensures rest { self.new ≡ record self.old { asks = self.new.asks } }
     {
         match refusal {
             Refusal::WouldBlock => Tried::Nothing,
@@ -237,7 +238,9 @@ impl<R: Net, A: Allocator + Copy> Sockets<'_, R, A> {
     fn take_server(&mut self, conn: u64) -> Result<Tried<A>, AllocError>
         ensures { TakesServer conn result self.old self.new }
     {
-        let served = self.connections.serve_server(conn, &mut self.buffer[..]);
+        let served = self
+            .connections
+            .serve_server(&mut self.calls, conn, &mut self.buffer[..]);
         let Some(ServerHeard { server, heard }) = served else {
             return Ok(Tried::Nothing);
         };

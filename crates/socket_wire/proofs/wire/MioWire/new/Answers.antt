@@ -1,0 +1,24 @@
+use Rattle.std.proofs.Common.{◌≡◌, rules, [], ◌∷◌}
+use Rattle.std.specs.Prelude.{Ok}
+use Rattle.system_calls.specs.Call.{fill_random}
+use Rattle.socket_wire.proofs.wire.MioWire.new.Goals as goal
+
+pub returns-clause-opened : goal.returns-clause-opened
+returns-clause-opened g c =
+    let filled : c.fill_random-filled.result ≡ Ok tt = search rules in
+    let seed : c.in_ok-kept_if.field-0 ≡ c.fill_random-filled.new.octets = search rules in
+    let words : c.new-2.result.sockets.words ≡ c.new-words.result = search rules in
+    let calls : c.fill_random-filled.new.self
+    ≡ fill_random c.fill_random-filled.new.octets (Ok tt) ∷ [] = search rules in
+    record {
+      seed = c.fill_random-filled.new.octets;
+      datagrams = c.in_ok-sockets.sockets.datagrams;
+      listener = c.in_ok-sockets.sockets.listener;
+      opened = c.in_ok-sockets.sockets.calls;
+      started = c.in_ok-moments.moments.started;
+      has_32 = search rules;
+      random = search rules;
+      none_given = search rules;
+      opens = rw calls at c.in_ok-sockets.ensures.opens;
+      clock = search rules;
+    }
