@@ -47,9 +47,7 @@ fn sent<A: Allocator + Copy>(
     unsent: &mut Unsent<A>,
     stream: &mut Slow,
 ) -> Result<usize, ErrorKind> {
-    let count = stream
-        .write(unsent.octets())
-        .map_err(|error| error.kind())?;
+    let count = stream.write(unsent.octets()).map_err(|error| error.kind())?;
     unsent.leave_out(count);
     Ok(count)
 }
