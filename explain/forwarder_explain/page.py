@@ -24,7 +24,7 @@ tr:nth-child(even) td{background:#f4f4f2}a{color:#14559c}svg{max-width:100%;heig
 ol{list-style:none;padding:0;font:12px/1.5 monospace}li{overflow-wrap:anywhere;padding-left:.6em;margin:.1em 0;
 border-left:.5em solid #ddd}li pre{margin:0;white-space:pre-wrap}.chosen{display:none}.chosen:target{display:block}
 .key{display:inline-block;width:.8em;height:.8em;margin-right:.4em}.note{color:#666}
-.verdict{font-size:1.7em;font-weight:bold;margin:.4em 0}"""
+.verdict{font-size:1.7em;font-weight:600;margin:.4em 0}"""
 CLASS, TEXTS = ' class="text"', ("name", "type", "reason", "how")  # of columns
 POLICY = "default-src 'none'; style-src 'unsafe-inline'"
 HEAD = f'''<!DOCTYPE html>
