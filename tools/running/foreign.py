@@ -1,20 +1,12 @@
-"""The common part of foreign programs' configurations: a server at one place of this machine, with
-its files in a folder."""
+"""Configurations of foreign programs, each a server at one place of this machine, with its files in
+a folder: put together from files of the folder conf."""
+import pathlib
+import string
 
-UNBOUND = """server:
-  interface: {address}@{port}
-  do-ip6: no
-  do-daemonize: no
-  use-syslog: no
-  chroot: ""
-  username: ""
-  directory: "{folder}"
-  pidfile: ""
-  module-config: "iterator"
-"""
-NAMED = """options {{
-  directory "{folder}"; pid-file none; session-keyfile none; dnssec-validation no;
-  listen-on port {port} {{ {address}; }}; listen-on-v6 {{ none; }}; {more}
-}};
-controls {{ }};
-"""
+CONF = pathlib.Path(__file__).with_name("conf")
+
+
+def text(*names, **values):
+    """The text of files, with values for marks like $port; `more` is empty unless given."""
+    of_all = "".join((CONF / name).read_text(encoding="utf-8") for name in names)
+    return string.Template(of_all).substitute({"more": "", **values})
