@@ -1,7 +1,6 @@
 """Reads resolved.conf, with drop-ins: see resolved.conf(5)."""
 import glob
 import os
-import re
 
 from .files import Line, Refused
 from .names import ENCRYPTED, cut, ipv4_of, peer_of, port_of, seconds_of

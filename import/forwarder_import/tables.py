@@ -20,7 +20,8 @@ class Options(types.SimpleNamespace):
             row, _, what = head.partition(":")
             refused = what.strip(), None if row == "-" else Row[row]
             self.entries.append((re.compile("|".join(patterns.split())), refused))
-        self.entries.append((re.compile("(?s:.*)"), (f"{values['unknown']}: {keep(program)}", None)))
+        unknown = f"{values['unknown']}: {keep(program)}"
+        self.entries.append((re.compile("(?s:.*)"), (unknown, None)))
         super().__init__(**{"same": {}, "needless": {}, **values})
 
     def left_out(self, name):

@@ -1,65 +1,121 @@
 """Name servers, on this machine alone, each with its zones."""
-import dataclasses
-import typing
-
 from others import zone
 from repository.packing import query
-from running import foreign, programs
+from running import programs
+from running.foreign import text
 from running.programs import Program, answers
 
 
-def no_text(*_):
-    return ""
-
-
-@dataclasses.dataclass(frozen=True)
-class Kind:
-    """A program for name servers: the words after the command, the text of a zone and of a record
-    in the configuration, and the types that the program can't hold."""
-
-    command: str
-    words: str
-    zone: str = ""
-    record: typing.Callable = no_text
-    without: tuple = ()
-    more: str = ""
-
-    def is_installed(self):
-        return not programs.missing(self.command)
-
-
 class Server:
-    """A name server, to be stopped and started again."""
+    """A name server, to be stopped and started again. `without`: types that the program can't hold;
+    `head`: the beginning of the configuration, with `more` in it."""
 
-    def __init__(self, kind, folder, port, address="127.0.0.1"):
-        self.kind, self.folder, self.port, self.address = kind, folder, port, address
-        self.without, self.process = kind.without, None
-        values = {"folder": folder, "port": port, "address": address}
-        text = "" if kind.command == "pdns_server" else foreign.text(
-            kind.command, **values, more=kind.more)
-        for name, records in zone.ZONES.items():
-            (folder / name).write_text(zone.master_file(name, self.without))
-            text += kind.zone.format(name=name, **values)
-            text += "".join(kind.record(*each) for each in records if each[1] not in self.without)
-        (folder / "conf").write_text(text)
-        self.words = [programs.path(kind.command), *kind.words.format(**values).split()]
+    command = head = more = ""
+    without = ()
+
+    def __init__(self, folder, port, address="127.0.0.1", zones=None):
+        """`zones` has the text of each zone's master file, by default from zone.py."""
+        self.folder, self.port, self.address, self.process = folder, port, address, None
+        self.zones = zones or {each: zone.master_file(each, self.without) for each in zone.ZONES}
+        self.write_zones()
+
+    def write_zones(self):
+        for name, text in self.zones.items():
+            (self.folder / name).write_text(text)
+
+    @classmethod
+    def is_installed(cls):
+        return not programs.missing(cls.command)
+
+    def zone(self, name):
+        """The lines of the configuration for a zone."""
+        return ""
+
+    def configured(self):
+        """Writes the configuration; returns the path."""
+        file = self.folder / "conf"
+        head = self.head.format(**vars(self), more=self.more)
+        file.write_text(head + "".join(map(self.zone, self.zones)))
+        return file
 
     def start(self):
         """Starts the program, and waits for its first answer."""
-        self.process = Program(self.words, log=self.folder / "log", cwd=self.folder)
+        self.begin()
         self.process.wait_until(lambda: answers(self.address, self.port, query("www.example")))
+
+    def begin(self):
+        """Starts the program without a wait."""
+        words = [programs.path(self.command), *self.words()]
+        self.process = Program(words, log=self.folder / "log", cwd=self.folder)
 
     def stop(self):
         self.process.stop()
 
 
-def of_unbound(name, kind, data):
-    """The line by which unbound holds a record."""
-    return f"  local-data: '{name} {zone.LIFETIME} IN {kind} {data}'\n"
+class Named(Server):
+    command, head = "named", text("named")
+    more = "recursion no; minimal-responses no; notify no;"
+
+    def words(self):
+        return ["-g", "-n", "1", "-c", self.configured()]
+
+    def zone(self, name):
+        return f'zone "{name}" {{ type primary; file "{name}"; check-names ignore; }};\n'
 
 
-def of_dnsmasq(name, kind, data):
-    """The line by which dnsmasq holds a record."""
+class Nsd(Server):
+    command, head = "nsd", text("nsd")
+
+    def words(self):
+        return ["-d", "-c", self.configured()]
+
+    def zone(self, name):
+        return f'zone:\n  name: "{name}"\n  zonefile: "{name}"\n'
+
+
+class Unbound(Server):
+    command, head = "unbound", text("unbound") + "".join(
+        f'  local-zone: "{each}." static\n' for each in zone.ZONES)
+
+    def words(self):
+        return ["-d", "-c", self.configured()]
+
+    def zone(self, name):
+        return "".join(f"  local-data: '{owner} {zone.LIFETIME} IN {kind} {data}'\n"
+                       for owner, kind, data in zone.ZONES[name] if kind not in self.without)
+
+
+class Pdns(Server):
+    command = "pdns_server"
+    without = ("RT",)
+
+    def words(self):
+        return [f"--config-dir={self.folder}", f"--socket-dir={self.folder}", "--launch=bind",
+                f"--bind-config={self.configured()}", f"--local-address={self.address}",
+                f"--local-port={self.port}", "--daemon=no", "--guardian=no", "--setuid=",
+                "--setgid="]
+
+    def zone(self, name):
+        return f'zone "{name}" {{ type master; file "{self.folder}/{name}"; }};\n'
+
+
+class Dnsmasq(Server):
+    """dnsmasq, without zones, but with records of some types, and any type by octets."""
+
+    command = "dnsmasq"
+    with_types = ("A", "AAAA", "TXT", "SRV", "MX", "CAA", "PTR", "TYPE65400")
+    without = tuple(set(zone.TYPES).difference(with_types))
+
+    def words(self):
+        records = [record for each in zone.ZONES.values() for record in each]
+        return ["-k", "--no-resolv", "--no-hosts", "--conf-file=/dev/null", "--user=root",
+                "--cache-size=0", "--bind-interfaces", f"--listen-address={self.address}",
+                f"--port={self.port}", "--local=/example/test/", f"--local-ttl={zone.LIFETIME}",
+                *(word for record in records for word in options_of(*record))]
+
+
+def options_of(name, kind, data):
+    """The options by which dnsmasq holds a record."""
     fields = [field.strip('"').rstrip(".") for field in data.split()]
     texts = ",".join(data.strip('"').split('" "'))
     forms = {"A": "host-record={name},{data}", "AAAA": "host-record={name},{data}",
@@ -68,23 +124,7 @@ def of_dnsmasq(name, kind, data):
              "CAA": "caa-record={name},{0},{1},{2}", "PTR": "ptr-record={name},{0}"}
     form = "dns-rr={name},{number},{2}" if kind[4:].isdigit() else forms.get(kind)
     named = {"name": name.rstrip("."), "data": data, "texts": texts, "number": kind[4:]}
-    return form.format(*fields, **named) + "\n" if form else ""
+    return ["--" + form.format(*fields, **named)] if form else []
 
 
-# dnsmasq, without zones, has records of these types, and of any type by octets.
-OF_DNSMASQ = ("A", "AAAA", "TXT", "SRV", "MX", "CAA", "PTR", "TYPE65400")
-ALL = [
-    Kind("unbound", "-d -c {folder}/conf", record=of_unbound,
-         more="".join(f'  local-zone: "{each}." static\n' for each in zone.ZONES)),
-    Kind("named", "-g -n 1 -c {folder}/conf",
-         'zone "{name}" {{ type primary; file "{name}"; check-names ignore; }};\n',
-         more="recursion no; minimal-responses no; notify no;"),
-    Kind("nsd", "-d -c {folder}/conf", 'zone:\n  name: "{name}"\n  zonefile: "{name}"\n'),
-    Kind("dnsmasq", "-k --conf-file={folder}/conf --cache-size=0 --local=/example/test/ "
-         f"--local-ttl={zone.LIFETIME}", record=of_dnsmasq,
-         without=tuple(set(zone.TYPES).difference(OF_DNSMASQ))),
-    Kind("pdns_server", "--config-dir={folder} --socket-dir={folder} --launch=bind "
-         "--bind-config={folder}/conf --local-address={address} --local-port={port} --daemon=no "
-         "--guardian=no --setuid= --setgid=",
-         'zone "{name}" {{ type master; file "{folder}/{name}"; }};\n', without=("RT",)),
-]
+ALL = [Unbound, Named, Nsd, Dnsmasq, Pdns]
