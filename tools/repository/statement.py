@@ -7,7 +7,7 @@ import sys
 
 from repository.crates import CRATES, uses
 from repository.imports import place
-from repository.specs import imports, words_of
+from repository.specs import imports, listed, words_of
 
 HEADLINE = "ServesTruly"
 TABLE = "step_table"
@@ -137,7 +137,7 @@ class Statement:
         for file in self.files:
             words = self.words(file)
             for crate, _, names, _ in imports(self.specs.texts[file]):
-                each = map(str.strip, names.split(",") if crate == "std" else ())
+                each = listed(names) if crate == "std" else ()
                 found.update(name for name in each if set(parts_of(name)) <= words)
         return sorted(found)
 
@@ -156,7 +156,7 @@ class Statement:
         words = self.words(file)
         for crate, path, names, short in imports(self.specs.texts[file]):
             at = place(crate, "specs", path)
-            for name in map(str.strip, names.split(",")):
+            for name in listed(names):
                 if name.rpartition(" as ")[2] in words:
                     yield self.specs.passed_on.get((*at, name), at)
             if short and any(word.startswith(f"{short}.") for word in words):
