@@ -365,6 +365,13 @@ none_ready (suc more) (inr (o, name, leads, rest)) =
     no_alias name (subst (λ (h : Held). IsReadyAlias config 2000 touched (address b) h name)
     (sym (came o (recent_came 4096 touched o leads.ready.slots leads.ready.recent))) leads)
 
+-- the server that answered is asked again
+turn_b : TakesTurn config asks_b history (0 ∷ 0 ∷ []) 0
+    (record { path = Udp 1040; server = server; octets = question_for_b 16 })
+unfolding first_question question_at octets_end name_within walk_in name_step route_of
+turn_b = begins_turn asks_b history (0 ∷ 0 ∷ []) 1040 (question_for_b 16) (address b) refl refl
+    (inl (address b, refl, refl)) tt (prefers_on config asks_b history (0 ∷ 0 ∷ []) 0 0 refl refl prefers_first)
+
 -- ---- all else holds, whatever the slots claimed as used
 
 -- look-ups of the newest step used these slots
@@ -386,6 +393,8 @@ but_for_its_slots slots looked = record {
     λ pieces servers k ends. record { none_listed = tt; none_sent = λ q. only_closes },
   );
   tries = ((it_asks_once, tries_b), tt);
+  places = 0 ∷ 0 ∷ 0 ∷ 0 ∷ [];
+  turns = ((turns_so_far, (turn_b, tt)), (tt, (tt, tt)));
   waiting = waits_on;
   uses = used_what_stands;
   used = slots ∷ [] ∷ [] ∷ [] ∷ [];

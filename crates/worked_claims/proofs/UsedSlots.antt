@@ -165,6 +165,12 @@ unfolding first_question question_at octets_end name_within walk_in name_step
 tries_status = begins_tries config asks_status history (ask_at 1025) (address a) refl refl refl refl
     (inl (address a, refl, refl)) (omega arith)
 
+turn_status : TakesTurn config asks_status history (0 ∷ 0 ∷ []) 0
+    (record { path = Udp 1032; server = server; octets = question_text 8 1 })
+unfolding first_question question_at octets_end name_within walk_in name_step route_of
+turn_status = begins_turn asks_status history (0 ∷ 0 ∷ []) 1032 (question_text 8 1) (address a) refl refl
+    (inl (address a, refl, refl)) tt (prefers_on config asks_status history (0 ∷ 0 ∷ []) 0 0 refl refl prefers_first)
+
 -- ---- all else holds, whatever the slots claimed as used
 
 -- a look-up of the newest step used these slots
@@ -195,6 +201,8 @@ but_for_its_slots slots looked_up = record {
     nothing_came config hit before refl,
   );
   tries = (((it_asks_once, tries_status), tt), tt);
+  places = 0 ∷ 0 ∷ 0 ∷ 0 ∷ 0 ∷ [];
+  turns = (((turns_so_far, (turn_status, tt)), (tt, (tt, tt))), (tt, tt));
   waiting = (
     ((nobody_waits, status_waits), record { wanted = []; each = tt; asked = tt; wanting = tt; spelled = tt }),
     record { wanted = []; each = tt; asked = tt; wanting = tt; spelled = tt },
