@@ -17,6 +17,7 @@ pub mod Asked
 pub mod AskRows
 pub mod AskHistory
 pub mod Given
+pub mod Cuts
 pub mod TurnRows
 pub mod Turns
 pub mod Theorem

@@ -1,9 +1,9 @@
 -- Each row of the table sends at most one ask: the first of an inquiry, to its route's preferred
 -- server, or the next after a failed ask.
-use Rattle.std.proofs.Common.{◌≡◌, ◌∙◌, ℕ, ◌+◌, ◌%◌, List, [], ◌∷◌, ◌++◌, length, append-nil, Bool, true, false, cond, refl, sym, ap, subst, inl, inr, Option, Some, None}
-use Rattle.std.specs.Prelude.{map, filter, nat_le, nat_lt, get_or, slice_set, ◌==◌, ◌||◌, ◌⊎◌, Result, Ok, Err}
+use Rattle.std.proofs.Common.{◌≡◌, ◌∙◌, ℕ, ◌+◌, ◌%◌, List, [], ◌∷◌, ◌++◌, length, append-nil, Bool, true, false, refl, sym, ap, subst, inl, inr, Option, Some, None}
+use Rattle.std.specs.Prelude.{map, filter, nat_le, nat_lt, get_or, slice_set, ◌==◌, ◌⊎◌, Result, Ok, Err}
 use Rattle.std.specs.List.{AllByRecursion}
-use Rattle.std.proofs.lemmas.Bool.{cond_both, cond-true, cond-false, true≢false, false≢true}
+use Rattle.std.proofs.lemmas.Bool.{cond_both, cond-true, false≢true}
 use Rattle.dns_message.specs.Header.{header_in}
 use Rattle.dns_message.specs.declared.names.fault.Fault.{Fault}
 use Rattle.dns_message.specs.Values.{Question, Message}
@@ -14,27 +14,25 @@ use Rattle.suffix_routes.specs.declared.peer.Peer.{Peer}
 use Rattle.suffix_routes.specs.Values.{Config}
 use Rattle.suffix_routes.specs.Serving.{serving_route_of, is_local}
 use Rattle.outstanding.specs.declared.ask.Path.{Path}
-use Rattle.outstanding.specs.declared.ask.Path.TheVariants.{Udp, Tcp}
 use Rattle.outstanding.specs.Draws.{udp_draw, drawn_by_tcp}
 use Rattle.outstanding.specs.Lists.{same_path, is_tcp, on_path as ask_on, of_question, without_path}
 use Rattle.outstanding.specs.Values.{Ask}
 use Rattle.outstanding.proofs.CallerLemmas.{same_path_reflexive}
 use Rattle.reply_match.specs.declared.verdict.Verdict.{Verdict}
 use Rattle.reply_match.specs.declared.verdict.Verdict.TheVariants.{Stranger, Truncated, Failed, Malformed, Whole}
-use Rattle.reply_match.specs.Verdicts.{matches, judge, judged_whole}
+use Rattle.reply_match.specs.Verdicts.{matches, judge}
 use Rattle.retry_failover.specs.declared.Failure.{Failure}
 use Rattle.retry_failover.specs.declared.Failure.TheVariants as failure
 use Rattle.retry_failover.specs.declared.Next.{Next}
 use Rattle.retry_failover.specs.declared.Next.TheVariants.{AskUdp, AskTcp, GiveUp}
-use Rattle.retry_failover.specs.declared.Plan.{Plan}
-use Rattle.retry_failover.specs.Table.{row, after_failure}
+use Rattle.retry_failover.specs.Table.{after_failure}
 use Rattle.trust_rank.specs.declared.slot.Slot.{Slot}
-use Rattle.trust_rank.specs.Values.{Piece, End, found, ends_no_data, ends_denied, elsewhere, lame, Walk}
+use Rattle.trust_rank.specs.Values.{End, found, ends_no_data, ends_denied, elsewhere, lame, Walk}
 use Rattle.trust_rank.specs.Walks.{most_aliases, walk_of, is_lame}
 use Rattle.record_cache.specs.Values.{Held}
 use Rattle.answer_builder.specs.Transports.{answer_of, local_answer_of}
 use Rattle.step_values.specs.declared.event.Client.{Client}
-use Rattle.step_values.specs.declared.action.Why.TheVariants.{Answered, BadFormat, BadOpcode, NotServed, QuestionsFull}
+use Rattle.step_values.specs.declared.action.Why.TheVariants.{Answered, QuestionsFull}
 use Rattle.step_values.specs.declared.action.Why.TheVariants.{InquiriesFull, NoPort, Deadline, LocalDenied}
 use Rattle.step_values.specs.Values.{Action, Delivered, Event, from_client, delivery, path_failed, tick, Step}
 use Rattle.step_values.specs.Requests.{is_taken}
@@ -57,73 +55,12 @@ use Rattle.theorem_sound.proofs.Matching.{judged_match}
 use Rattle.theorem_sound.proofs.Redirecting.{no_port_speaks}
 use Rattle.theorem_sound.specs.Explains.{shown, Tried, Explains}
 use Rattle.theorem_use.proofs.Asked.{NextHas}
+use Rattle.theorem_use.proofs.Cuts.{not_by_udp, cut_by_udp, judged_cut, judged_uncut, udp_is, is_udp}
 
--- ---- the table of attempts
-
--- after a truncated reply by UDP no ask goes by UDP
-not_by_udp : (b tcp : Bool) (f : Failure) (plan : Plan) (k : ℕ) → row b tcp f plan ≡ AskUdp k → f ≡ failure.Truncated
-    → tcp ≡ false → ⊥
-not_by_udp true tcp f plan k e cut udp = absurd (cc)
-not_by_udp false true f plan k e cut udp = true≢false udp
-not_by_udp false false failure.Truncated plan k e cut udp = absurd (cc)
-not_by_udp false false failure.TimedOut plan k e cut udp = absurd (cc)
-not_by_udp false false failure.Broken plan k e cut udp = absurd (cc)
-not_by_udp false false failure.Malformed plan k e cut udp = absurd (cc)
-not_by_udp false false failure.Rcode plan k e cut udp = absurd (cc)
-not_by_udp false false failure.Lame plan k e cut udp = absurd (cc)
-
--- after no other failure an ask goes over TCP
-cut_by_udp : (b tcp : Bool) (f : Failure) (plan : Plan) (k : ℕ) → row b tcp f plan ≡ AskTcp k
-    → (f ≡ failure.Truncated) × (tcp ≡ false)
-cut_by_udp true tcp f plan k e = absurd (cc)
-cut_by_udp false true f plan k e = absurd (cc)
-cut_by_udp false false failure.Truncated plan k e = (refl, refl)
-cut_by_udp false false failure.TimedOut plan k e = absurd (cc)
-cut_by_udp false false failure.Broken plan k e = absurd (cc)
-cut_by_udp false false failure.Malformed plan k e = absurd (cc)
-cut_by_udp false false failure.Rcode plan k e = absurd (cc)
-cut_by_udp false false failure.Lame plan k e = absurd (cc)
-
--- ---- verdicts and TC
-
-not_truncated : (b : Bool) (r : Result Message Fault) (code : ℕ) → cond b (judged_whole r) (Failed code) ≡ Truncated → ⊥
-not_truncated true (Ok m) code e = absurd (cc)
-not_truncated true (Err fault) code e = absurd (cc)
-not_truncated false r code e = absurd (cc)
-
-judged_cut : (from : Peer) (octets : List ℕ) (a : Ask) → judge a from octets ≡ Truncated → (header_in octets).tc ≡ true
-judged_cut from octets a e = by (matches a from octets) refl (header_in octets).tc refl
-  where
-    by : (b : Bool) → matches a from octets ≡ b → (t : Bool) → (header_in octets).tc ≡ t → (header_in octets).tc ≡ true
-    by false m t tc =
-        let bad : Stranger ≡ Truncated = sym (cond-false (matches a from octets) _ _ m) ∙ e in absurd (cc)
-    by true m true tc = tc
-    by true m false tc = absurd (not_truncated (((header_in octets).rcode == 0) || ((header_in octets).rcode == 3))
-        (message_of octets) (header_in octets).rcode
-        (sym (cond-true (matches a from octets) _ _ m ∙ cond-false (header_in octets).tc _ _ tc) ∙ e))
-
-judged_uncut : (from : Peer) (octets : List ℕ) (a : Ask) → (judge a from octets ≡ Stranger → ⊥)
-    → (judge a from octets ≡ Truncated → ⊥) → (header_in octets).tc ≡ true → ⊥
-judged_uncut from octets a known uncut tc = by (matches a from octets) refl
-  where
-    by : (b : Bool) → matches a from octets ≡ b → ⊥
-    by false m = known (cond-false (matches a from octets) _ _ m)
-    by true m = uncut (cond-true (matches a from octets) _ _ m ∙ cond-true (header_in octets).tc _ _ tc)
-
--- ---- paths
-
-udp_is : (p : Path) → ByUdp p → is_tcp p ≡ false
-udp_is (Udp port) by_udp = refl
-udp_is (Tcp conn) by_udp = absurd by_udp
-
-is_udp : (p : Path) → is_tcp p ≡ false → ByUdp p
-is_udp (Udp port) e = tt
-is_udp (Tcp conn) e = true≢false e
+-- ---- events and replies
 
 not_delivered : {d : Delivered} → None ≡ Some d → ⊥
 not_delivered is = absurd (cc)
-
--- ---- replies
 
 without_speaks : (c : Config) (n : ℕ) (y : Waiting) (aliases : List Held) (name : List (List ℕ))
     → Speaks (gets (without_server c n y aliases name))
@@ -200,7 +137,7 @@ module _ (c : Config) (past : List Step) (w : List (List ℕ)) (s : State) (x : 
   first_is q z b None is = absurd (cc)
   first_is q z b (Some route) is =
       let facts : IsAskBy n q route (preferred_on z route) 1 (peer_at c route (preferred_on z route))
-          (over_udp (udp_draw words z.asks None)) b =
+      (over_udp (udp_draw words z.asks None)) b =
       ask_by-some n q route (preferred_on z route) 1 (peer_at c route (preferred_on z route))
       (over_udp (udp_draw words z.asks None)) b is in
       let draw = udp-some (udp_draw words z.asks None) b.id b.path facts.drawn_is in
@@ -215,85 +152,85 @@ module _ (c : Config) (past : List Step) (w : List (List ℕ)) (s : State) (x : 
   module _ (e : Event) (a : Ask) (on : ask_on a.path s.asks ≡ Some a) (f : Failure)
       (cut : (d : Done) → f ≡ failure.Truncated → is_tcp a.path ≡ false → BringsCut c (told e d) past)
       (uncut : (d : Done) → (f ≡ failure.Truncated → is_tcp a.path ≡ false → ⊥) → BringsCut c (told e d) past → ⊥)
-      where
-    ended : (fate : Waiting → Fate) → AllByRecursion Speaks (map fate s.waiting)
-        → Moves e s.preferred (closing_step n a fate None s)
-    ended fate speak = record {
-      close = Some a;
-      fates = map fate s.waiting;
-      next = None;
-      actions = refl;
-      speak = speak;
-      asks_are = refl;
-      preferred_are = refl;
-      turn = tt;
-    }
+    where
+      ended : (fate : Waiting → Fate) → AllByRecursion Speaks (map fate s.waiting)
+          → Moves e s.preferred (closing_step n a fate None s)
+      ended fate speak = record {
+        close = Some a;
+        fates = map fate s.waiting;
+        next = None;
+        actions = refl;
+        speak = speak;
+        asks_are = refl;
+        preferred_are = refl;
+        turn = tt;
+      }
 
-    went_on : (b : Ask) → ((d : Done) → IsNext (BringsCut c (told e d) past) b)
-        → Moves e s.preferred (closing_step n a (λ y. waits y) (Some b) s)
-    went_on b is_next = record {
-      close = Some a;
-      fates = map (λ y. waits y) s.waiting;
-      next = Some b;
-      actions = refl;
-      speak = waits_speak s.waiting;
-      asks_are = refl;
-      preferred_are = refl;
-      turn = inr (is_next (closing_step n a (λ y. waits y) (Some b) s));
-    }
+      went_on : (b : Ask) → ((d : Done) → IsNext (BringsCut c (told e d) past) b)
+          → Moves e s.preferred (closing_step n a (λ y. waits y) (Some b) s)
+      went_on b is_next = record {
+        close = Some a;
+        fates = map (λ y. waits y) s.waiting;
+        next = Some b;
+        actions = refl;
+        speak = waits_speak s.waiting;
+        asks_are = refl;
+        preferred_are = refl;
+        turn = inr (is_next (closing_step n a (λ y. waits y) (Some b) s));
+      }
 
-    udp_row : (server : ℕ) → after_failure (plan_of c a) f ≡ AskUdp server → (r : Option Ask)
-        → next_ask (start c n words s) a (AskUdp server) ≡ r → Moves e s.preferred (row_of_attempt n a s r)
-    udp_row server is None none = ended (fails NoPort a.question) (fails_speak NoPort a.question s.waiting)
-    udp_row server is (Some b) some =
-        let facts : IsAskBy n a.question a.route server (a.used + 1) (peer_at c a.route server)
-            (over_udp (udp_draw words s.asks (freed_by a.path))) b =
-        ask_by-some n a.question a.route server (a.used + 1) (peer_at c a.route server)
-        (over_udp (udp_draw words s.asks (freed_by a.path))) b some in
-        let draw = udp-some (udp_draw words s.asks (freed_by a.path)) b.id b.path facts.drawn_is in
-        went_on b (λ d. record {
-          failed = a;
-          on = on;
-          question = facts.question;
-          used = facts.used_is;
-          turn = inr (
-            uncut d (not_by_udp (a.used == c.limits.tries) (is_tcp a.path) f (plan_of c a) server is),
-            subst ByUdp (sym draw.1) tt,
-            facts.server_is ∙ asked_next (a.used == c.limits.tries) (is_tcp a.path) f (plan_of c a) server is
-                ∙ ap (λ (k : ℕ). (a.server + 1) % length (servers_in (group_of c k))) (sym facts.route_is),
-          );
-        })
+      udp_row : (server : ℕ) → after_failure (plan_of c a) f ≡ AskUdp server → (r : Option Ask)
+          → next_ask (start c n words s) a (AskUdp server) ≡ r → Moves e s.preferred (row_of_attempt n a s r)
+      udp_row server is None none = ended (fails NoPort a.question) (fails_speak NoPort a.question s.waiting)
+      udp_row server is (Some b) some =
+          let facts : IsAskBy n a.question a.route server (a.used + 1) (peer_at c a.route server)
+          (over_udp (udp_draw words s.asks (freed_by a.path))) b =
+          ask_by-some n a.question a.route server (a.used + 1) (peer_at c a.route server)
+          (over_udp (udp_draw words s.asks (freed_by a.path))) b some in
+          let draw = udp-some (udp_draw words s.asks (freed_by a.path)) b.id b.path facts.drawn_is in
+          went_on b (λ d. record {
+            failed = a;
+            on = on;
+            question = facts.question;
+            used = facts.used_is;
+            turn = inr (
+              uncut d (not_by_udp (a.used == c.limits.tries) (is_tcp a.path) f (plan_of c a) server is),
+              subst ByUdp (sym draw.1) tt,
+              facts.server_is ∙ asked_next (a.used == c.limits.tries) (is_tcp a.path) f (plan_of c a) server is
+                  ∙ ap (λ (k : ℕ). (a.server + 1) % length (servers_in (group_of c k))) (sym facts.route_is),
+            );
+          })
 
-    tcp_row : (server : ℕ) → after_failure (plan_of c a) f ≡ AskTcp server → (r : Option Ask)
-        → next_ask (start c n words s) a (AskTcp server) ≡ r → Moves e s.preferred (row_of_attempt n a s r)
-    tcp_row server is None none = ended (fails NoPort a.question) (fails_speak NoPort a.question s.waiting)
-    tcp_row server is (Some b) some =
-        let facts : IsAskBy n a.question a.route server (a.used + 1) (peer_at c a.route server)
-            (over_tcp (drawn_by_tcp words s.tcp_asks)) b =
-        ask_by-some n a.question a.route server (a.used + 1) (peer_at c a.route server)
-        (over_tcp (drawn_by_tcp words s.tcp_asks)) b some in
-        let draw = tcp-some (drawn_by_tcp words s.tcp_asks) b.id b.path facts.drawn_is in
-        let why = cut_by_udp (a.used == c.limits.tries) (is_tcp a.path) f (plan_of c a) server is in
-        went_on b (λ d. record {
-          failed = a;
-          on = on;
-          question = facts.question;
-          used = facts.used_is;
-          turn = inl (
-            cut d why.0 why.1,
-            subst ByTcp (sym draw.1) tt,
-            facts.server_is ∙ asked_again (a.used == c.limits.tries) (is_tcp a.path) f (plan_of c a) server is,
-          );
-        })
+      tcp_row : (server : ℕ) → after_failure (plan_of c a) f ≡ AskTcp server → (r : Option Ask)
+          → next_ask (start c n words s) a (AskTcp server) ≡ r → Moves e s.preferred (row_of_attempt n a s r)
+      tcp_row server is None none = ended (fails NoPort a.question) (fails_speak NoPort a.question s.waiting)
+      tcp_row server is (Some b) some =
+          let facts : IsAskBy n a.question a.route server (a.used + 1) (peer_at c a.route server)
+          (over_tcp (drawn_by_tcp words s.tcp_asks)) b =
+          ask_by-some n a.question a.route server (a.used + 1) (peer_at c a.route server)
+          (over_tcp (drawn_by_tcp words s.tcp_asks)) b some in
+          let draw = tcp-some (drawn_by_tcp words s.tcp_asks) b.id b.path facts.drawn_is in
+          let why = cut_by_udp (a.used == c.limits.tries) (is_tcp a.path) f (plan_of c a) server is in
+          went_on b (λ d. record {
+            failed = a;
+            on = on;
+            question = facts.question;
+            used = facts.used_is;
+            turn = inl (
+              cut d why.0 why.1,
+              subst ByTcp (sym draw.1) tt,
+              facts.server_is ∙ asked_again (a.used == c.limits.tries) (is_tcp a.path) f (plan_of c a) server is,
+            );
+          })
 
-    failure_row : Moves e s.preferred (row_of_failure (start c n words s) a f)
-    failure_row = by (after_failure (plan_of c a) f) refl
-      where
-        by : (v : Next) → after_failure (plan_of c a) f ≡ v → Moves e s.preferred (row_of_next (start c n words s) a v)
-        by (AskUdp server) is = udp_row server is (next_ask (start c n words s) a (AskUdp server)) refl
-        by (AskTcp server) is = tcp_row server is (next_ask (start c n words s) a (AskTcp server)) refl
-        by GiveUp is = ended (runs_out c n s.cache.entries a.question)
-            (runs_out_speak c n s.cache.entries a.question s.waiting)
+      failure_row : Moves e s.preferred (row_of_failure (start c n words s) a f)
+      failure_row = by (after_failure (plan_of c a) f) refl
+        where
+          by : (v : Next) → after_failure (plan_of c a) f ≡ v → Moves e s.preferred (row_of_next (start c n words s) a v)
+          by (AskUdp server) is = udp_row server is (next_ask (start c n words s) a (AskUdp server)) refl
+          by (AskTcp server) is = tcp_row server is (next_ask (start c n words s) a (AskTcp server)) refl
+          by GiveUp is = ended (runs_out c n s.cache.entries a.question)
+              (runs_out_speak c n s.cache.entries a.question s.waiting)
 
   -- ---- a client's message
 

@@ -16,13 +16,11 @@ use Rattle.suffix_routes.specs.Serving.{serving_route_of}
 use Rattle.outstanding.specs.declared.ask.Path.{Path}
 use Rattle.outstanding.specs.declared.ask.Path.TheVariants.{Udp, Tcp}
 use Rattle.outstanding.specs.Draws.{ask_message}
-use Rattle.outstanding.specs.Lists.{on_path as ask_on, without_path, AreInTurn, Follows}
+use Rattle.outstanding.specs.Lists.{on_path as ask_on, AreInTurn, Follows}
 use Rattle.outstanding.specs.Values.{Ask}
 use Rattle.outstanding.proofs.CallerLemmas.{all_without_path}
 use Rattle.trust_rank.specs.Values.{Piece, Walk}
 use Rattle.trust_rank.specs.Walks.{walk_of}
-use Rattle.step_values.specs.declared.action.Why.{Why}
-use Rattle.step_values.specs.declared.event.Client.{Client}
 use Rattle.step_values.specs.Values.{Action, ask_udp, ask_tcp, close_udp, close_tcp, send_reply, SentAsk, ask_in, Step}
 use Rattle.step_values.specs.Values.{Delivered, Event, from_client, delivery, path_failed, tick, restart}
 use Rattle.step_history.specs.Causes.{SendsAsk, FailsAsk, BeginsToAsk, FailedSoFar}
@@ -34,7 +32,6 @@ use Rattle.step_table.specs.Progress.{ArePreferred}
 use Rattle.step_table.specs.Row.{Happens, HandsOctets, effective}
 use Rattle.step_table.specs.State.{State, start}
 use Rattle.step_table.specs.Steps.{Done, Fate, gets, waits, initial, reply_in, replies, closes, closing, without_ask, asks, asks_by, ask_list}
-use Rattle.step_table.specs.WaitingQuestions.Values.{Waiting}
 use Rattle.step_table.proofs.CallerLemmas.{All-append, All-first, All-weaker, ask_on-is}
 use Rattle.theorem_sound.proofs.Actions.{Speaks}
 use Rattle.theorem_sound.proofs.Attempts.{group_there}
@@ -132,154 +129,158 @@ module _ (c : Config) (past : List Step) (w : List (List ℕ)) (s : State) (x : 
       (preferred : List ℕ) (close : Option Ask) (fates : List Fate) (speak : AllByRecursion Speaks fates)
       (preferred_are : d.state.preferred ≡ preferred)
       (prefers : (place route : ℕ) → IsPreferred c route (told e d ∷ past) (place ∷ was.places) (get_or preferred route 0))
-      where
-    abbrev t : Step
-    t = told e d
+    where
+      abbrev t : Step
+      t = told e d
 
-    abbrev kept : List Ask
-    kept = without_ask close s.asks
+      abbrev kept : List Ask
+      kept = without_ask close s.asks
 
-    kept_asked : AllByRecursion (λ a. AskedAt a.question past was.places a.server) kept
-    kept_asked = by close
-      where
-        by : (o : Option Ask) → AllByRecursion (λ a. AskedAt a.question past was.places a.server) (without_ask o s.asks)
-        by None = was.asked
-        by (Some a) = all_without_path (λ b. AskedAt b.question past was.places b.server) a.path s.asks was.asked
-
-    prefers_now : (place route : ℕ) → IsPreferred c route (t ∷ past) (place ∷ was.places) (preferred_on d.state route)
-    prefers_now place route = subst (λ (ps : List ℕ). IsPreferred c route (t ∷ past) (place ∷ was.places) (get_or ps route 0))
-        (sym preferred_are) (prefers place route)
-
-    -- asks for which the step sends none stay at their places
-    still_asked : (place : ℕ) (as' : List Ask) → AllByRecursion (λ a. SendsAsk a.question d.actions → ⊥) as'
-        → AllByRecursion (λ a. AskedAt a.question past was.places a.server) as'
-        → AllByRecursion (λ a. AskedAt a.question (t ∷ past) (place ∷ was.places) a.server) as'
-    still_asked place [] none at = tt
-    still_asked place (a ∷ as') none at = (inr (none.0, at.0), still_asked place as' none.1 at.1)
-
-    -- the step sends no ask
-    sends_none : d.actions ≡ closing close ++ (replies fates ++ []) → d.state.asks ≡ kept ++ [] → HasTurns c (t ∷ past) d.state
-    sends_none actions asks_are = record {
-      places = 0 ∷ was.places;
-      turns = (
-        was.turns,
-        subst (AllByRecursion (λ a. TakesItsTurn c t past was.places 0 (ask_in a))) (sym actions)
-            (each_settled (TakesItsTurn c t past was.places 0) tt close fates None speak tt),
-      );
-      asked = subst (AllByRecursion (λ a. AskedAt a.question (t ∷ past) (0 ∷ was.places) a.server)) (sym asks_are)
-          (All-append (λ a. AskedAt a.question (t ∷ past) (0 ∷ was.places) a.server) kept []
-          (still_asked 0 kept (all kept) kept_asked) tt);
-      prefers = prefers_now 0;
-    }
-      where
-        all : (as' : List Ask) → AllByRecursion (λ a. SendsAsk a.question d.actions → ⊥) as'
-        all [] = tt
-        all (a ∷ as') = (
-          (λ k. sends_settled a.question close fates None speak (subst (SendsAsk a.question) actions k)),
-          all as',
-        )
-
-    -- the step sends an ask
-    module _ (b : Ask) (actions : d.actions ≡ closing close ++ (replies fates ++ map asks (b ∷ [])))
-        (asks_are : d.state.asks ≡ kept ++ b ∷ [])
-        (turn : IsFirst c past w s x now words unkept more preferred b
-        ⊎ IsNext c past w s x now words unkept more (BringsCut c t past) b) where
-      tried : Tried c (t ∷ past) b
-      tried = (All-first (Tried c (t ∷ past)) kept (b ∷ []) (subst (AllByRecursion (Tried c (t ∷ past))) asks_are x'.tried)).1.0
-
-      sends : SendsAsk b.question d.actions
-      sends = subst (SendsAsk b.question) (sym actions)
-          (settled_sends b.question close fates (Some b) (b.question, tried.reads, same_as_itself b.question))
-
-      others : AllByRecursion (λ a. SendsAsk a.question d.actions → ⊥) kept
-      others = All-weaker (λ a. same_question a.question b.question ≡ false) (λ a. SendsAsk a.question d.actions → ⊥)
-          (λ a apart k.
-          let next : IsNextOf a.question (Some b) =
-          sends_settled a.question close fates (Some b) speak (subst (SendsAsk a.question) actions k) in
-          let one : Some next.0 ≡ Some b.question = sym next.1 ∙ tried.reads in
-          let own : next.0 ≡ b.question = cc in
-          true≢false (sym (same_turned b.question a.question
-          (ap (λ (q : Question). same_question q a.question) (sym own) ∙ next.2)) ∙ apart))
-          kept (last_follows kept b (subst AreInTurn asks_are x'.asks_are.by_arrival))
-
-      is_first : (k : ℕ) → k ≡ 0 → FailedSoFar c b.question (t ∷ past) k → BeginsToAsk c b.question t past
-      is_first zero none h = elim h.1 [
-        | inl new ↦ new
-        | inr left ↦ absurd (left.0.1 sends)
-      ]
-      is_first (suc k) none h = absurd (omega (arith, none))
-
-      is_later : (k : ℕ) → 1 ≤ k → FailedSoFar c b.question (t ∷ past) k → FailsAsk c b.question t past
-      is_later zero some h = absurd (omega (arith, some))
-      is_later (suc k) some h = elim h.1 [
-        | inl newest ↦ newest.0
-        | inr left ↦ absurd (left.0.1 sends)
-      ]
-
-      group : (r : Route) × (group_of c b.route ≡ Some r) × (slice_get r.servers b.server ≡ Some b.peer)
-      group = group_there (group_of c b.route) b.server b.peer tried.server
-
-      takes : TakesTurn c t past was.places b.server (sent b)
-      takes = record {
-        question = b.question;
-        reads = tried.reads;
-        route = b.route;
-        group = group.0;
-        route_is = serves_exactly.only c b.question.name b.route tried.on_route;
-        there = group.1;
-        server = group.2;
-        turn = by turn;
-      }
+      kept_asked : AllByRecursion (λ a. AskedAt a.question past was.places a.server) kept
+      kept_asked = by close
         where
-          by : IsFirst c past w s x now words unkept more preferred b
-              ⊎ IsNext c past w s x now words unkept more (BringsCut c t past) b
-              → AsksFirst c t past was.places b.server b.path b.question b.route
-              ⊎ AsksNext c t past was.places b.server b.path b.question (length group.0.servers)
-          by (inl first) = inl (record {
-            begins = is_first tried.before
-                (let one = first.used in let own = tried.used in omega (arith, one, own)) tried.failed;
-            by_udp = first.by_udp;
-            preferred = subst (IsPreferred c b.route (t ∷ past) (b.server ∷ was.places)) (sym first.server)
-                (prefers b.server b.route);
-          })
-          by (inr next) = inr (record {
-            fails = is_later tried.before
-                (let later = next.used in
-                let own = tried.used in
-                let old = (ask_on-is (Tried c past) next.failed.path s.asks next.failed next.on x.tried).1.used in
-                omega (arith, later, own, old)) tried.failed;
-            failed = next.failed.server;
-            at = subst (λ (q : Question). AskedAt q past was.places next.failed.server) (sym next.question)
-                (ask_on-is (λ a. AskedAt a.question past was.places a.server) next.failed.path s.asks next.failed
-                next.on was.asked).1;
-            turn = elim next.turn [
-              | inl cut ↦ inl cut
-              | inr uncut ↦ inr (uncut.0, uncut.1, uncut.2
-                  ∙ ap (λ (o : Option Route). (next.failed.server + 1) % length (servers_in o)) group.1)
-            ];
-          })
+          by : (o : Option Ask) → AllByRecursion (λ a. AskedAt a.question past was.places a.server) (without_ask o s.asks)
+          by None = was.asked
+          by (Some a) = all_without_path (λ b. AskedAt b.question past was.places b.server) a.path s.asks was.asked
 
-      sends_one : HasTurns c (t ∷ past) d.state
-      sends_one = record {
-        places = b.server ∷ was.places;
+      prefers_now : (place route : ℕ) → IsPreferred c route (t ∷ past) (place ∷ was.places) (preferred_on d.state route)
+      prefers_now place route = subst (λ (ps : List ℕ). IsPreferred c route (t ∷ past) (place ∷ was.places) (get_or ps route 0))
+          (sym preferred_are) (prefers place route)
+
+      -- asks for which the step sends none stay at their places
+      still_asked : (place : ℕ) (as' : List Ask) → AllByRecursion (λ a. SendsAsk a.question d.actions → ⊥) as'
+          → AllByRecursion (λ a. AskedAt a.question past was.places a.server) as'
+          → AllByRecursion (λ a. AskedAt a.question (t ∷ past) (place ∷ was.places) a.server) as'
+      still_asked place [] none at = tt
+      still_asked place (a ∷ as') none at = (inr (none.0, at.0), still_asked place as' none.1 at.1)
+
+      -- the step sends no ask
+      sends_none : d.actions ≡ closing close ++ (replies fates ++ []) → d.state.asks ≡ kept ++ [] → HasTurns c (t ∷ past) d.state
+      sends_none actions asks_are = record {
+        places = 0 ∷ was.places;
         turns = (
           was.turns,
-          subst (AllByRecursion (λ a. TakesItsTurn c t past was.places b.server (ask_in a))) (sym actions)
-              (each_settled (TakesItsTurn c t past was.places b.server) tt close fates (Some b) speak takes),
+          subst (AllByRecursion (λ a. TakesItsTurn c t past was.places 0 (ask_in a))) (sym actions)
+              (each_settled (TakesItsTurn c t past was.places 0) tt close fates None speak tt),
         );
-        asked = subst (AllByRecursion (λ a. AskedAt a.question (t ∷ past) (b.server ∷ was.places) a.server)) (sym asks_are)
-            (All-append (λ a. AskedAt a.question (t ∷ past) (b.server ∷ was.places) a.server) kept (b ∷ [])
-            (still_asked b.server kept others kept_asked) (inl (sends, refl), tt));
-        prefers = prefers_now b.server;
+        asked = subst (AllByRecursion (λ a. AskedAt a.question (t ∷ past) (0 ∷ was.places) a.server)) (sym asks_are)
+            (All-append (λ a. AskedAt a.question (t ∷ past) (0 ∷ was.places) a.server) kept []
+            (still_asked 0 kept (all kept) kept_asked) tt);
+        prefers = prefers_now 0;
       }
+        where
+          all : (as' : List Ask) → AllByRecursion (λ a. SendsAsk a.question d.actions → ⊥) as'
+          all [] = tt
+          all (a ∷ as') = (
+            (λ k. sends_settled a.question close fates None speak (subst (SendsAsk a.question) actions k)),
+            all as',
+          )
 
-    moved : (next : Option Ask) → d.actions ≡ closing close ++ (replies fates ++ map asks (ask_list next))
-        → d.state.asks ≡ kept ++ ask_list next
-        → NextHas (λ b. IsFirst c past w s x now words unkept more preferred b
-        ⊎ IsNext c past w s x now words unkept more (BringsCut c t past) b) next
-        → HasTurns c (t ∷ past) d.state
-    moved None actions asks_are turn = sends_none actions asks_are
-    moved (Some b) actions asks_are turn = sends_one b actions asks_are turn
+      -- the step sends an ask
+      module _ (b : Ask) (actions : d.actions ≡ closing close ++ (replies fates ++ map asks (b ∷ [])))
+          (asks_are : d.state.asks ≡ kept ++ b ∷ [])
+          (turn : IsFirst c past w s x now words unkept more preferred b
+          ⊎ IsNext c past w s x now words unkept more (BringsCut c t past) b) where
+        tried : Tried c (t ∷ past) b
+        tried = (All-first (Tried c (t ∷ past)) kept (b ∷ []) (subst (AllByRecursion (Tried c (t ∷ past))) asks_are x'.tried)).1.0
+
+        sends : SendsAsk b.question d.actions
+        sends = subst (SendsAsk b.question) (sym actions)
+            (settled_sends b.question close fates (Some b) (b.question, tried.reads, same_as_itself b.question))
+
+        others : AllByRecursion (λ a. SendsAsk a.question d.actions → ⊥) kept
+        others = All-weaker (λ a. same_question a.question b.question ≡ false) (λ a. SendsAsk a.question d.actions → ⊥)
+            (λ a apart k.
+            let next : IsNextOf a.question (Some b) =
+            sends_settled a.question close fates (Some b) speak (subst (SendsAsk a.question) actions k) in
+            let one : Some next.0 ≡ Some b.question = sym next.1 ∙ tried.reads in
+            let own : next.0 ≡ b.question = cc in
+            true≢false (sym (same_turned b.question a.question
+            (ap (λ (q : Question). same_question q a.question) (sym own) ∙ next.2)) ∙ apart))
+            kept (last_follows kept b (subst AreInTurn asks_are x'.asks_are.by_arrival))
+
+        is_first : (k : ℕ) → k ≡ 0 → FailedSoFar c b.question (t ∷ past) k → BeginsToAsk c b.question t past
+        is_first zero none h = elim h.1 [
+          | inl new ↦ new
+          | inr left ↦ absurd (left.0.1 sends)
+        ]
+        is_first (suc k) none h = absurd (omega (arith, none))
+
+        is_later : (k : ℕ) → 1 ≤ k → FailedSoFar c b.question (t ∷ past) k → FailsAsk c b.question t past
+        is_later zero some h = absurd (omega (arith, some))
+        is_later (suc k) some h = elim h.1 [
+          | inl newest ↦ newest.0
+          | inr left ↦ absurd (left.0.1 sends)
+        ]
+
+        group : (r : Route) × (group_of c b.route ≡ Some r) × (slice_get r.servers b.server ≡ Some b.peer)
+        group = group_there (group_of c b.route) b.server b.peer tried.server
+
+        takes : TakesTurn c t past was.places b.server (sent b)
+        takes = record {
+          question = b.question;
+          reads = tried.reads;
+          route = b.route;
+          group = group.0;
+          route_is = serves_exactly.only c b.question.name b.route tried.on_route;
+          there = group.1;
+          server = group.2;
+          turn = by turn;
+        }
+          where
+            by : IsFirst c past w s x now words unkept more preferred b
+                ⊎ IsNext c past w s x now words unkept more (BringsCut c t past) b
+                → AsksFirst c t past was.places b.server b.path b.question b.route
+                ⊎ AsksNext c t past was.places b.server b.path b.question (length group.0.servers)
+            by (inl first) = inl (record {
+              begins = is_first tried.before
+                  (let one = first.used in let own = tried.used in omega (arith, one, own)) tried.failed;
+              by_udp = first.by_udp;
+              preferred = subst (IsPreferred c b.route (t ∷ past) (b.server ∷ was.places)) (sym first.server)
+                  (prefers b.server b.route);
+            })
+            by (inr next) = inr (record {
+              fails = is_later tried.before
+                  (let later = next.used in
+                  let own = tried.used in
+                  let old = (ask_on-is (Tried c past) next.failed.path s.asks next.failed next.on x.tried).1.used in
+                  omega (arith, later, own, old)) tried.failed;
+              failed = next.failed.server;
+              at = subst (λ (q : Question). AskedAt q past was.places next.failed.server) (sym next.question)
+                  (ask_on-is (λ a. AskedAt a.question past was.places a.server) next.failed.path s.asks next.failed
+                  next.on was.asked).1;
+              turn = elim next.turn [
+                | inl cut ↦ inl cut
+                | inr uncut ↦ inr (
+                  uncut.0,
+                  uncut.1,
+                  uncut.2
+                      ∙ ap (λ (o : Option Route). (next.failed.server + 1) % length (servers_in o)) group.1,
+                )
+              ];
+            })
+
+        sends_one : HasTurns c (t ∷ past) d.state
+        sends_one = record {
+          places = b.server ∷ was.places;
+          turns = (
+            was.turns,
+            subst (AllByRecursion (λ a. TakesItsTurn c t past was.places b.server (ask_in a))) (sym actions)
+                (each_settled (TakesItsTurn c t past was.places b.server) tt close fates (Some b) speak takes),
+          );
+          asked = subst (AllByRecursion (λ a. AskedAt a.question (t ∷ past) (b.server ∷ was.places) a.server)) (sym asks_are)
+              (All-append (λ a. AskedAt a.question (t ∷ past) (b.server ∷ was.places) a.server) kept (b ∷ [])
+              (still_asked b.server kept others kept_asked) (inl (sends, refl), tt));
+          prefers = prefers_now b.server;
+        }
+
+      moved : (next : Option Ask) → d.actions ≡ closing close ++ (replies fates ++ map asks (ask_list next))
+          → d.state.asks ≡ kept ++ ask_list next
+          → NextHas (λ b. IsFirst c past w s x now words unkept more preferred b
+          ⊎ IsNext c past w s x now words unkept more (BringsCut c t past) b) next
+          → HasTurns c (t ∷ past) d.state
+      moved None actions asks_are turn = sends_none actions asks_are
+      moved (Some b) actions asks_are turn = sends_one b actions asks_are turn
 
   moves : (e : Event) (d : Done) (w' : List (List ℕ)) → Explains c (told e d ∷ past) w' d.state → (preferred : List ℕ)
       → Moves c past w s x now words unkept more e preferred d
@@ -326,7 +327,7 @@ module _ (c : Config) (past : List Step) (w : List (List ℕ)) (s : State) (x : 
           → k.route ≡ h.ask.route
       route_is pieces servers k asked =
           let two : Some k.route ≡ Some h.ask.route = sym (serves_exactly.each c k.asked.name k.route x.config.differ k.route_is)
-              ∙ ap (λ (q : Question). serving_route_of c q.name) asked ∙ tried_heard.on_route in
+          ∙ ap (λ (q : Question). serving_route_of c q.name) asked ∙ tried_heard.on_route in
           let same : k.route ≡ h.ask.route = cc in
           same
 
@@ -364,9 +365,11 @@ module _ (c : Config) (past : List Step) (w : List (List ℕ)) (s : State) (x : 
                 accepts = accepted.accepts;
                 on_route = route_is accepted.pieces accepted.servers accepted.accepts accepted_asked ∙ sym is;
                 asked = subst (λ (z : Question × ℕ). AskedAt z.0 past was.places z.1)
-                    (λ i. (sym accepted_asked i,
-                    sym (ap (λ (k : ℕ). get_or (slice_set s.preferred h.ask.route h.ask.server) k 0) is
-                    ∙ get_or-set_same s.preferred h.ask.route h.ask.server 0 within) i))
+                    (λ i. (
+                      sym accepted_asked i,
+                      sym (ap (λ (k : ℕ). get_or (slice_set s.preferred h.ask.route h.ask.server) k 0) is
+                          ∙ get_or-set_same s.preferred h.ask.route h.ask.server 0 within) i,
+                    ))
                     (ask_on-is (λ a. AskedAt a.question past was.places a.server) path s.asks h.ask h.on was.asked).1;
               }))
           by false other =

@@ -10,29 +10,22 @@ use Rattle.dns_message.specs.Records.{octets_end, question_at}
 use Rattle.dns_message.specs.Messages.{first_question}
 use Rattle.dns_message.specs.Questions.{one_question, same_question}
 use Rattle.dns_message.specs.Values.{Question}
-use Rattle.dns_message.specs.Writing.{◌▹◌, each, name_text, written}
-use Rattle.suffix_routes.specs.Routes.{route_of}
 use Rattle.suffix_routes.specs.Values.{Config}
 use Rattle.trust_rank.specs.Values.{found, ends_no_data, ends_denied, elsewhere, lame}
 use Rattle.outstanding.specs.declared.ask.Path.TheVariants.{Udp}
 use Rattle.step_values.specs.Values.{delivery, ask_udp, close_udp, Step}
-use Rattle.cache_laws.proofs.CallerLemmas.{serves_exactly}
-use Rattle.step_history.specs.Asked.{AsksWell}
-use Rattle.step_history.specs.Causes.{ClosesAsk, NoneAsks, SendsAsk, FailedSoFar}
+use Rattle.step_history.specs.Causes.{NoneAsks, SendsAsk, FailedSoFar}
 use Rattle.step_history.specs.Given.{EndsHere, EndsAsking, GivesWhatCame, IsOneOfTries, AsksFewTimes}
 use Rattle.step_history.specs.History.{ShownAsk, Reads}
 use Rattle.step_table.proofs.Played.{a, b, address, server, other_server, config}
-use Rattle.theorem_use.specs.Asking.{AsksForWaiting}
 use Rattle.theorem_use.specs.Service.{ServesTruly}
 use Rattle.worked_claims.proofs.Neighbours.{HoldsButFor}
 use Rattle.worked_claims.proofs.Texts.{question_text, step_of, only_closes, the_only_ask, none_listed}
-use Rattle.worked_claims.proofs.Silent.{nothing_came, nothing_heard}
 use Rattle.worked_claims.proofs.Accepted.{asked, ask, answered, reply_text, piece, with_limits, reply_accepted}
-use Rattle.worked_claims.proofs.Brought.{not_sent, question_is, wants_it, waits_for_one}
+use Rattle.worked_claims.proofs.Brought.{question_is}
 use Rattle.worked_claims.proofs.EarlierTries.{retries, past, one_failed, none_failed}
 use Rattle.worked_claims.proofs.Failures.{begun}
-use Rattle.worked_claims.proofs.FirstStep.{word, asked_for, asks_it, asks_right, uses_nothing, uses_no_slot}
-use Rattle.worked_claims.proofs.FirstStep.{only_asks}
+use Rattle.worked_claims.proofs.FirstStep.{word}
 use Rattle.worked_claims.proofs.ReplyTo.{AcceptsTo}
 use Rattle.worked_claims.proofs.InTurn.{first_turn}
 use Rattle.worked_claims.proofs.SecondAsks.{all_else_holds}

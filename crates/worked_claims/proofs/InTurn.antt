@@ -59,7 +59,7 @@ prefers_the_answering s past places own place x q pieces servers k one reads on 
     route_is : k.route ≡ 0
     route_is =
         let two : Some k.route ≡ Some 0 = sym (serves_exactly.each config k.asked.name k.route (tt, tt) k.route_is)
-            ∙ ap (λ (z : Question). serving_route_of config z.name) asked_is ∙ on in
+        ∙ ap (λ (z : Question). serving_route_of config z.name) asked_is ∙ on in
         let same : k.route ≡ 0 = cc in
         same
 

@@ -32,6 +32,7 @@ use Rattle.step_history.specs.Answers.{Answers}
 use Rattle.step_history.specs.Sound.{RightReply, Owns, Replies, Sound}
 use Rattle.step_history.specs.Asked.{AsksWell, AsksRight}
 use Rattle.step_history.specs.Given.{IsOneOfTries}
+use Rattle.step_history.specs.Turns.{TakesTurn}
 use Rattle.step_history.proofs.CallerLemmas.{alias_to}
 use Rattle.step_table.proofs.Played.{a, b, address, name_data, server, config}
 use Rattle.theorem_use.specs.Asking.{Wants, Asks, AsksForWaiting, AsksForThoseWhoWait}
@@ -45,6 +46,7 @@ use Rattle.worked_claims.proofs.ReplyTo.{matches_ask}
 use Rattle.worked_claims.proofs.Accepted.{asked, answered, piece, held, carries, carried_now}
 use Rattle.worked_claims.proofs.Carried.{one_era}
 use Rattle.worked_claims.proofs.Touches.{touched_nothing, touched_these, CameIn, recent_came, the_one_brought}
+use Rattle.worked_claims.proofs.InTurn.{prefers_on, begins_turn, turns_so_far, prefers_first}
 use Rattle.worked_claims.proofs.Truly.{it_gives, it_asks_once, nobody_waits, handed_on, recent_so_far}
 use Rattle.worked_claims.proofs.Brought.{request_is, not_sent, question_is, waits_for_new, begins_tries}
 use Rattle.worked_claims.proofs.Whole.{history, it_is_sound, it_asks_well, it_tells_that_nothing_is_due}

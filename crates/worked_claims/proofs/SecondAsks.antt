@@ -34,7 +34,7 @@ asks_then peer = step_of 2500 (1048592 ∷ []) tick (close_udp 1032 ∷ ask_udp 
 abbrev pub then_asked : Peer → List Step
 then_asked peer = asks_then peer ∷ asked ∷ []
 
-abbrev second_ask : Peer → ShownAsk
+abbrev pub second_ask : Peer → ShownAsk
 second_ask peer = record { path = Udp 1040; server = peer; octets = question_text 16 1; moment = 2500 }
 
 closes_first : (peer : Peer) → ClosesAsk (address a) (asks_then peer) (asked ∷ [])

@@ -1,6 +1,6 @@
 -- A history that serves truly, whole: a question, its ask, the reply with the answer, and the same
--- question answered from cache. `NotTruly` and `Given` have a neighbour for each field of
--- `ServesTruly`, except for the fields on use; `Unbelieved` and `Unused` have the neighbours for
+-- question answered from cache. `NotTruly`, `Given` and `TakenTurns` have a neighbour for each field
+-- of `ServesTruly`, except for the fields on use; `Unbelieved` and `Unused` have the neighbours for
 -- these.
 use Rattle.std.proofs.Common.{◌≡◌, ℕ, List, [], ◌∷◌, false, refl, sym, ap, ◌∙◌, subst, inl, inr, arith}
 use Rattle.std.proofs.lemmas.Bool.{true≢false}

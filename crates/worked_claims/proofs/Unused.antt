@@ -18,7 +18,9 @@ use Rattle.cache_laws.proofs.CallerLemmas.{serves_exactly}
 use Rattle.step_history.specs.Asked.{AsksRight}
 use Rattle.step_history.specs.Draws.{drawn}
 use Rattle.step_history.specs.Given.{IsOneOfTries}
+use Rattle.step_history.specs.Causes.{NoneAsks}
 use Rattle.step_history.specs.Sound.{Replies, unanswered}
+use Rattle.step_history.specs.Turns.{IsPreferred, TakesTurn}
 use Rattle.step_table.proofs.Played.{a, address, server, config}
 use Rattle.theorem_use.specs.Asking.{AsksForWaiting}
 use Rattle.theorem_use.specs.Service.{ServesTruly}
