@@ -1,6 +1,6 @@
 -- For each field of `ServesTruly`, except for the fields on use and those in `Given` and
--- `TakenTurns`, a history in which all else holds: a wrong reply, a wrong report, too many waiting questions, a wrong ask, and
--- a question without an ask.
+-- `TakenTurns`, a history in which all else holds: a wrong reply, a wrong report, too many waiting
+-- questions, a wrong ask, and a question without an ask.
 use Rattle.std.proofs.Common.{◌≡◌, ℕ, ◌≤◌, List, [], ◌∷◌, true, false, Option, Some, None, refl, sym, ap, ◌∙◌, subst}
 use Rattle.std.proofs.Common.{inl, inr, arith}
 use Rattle.std.specs.Prelude.{zero, suc, length}
