@@ -9,6 +9,7 @@ pub mod Causes
 pub mod Sound
 pub mod Asked
 pub mod Given
+pub mod Turns
 pub mod Accounting
 pub mod Laws
 pub use Rattle.cache_laws.specs as CacheLaws

@@ -50,6 +50,7 @@ use Rattle.theorem_use.proofs.Messages.{message_is, recent_is_hit}
 use Rattle.theorem_use.proofs.AskRows.{GivesIfHeard, event_row}
 use Rattle.theorem_use.proofs.AskHistory.{asks_for_waiting}
 use Rattle.theorem_use.proofs.Given.{ends_asking, all_are_tries}
+use Rattle.theorem_use.proofs.Turns.{turns_after, first_turns}
 use Rattle.theorem_use.proofs.AtOnce.{IsHit, is_hit, hit_is, is_hit_so, IsOwnAnswer, hit_is_owned}
 use Rattle.theorem_use.proofs.Ending.{Ends, look_up_ends}
 use Rattle.theorem_use.proofs.Finding.{finds_the_same}
@@ -421,6 +422,8 @@ row_fully_explained c past w s h o s' both r = (
           (used.0 ∷ w) used.1,
     );
     tries = (both.tries, all_are_tries c (t ∷ past) (used.0 ∷ w) s' used.1);
+    turns = turns_after c past w s both.explained h.now h.words o.unkept o.more both.turns h.event r.octets d r.happens
+        (used.0 ∷ w) used.1;
   },
 )
   where
@@ -481,6 +484,7 @@ start_fully_explained c config = record {
   asked = tt;
   given = tt;
   tries = tt;
+  turns = first_turns c;
 }
 
 run_fully_explained : (c : Config) (s s' : State) (steps : List Step) (past : List Step) (w : List (List ℕ))
@@ -522,6 +526,8 @@ run_serves_truly c steps s came =
       asks = one.explained.asked_well;
       given = one.given;
       tries = one.tries;
+      places = one.turns.places;
+      turns = one.turns.turns;
       waiting = one.asked;
       uses = one.mirrored.uses;
       used = one.recent.used;
