@@ -1,4 +1,5 @@
 pub mod History
+pub mod Questions
 pub mod Carried
 pub mod Replies
 pub mod Answers

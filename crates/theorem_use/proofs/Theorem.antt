@@ -37,7 +37,8 @@ use Rattle.theorem_sound.proofs.TheoremCache.CallerLemmas.{promotions_keep_cache
 use Rattle.step_table.proofs.CallerLemmas.{All-weaker}
 use Rattle.theorem_sound.specs.Explains.{Explains}
 use Rattle.theorem_sound.specs.Runs.{Run}
-use Rattle.theorem_sound.proofs.CallerLemmas.{row_explained, start_explained, IsHeard, heard, heard_carried, carries, offered}
+use Rattle.step_history.proofs.CacheLaws.CallerLemmas.{serves_exactly}
+use Rattle.theorem_sound.proofs.CallerLemmas.{served_so, row_explained, start_explained, IsHeard, heard, heard_carried, carries, offered}
 use Rattle.theorem_use.specs.Standing.{standing}
 use Rattle.theorem_use.specs.Use.{IsOneOf, HasFewSlots, FoundMemory, HasRoom, AsksToLookUp, LeadsToEnd, IsKnown, AnswersAtOnce}
 use Rattle.theorem_use.specs.Touched.{Touched, TouchedInEra}
@@ -219,9 +220,9 @@ module _ (c : Config) (past : List Step) (w : List (List ℕ)) (s : State) (x : 
       opcode = subst (λ (o : List ℕ). (header_in o).opcode ≡ 0) octets_are asks.opcode;
       question = q;
       reads = subst (λ (o : List ℕ). one_question o ≡ Some q) octets_are asks.reads;
-      served = asks.served;
+      served = served_so q asks.served;
       route = asks.route;
-      on_route = asks.on_route;
+      on_route = serves_exactly.each c q.name asks.route x.config.differ asks.on_route;
       end = leads.0;
       ends_so = ap (λ (v : LookUp). v.met) same ∙ leads.1;
     }

@@ -40,6 +40,7 @@ use Rattle.theorem_use.specs.Recent.{IsReadyEnd, IsReadyAlias, IsAnsweredByRecen
 use Rattle.theorem_use.specs.Service.{ServesTruly}
 use Rattle.theorem_use.specs.Touched.{Touched, TouchedInEra, LooksAlong, LooksOn}
 use Rattle.theorem_use.specs.Use.{AsksToLookUp, IsKnown, UsesWhatStands}
+use Rattle.theorem_use.proofs.TheoremSound.Served.{served_is}
 use Rattle.worked_claims.proofs.Texts.{client, step_of, only_closes}
 use Rattle.worked_claims.proofs.Silent.{nothing_heard, nothing_came}
 use Rattle.worked_claims.proofs.ReplyTo.{matches_ask}
@@ -232,7 +233,7 @@ answers = record {
 
 right : (waiting : ℕ) → RightReply seen client (question_for_b 9) waiting Answered client_text
 unfolding first_question question_at octets_end name_within walk_in name_step
-right waiting = record { opcode = refl; question = address b; reads = refl; served = refl; answers = answers }
+right waiting = record { opcode = refl; question = address b; reads = refl; served = served_is (address b) refl; answers = answers }
 
 owns : Owns config now (0 ∷ []) 2 (record { client = client; octets = client_text; why = Answered })
 owns = record {
