@@ -5,11 +5,11 @@ from .bind_statements import statements_of
 from .files import Line, Refused
 from .found import LocalZone
 from .names import (
-    LISTEN, LOCAL_ZONES, OF_SHARED, ipv4_of, keep, key_of, peer_of, port_of, suffix_of)
+    LISTEN, LOCAL_ZONES, OF_SHARED, ipv4_of, keep, key_of, peer_of, port_of, seconds_of, suffix_of)
 from .rows import Row
-from .tables import options
+from .tables import Options
 
-BIND = options("bind", "named")
+BIND = Options("bind", "named")
 NOT_FROM_ROOT = "names are not resolved from the root if no server answers"
 
 
@@ -76,7 +76,7 @@ class Bind:
         key, words = statement.words[0], statement.words[1:]
         if key == "forwarders":
             self.forwarding.append(statement)
-            self.forwarders(".", statement, statement.block)
+            self.forwarders(".", statement)
         elif key == "forward":
             self.forwarding.append(statement)
             self.forward(statement)
@@ -94,12 +94,8 @@ class Bind:
         elif key == "empty-zones-enable" and words == ["no"]:
             self.has_empty_zones = False
             self.found.pass_over(statement.line, "so it is here")
-        elif key in BIND.of_the_unit:
-            self.found.pass_over(statement.line, "the unit of systemd has its own")
-        elif BIND.same.get(key) == " ".join(words):
-            self.found.pass_over(statement.line, "so it is here")
         else:
-            raise BIND.left_out(key)
+            BIND.settle(self.found, key, " ".join(words), statement.line)
 
     def forward(self, statement):
         """Whether names are resolved from the root if no forwarder answers."""
@@ -117,11 +113,11 @@ class Bind:
                 self.found.leave(each.line, f"`forward first` is the default: {NOT_FROM_ROOT}",
                                  Row.ITERATING)
 
-    def forwarders(self, suffix, statement, block):
+    def forwarders(self, suffix, statement):
         """The servers of a suffix."""
         port_of_all = after(statement.words, "port")
         is_encrypted = after(statement.words, "tls")
-        for each in block:
+        for each in statement.block:
             address, port = each.words[0], after(each.words, "port") or port_of_all or "53"
             tls = is_encrypted or after(each.words, "tls")
             self.found.serve(suffix, lambda: peer_of(address, port, tls), each.line)
@@ -182,7 +178,7 @@ class Bind:
         for each in statement.block:
             with self.found.refusing(each.line):
                 if each.words[0] == "forwarders":
-                    self.forwarders(suffix, each, each.block)
+                    self.forwarders(suffix, each)
                 elif each.words[0] == "forward":
                     self.forward(each)
                 elif each.words[0] != "type":
@@ -264,12 +260,3 @@ def kind_of(zone):
 def after(words, key):
     """The word after a key, or an empty word."""
     return words[words.index(key) + 1] if key in words[:-1] else ""
-
-
-def seconds_of(text):
-    """A duration, as 3600, 1h or 1d12h."""
-    pieces = re.findall(r"([0-9]+)([smhdw]?)", text.lower())
-    if not pieces or "".join(map("".join, pieces)) != text.lower():
-        raise Refused(f"{text} is no duration that is known here: write it in seconds")
-    units = {"": 1, "s": 1, "m": 60, "h": 3600, "d": 86400, "w": 604800}
-    return sum(int(number[:9]) * units[unit] for number, unit in pieces)

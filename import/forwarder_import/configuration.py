@@ -6,7 +6,7 @@ from typing import NamedTuple
 
 from .files import Unreadable, shown
 from .found import LIMITS
-from .names import key_of, keys_above
+from .names import key_of, keys_above, nearest
 
 
 class Route(NamedTuple):
@@ -34,8 +34,8 @@ class Configuration:
 
     def above(self, route):
         """The route of the nearest shorter suffix; none if there is none."""
-        keys = keys_above(key_of(route.suffix))
-        return next((self.by_key[key] for key in keys if key in self.by_key), None)
+        above = next(keys_above(route.suffix), None)
+        return above and nearest(self.by_key, above)
 
 
 def peer_of(text):

@@ -7,9 +7,9 @@ from .found import LocalZone
 from .kept_dnsmasq import OF_RECORDS, STAYS, KeptDnsmasq
 from .names import LISTEN, LOCAL_ZONES, cut, ipv4_of, key_of, peer_of, reverse_zones, suffix_of
 from .rows import Row
-from .tables import options
+from .tables import Options
 
-DNSMASQ = options("dnsmasq", "dnsmasq")
+DNSMASQ = Options("dnsmasq", "dnsmasq")
 DHCP, RECORDS = (re.compile("|".join(each)) for each in (DNSMASQ.dhcp, DNSMASQ.records))
 WITHOUT_VALUE = {"no-resolv", "no-hosts", "bogus-priv", "use-stale-cache"}
 NULL = ("#", "0.0.0.0", "::")  # addresses of nobody
@@ -28,11 +28,21 @@ class Dnsmasq:
         self.options = {
             "server": self.server, "local": self.server, "address": self.address,
             "rev-server": self.rev_server, "domain": self.domain, "port": self.port,
-            "listen-address": self.listen_address, "cache-size": self.cache_size,
-            "dns-forward-max": self.forward_max, "use-stale-cache": self.stale,
-            "no-resolv": self.no_resolv, "no-hosts": self.no_hosts, "conf-dir": self.conf_dir,
-            "resolv-file": self.resolv_file, "bogus-priv": self.bogus_priv,
-            "conf-file": self.conf_file, "servers-file": self.conf_file}
+            "listen-address": self.listen_address, "no-resolv": self.no_resolv,
+            "no-hosts": self.no_hosts, "conf-dir": self.conf_dir, "conf-file": self.conf_file,
+            "servers-file": self.conf_file,
+            # A file in place of /etc/resolv.conf; further lines add files.
+            "resolv-file": lambda value, line: self.resolv_files.update(
+                {line: self.files.path(value, line)}),
+            "bogus-priv": lambda _, line: found.local.extend(
+                LocalZone(zone, line) for zone in LOCAL_ZONES),
+            "cache-size": lambda value, line: found.limit("cache", value, line),
+            "dns-forward-max": lambda value, line: found.limit(
+                "inquiries", value, line, "for all routes together"),
+            # Seconds after the end of a record; 0 is for ever.
+            "use-stale-cache": lambda value, line: found.limit(
+                "stale_s", "999999" if value == "0" else value or "86400", line,
+                "once all tries failed")}
 
     def read(self, path, by=None):
         """Takes the lines of a file, included by the line `by`."""
@@ -58,10 +68,8 @@ class Dnsmasq:
             self.kept.take(name, value, line)
         elif re.fullmatch(RECORDS, name):
             self.record(names_of_record(name, value), line, OF_RECORDS)
-        elif name in DNSMASQ.needless:
-            self.found.pass_over(line, DNSMASQ.needless[name])
         elif name:
-            raise DNSMASQ.left_out(name)
+            DNSMASQ.settle(self.found, name, value, line)
 
     def record(self, names, line, what):
         """A line of own records, for the kept dnsmasq, if any."""
@@ -203,17 +211,6 @@ class Dnsmasq:
                 "with port 0 dnsmasq serves no DNS, so none of its settings of DNS has an effect")
         self.found.set_port(value, line)
 
-    def cache_size(self, value, line):
-        self.found.limit("cache", value, line)
-
-    def forward_max(self, value, line):
-        self.found.limit("inquiries", value, line, "for all routes together")
-
-    def stale(self, value, line):
-        """Seconds after the end of a record; 0 is for ever."""
-        self.found.limit("stale_s", "999999" if value == "0" else value or "86400", line,
-                         "once all tries failed")
-
     def no_resolv(self, _, line):
         self.no_resolv_line = line
         self.found.pass_over(line, "servers are those of the configuration alone")
@@ -221,13 +218,6 @@ class Dnsmasq:
     def no_hosts(self, _, line):
         self.has_hosts = False
         self.found.pass_over(line, "hosts files are never read")
-
-    def resolv_file(self, value, line):
-        """A file in place of /etc/resolv.conf; further lines add files."""
-        self.resolv_files[line] = self.files.path(value, line)
-
-    def bogus_priv(self, _, line):
-        self.found.local += [LocalZone(zone, line) for zone in LOCAL_ZONES]
 
     def conf_file(self, value, line):
         """A further file of options."""

@@ -4,7 +4,7 @@ from dataclasses import dataclass, field
 from typing import NamedTuple
 
 from .files import Line, Refused
-from .names import key_of, keys_above, port_of, suffix_of
+from .names import key_of, port_of, suffix_of
 from .rows import Row
 
 
@@ -115,12 +115,6 @@ class Found:
     def record(self, names, line, refused):
         """Notes own records of names, and the advice on their line."""
         self.records.append((names, line, refused))
-
-    def nearest(self, name):
-        """The route at or above a name; none if there is none."""
-        key = key_of(name)
-        above = (self.routes.get(each) for each in (key, *keys_above(key)))
-        return next(filter(None, above), None)
 
     def pass_over(self, line, why):
         """Notes a line in no need of a counterpart, with the reason."""

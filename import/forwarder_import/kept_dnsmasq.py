@@ -7,7 +7,7 @@ import itertools
 
 from .files import Refused, shown
 from .found import Route, Value
-from .names import reverse_zones, suffix_of
+from .names import nearest, reverse_zones, suffix_of
 from .rows import Row
 
 ADDRESS, FIRST_PORT = "127.0.0.1", 5300
@@ -123,8 +123,8 @@ class KeptDnsmasq:
 
     def asked(self, zone):
         """The lines for the kept dnsmasq to ask the servers of a zone's route, or to deny."""
-        nearest = self.found.nearest(zone)
-        servers = nearest.servers if nearest else ()
+        route = nearest(self.found.routes, zone)
+        servers = route.servers if route else ()
         asked = [f"server=/{zone}/{text.replace(':', '#')}" for text in servers]
         return asked or [f"local=/{zone}/"]
 

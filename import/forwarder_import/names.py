@@ -22,6 +22,10 @@ LISTEN = "write this machine's in `listen`"
 OVER_TLS = "write a route to a program on this machine that asks it over TLS"
 ENCRYPTED = f"NOT IN PLAIN: queries to it are encrypted there, and would not be here: {OVER_TLS}"
 PORT_OF_TLS = 853  # RFC 7858, section 3.1
+UNITS = {unit: seconds  # by the words of a unit
+         for seconds, units in ((1, "s sec second seconds"), (60, "m min minute minutes"),
+                                (3600, "h hr hour hours"), (86400, "d day days"),
+                                (604800, "w week weeks")) for unit in units.split()}
 
 
 def keep(program):
@@ -100,6 +104,16 @@ def bad_character(character, label):
     return f"a suffix can't have the character '{character}'"
 
 
+def seconds_of(text):
+    """A time span, as 600, 1h, 10min or 1d 6h."""
+    pieces = re.findall(r"([0-9]+)\s*([a-z]*)\s*", text.lower())
+    if not pieces or "".join(map("".join, pieces)) != re.sub(r"\s", "", text.lower()):
+        raise Refused(f"{text or 'nothing'} is no time")
+    if any((unit or "s") not in UNITS for _, unit in pieces):
+        raise Refused(f"{text} has a unit that is not known here: write it in seconds")
+    return sum(int(number[:9]) * UNITS[unit or "s"] for number, unit in pieces)
+
+
 def key_of(suffix):
     """Equal for suffixes the program takes as equal."""
     return suffix.lower()
@@ -110,6 +124,12 @@ def keys_above(key):
     while key != ".":
         key = key.partition(".")[2] or "."
         yield key
+
+
+def nearest(by_key, name):
+    """The value of a name, or of the nearest name above; none if there is none."""
+    key = key_of(name)
+    return next((by_key[each] for each in (key, *keys_above(key)) if each in by_key), None)
 
 
 def reverse_zones(text):

@@ -1,30 +1,18 @@
 """Reads resolved.conf, with drop-ins: see resolved.conf(5)."""
 import glob
 import os
-import re
 
 from .files import Line, Refused
-from .names import ENCRYPTED, cut, ipv4_of, keep, peer_of, port_of
+from .names import ENCRYPTED, cut, ipv4_of, peer_of, port_of, seconds_of
 from .rows import Row
+from .tables import Options
 
+RESOLVED = Options("resolved", "systemd-resolved")
 # The last decides.
 FOLDERS = ("/usr/lib/systemd", "/usr/local/lib/systemd", "/run/systemd", "/etc/systemd")
-TRUE, FALSE = ("1", "yes", "y", "true", "t", "on"), ("0", "no", "n", "false", "f", "off")
-OF_CLIENTS = {"LLMNR", "MulticastDNS", "ResolveUnicastSingleLabel"}
+BOOLEANS = {**dict.fromkeys(("1", "yes", "y", "true", "t", "on"), "yes"),
+            **dict.fromkeys(("0", "no", "n", "false", "f", "off"), "no")}
 LISTS = {"DNS", "FallbackDNS", "Domains", "DNSStubListenerExtra"}
-# Settings with the value for the behaviour of this forwarder, and advice on further values.
-SAME = {"Cache": TRUE, "CacheFromLocalhost": TRUE, "DNSSEC": FALSE, "DNSOverTLS": FALSE,
-        "ReadEtcHosts": FALSE, "DNSStubListener": FALSE}
-LEFT_OUT = {
-    "Cache": ("denials are cached like record sets, and 1 is the least", Row.CACHE),
-    "CacheFromLocalhost": ("what comes from this machine is cached, too", Row.CACHE),
-    "DNSSEC": ("ask servers that validate", Row.DNSSEC),
-    "DNSOverTLS": ("queries are never encrypted: see the lines of the servers", None),
-    "ReadEtcHosts": ("write a route to a name server that has these names", Row.RECORDS)}
-UNITS = {unit: seconds  # by the words of a unit
-         for seconds, units in ((1, "s sec second seconds"), (60, "m min minute minutes"),
-                                (3600, "h hr hour hours"), (86400, "d day days"),
-                                (604800, "w week weeks")) for unit in units.split()}
 
 
 class Resolved:
@@ -80,7 +68,7 @@ class Resolved:
             before = self.single.get(key)
             if before:
                 self.found.pass_over(before[1], "a later line decides")
-            self.single[key] = value, line
+            self.single[key] = BOOLEANS.get(value.lower(), value.lower()), line
 
     def add(self, key, value, line):
         """Adds words to a list; a line without words clears the list."""
@@ -97,17 +85,14 @@ class Resolved:
         if self.lists["DNS"]:
             for line in dict.fromkeys(line for _, line in self.lists["FallbackDNS"]):
                 self.found.pass_over(line, "with `DNS=` it has no effect")
-        is_encrypted = self.single.get("DNSOverTLS", ("no", ))[0].lower() in TRUE
+        is_encrypted = self.single.get("DNSOverTLS", ("no", ))[0] == "yes"
         if not servers:
-            what = (
-                "without `DNS=` the servers are those of /etc/resolv.conf and of each link: write"
-                " them into a route")
-            self.found.leave(self.first, what, Row.PROVIDED)
+            what = "without `DNS=` the servers are those of /etc/resolv.conf and of each link"
+            self.found.leave(self.first, f"{what}: write them into a route", Row.PROVIDED)
         if "ReadEtcHosts" not in self.single:
-            what = (
-                "systemd-resolved answers from /etc/hosts, too: write a route to a name server that"
-                " has its names")
-            self.found.leave(self.first, what, Row.RECORDS)
+            what = "systemd-resolved answers from /etc/hosts, too"
+            to = "a name server that has its names"
+            self.found.leave(self.first, f"{what}: write a route to {to}", Row.RECORDS)
         suffixes = self.suffixes()
         for word, line in servers:
             self.server(word, line, suffixes, is_encrypted)
@@ -116,7 +101,7 @@ class Resolved:
         self.listen()
         for key, (value, line) in self.single.items():
             with self.found.refusing(line):
-                self.setting(key, value.lower(), line)
+                self.setting(key, value, line)
 
     def server(self, word, line, suffixes, is_encrypted):
         """A server for each suffix."""
@@ -171,20 +156,10 @@ class Resolved:
         """A setting with a single value."""
         if key == "StaleRetentionSec":
             self.found.limit("stale_s", str(seconds_of(value)), line, "once all tries failed")
-        elif key in OF_CLIENTS:
-            self.found.pass_over(line, "it is of this machine as a client: it stays there")
-        elif value in SAME.get(key, ()):
-            self.found.pass_over(line, "so it is here")
-        elif key == "DNSStubListener" and value not in FALSE:
-            self.found.pass_over(line,
-                                 "its stub has 127.0.0.53, so `listen` may have another address")
         elif (key, value) == ("DNSOverTLS", "opportunistic"):
             raise Refused("queries are sent in plain, also to servers that take encrypted ones")
-        elif key in LEFT_OUT:
-            raise Refused(*LEFT_OUT[key])
         else:
-            raise Refused(
-                f"it is no setting of resolved.conf that is known here: {keep('systemd-resolved')}")
+            RESOLVED.settle(self.found, key, value, line)
 
 
 def joined(lines):
@@ -214,13 +189,3 @@ def parts_of(word):
     else:
         address, port = cut(rest, ":")
     return address, port, link, name
-
-
-def seconds_of(text):
-    """A time span, as 600, 10min or 1d 6h."""
-    pieces = re.findall(r"([0-9]+)\s*([a-z]*)\s*", text)
-    if not pieces or "".join(map("".join, pieces)) != re.sub(r"\s", "", text):
-        raise Refused(f"{text or 'nothing'} is no time")
-    if any((unit or "s") not in UNITS for _, unit in pieces):
-        raise Refused(f"{text} has a unit that is not known here: write it in seconds")
-    return sum(int(number[:9]) * UNITS[unit or "s"] for number, unit in pieces)

@@ -4,7 +4,7 @@ import ipaddress
 
 from .files import Refused
 from .found import Many, Route, Value
-from .names import key_of, keys_above, reverse_zones
+from .names import key_of, keys_above, nearest, reverse_zones
 from .rows import Row
 
 MOST_ROUTES, MOST_SERVERS = 64, 8
@@ -124,22 +124,19 @@ def one_of_two(route, found):
 
 
 def ordered(found):
-    """The routes: for all names first, of a line with many routes last. Routes past the limit are
-    left, denials first."""
-    lines = {route.suffix: route.lines() for route in found.routes.values()}
-    counts = collections.Counter(line for each in lines.values() for line in each)
-
-    def is_of_many(route):
-        return min((counts[line] for line in lines[route.suffix]), default=0) > MANY_ROUTES
+    """The routes: for all names first, of a line with many routes last. Past the limit denials are
+    left first, then routes of lost servers."""
+    counts = collections.Counter(line for each in found.routes.values() for line in each.lines())
 
     def place(route):
-        return route.suffix != ".", is_of_many(route)
+        return route.suffix != ".", min(map(counts.get, route.lines()), default=0) > MANY_ROUTES
 
     def importance(route):
-        return route.suffix != ".", rank(route), is_of_many(route)
+        rank = 0 if route.servers else 1 if route.lost else 2
+        return route.suffix != ".", rank, place(route)
 
     ranked = sorted(found.routes.values(), key=importance)
-    leave_past({route.suffix: lines[route.suffix] for route in ranked[MOST_ROUTES:]}, counts, found)
+    leave_past(ranked[MOST_ROUTES:], counts, found)
     kept = {route.suffix for route in ranked[:MOST_ROUTES]}
     routes = sorted((route for route in found.routes.values() if route.suffix in kept), key=place)
     if not routes:
@@ -183,32 +180,24 @@ def records(routes, found):
     by_key = {key_of(route.suffix): route for route in routes}
     peer = found.kept_dnsmasq.peer if found.kept else ""
     for names, line, refused in found.records:
-        nearest = {}
-        for name in names:
-            above = (by_key.get(each) for each in (key_of(name), *keys_above(key_of(name))))
-            nearest[name] = next(filter(None, above), None)
-        if found.kept and all(route and peer in route.servers for route in nearest.values()):
+        carried = {name: nearest(by_key, name) for name in names}
+        if found.kept and all(route and peer in route.servers for route in carried.values()):
             found.pass_over(line, "the dnsmasq that is kept for DHCP has it")
             continue
         what = f"write a route to {peer}: the kept dnsmasq has it" if found.kept else refused.what
-        denied = [name for name, route in nearest.items() if route and not route.servers]
+        denied = [name for name, route in carried.items() if route and not route.servers]
         if denied:
             what += f"; until then {', '.join(denied)} {'is' if len(denied) == 1 else 'are'} denied"
         found.leave(line, what, refused.row)
 
 
-def rank(route):
-    """Routes with servers count first, then routes of lost servers, then denials."""
-    return 0 if route.servers else 1 if route.lost else 2
-
-
-def leave_past(suffixes, counts, found):
-    """Leaves the lines of suffixes past the limit, by name if a line also has routes."""
-    past = collections.Counter(line for lines in suffixes.values() for line in lines)
-    for suffix, lines in suffixes.items():
-        for line in lines:
+def leave_past(routes, counts, found):
+    """Leaves the lines of routes past the limit, by name if a line also has kept routes."""
+    past = collections.Counter(line for route in routes for line in route.lines())
+    for route in routes:
+        for line in route.lines():
             all_alike = "the suffix" if counts[line] == 1 else "each suffix"
-            which = all_alike if past[line] == counts[line] else suffix
+            which = all_alike if past[line] == counts[line] else route.suffix
             what = (f"{which} is past the {MOST_ROUTES} routes of a configuration: join some at a"
                     " shorter suffix")
             found.leave(line, what)

@@ -7,10 +7,10 @@ from .files import Line, Refused
 from .names import (
     LOCAL_ZONES, OF_SHARED, cut, ipv4_of, keep, key_of, peer_of, port_of, suffix_of)
 from .rows import Row
-from .tables import options
+from .tables import Options
 from .unbound_local import WITH_LAN, Local, LocalZones
 
-UNBOUND = options("unbound", "unbound")
+UNBOUND = Options("unbound", "unbound")
 TOKEN = re.compile(
     r"""\s*(?:"(?P<double>[^"]*)"|'(?P<single>[^']*)'|(?P<open>["'])|(?!\#)(?P<word>[^\s"']+))""")
 KEY = re.compile(r"([a-z][a-z0-9-]*):(.*)", re.S)
@@ -137,14 +137,8 @@ class Unbound:
             self.stale[key] = statement
         elif key in ("local-data", "local-data-ptr"):
             self.found.record(names_of_data(statement), line, UNBOUND.left_out(key))
-        elif key == "unblock-lan-zones":
-            self.found.pass_over(line, "the routes of private addresses say it")
-        elif key in UNBOUND.of_the_unit:
-            self.found.pass_over(line, "the unit of systemd has its own")
-        elif UNBOUND.same.get(key) == " ".join(statement.values).lower():
-            self.found.pass_over(line, "so it is here")
         else:
-            raise UNBOUND.left_out(key)
+            UNBOUND.settle(self.found, key, " ".join(statement.values).lower(), line)
 
     def of_view(self, statement):
         """A local zone of a view. Nobody is asked for its names until the view has a service."""

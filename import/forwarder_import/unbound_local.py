@@ -3,7 +3,7 @@ from dataclasses import dataclass
 
 from .files import Line, Refused
 from .found import LocalZone, Value
-from .names import LOCAL_ZONES, keys_above
+from .names import LOCAL_ZONES, keys_above, nearest
 from .rows import Row
 
 BY_ITSELF = "unbound denies it by itself"
@@ -51,17 +51,13 @@ class LocalZones:
             if local.asks:
                 self.ask(key, local)
         for key in sorted(self.zones):
-            local = self.all.get(key) or self.nearest(key)
+            local = nearest(self.all, key)
             if local and not local.asks and not local.is_default:
                 self.found.deny(key, local.line)
                 because = (
                     f", since unbound's local zone {local.suffix} at {place(local.line)} decides"
                     " first")
                 self.found.routes[key].because = because
-
-    def nearest(self, key):
-        """The nearest local zone above a name; none if there is none."""
-        return next((self.all[above] for above in keys_above(key) if above in self.all), None)
 
     def ask(self, key, local):
         """Has the names of a zone asked. Below a denying zone, they need a route with servers."""

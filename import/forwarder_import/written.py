@@ -56,8 +56,7 @@ class Writer:
         lines += self.kept()
         text = "\n".join(lines) + "\n"
         self.advice = advised(configuration_of(text, "the text"), Unit())
-        comments = [*self.left(), *self.needless(), *self.advised()]
-        return text + "".join(within(LARGEST - len(text.encode()), comments))
+        return text + "".join(within(LARGEST - len(text.encode()), list(self.comments())))
 
     def route(self, route):
         """The lines of a route."""
@@ -98,25 +97,17 @@ class Writer:
         yield "#     sed -n 's/^#: //p' forwarder.toml"
         yield from (f"#: {line}" for line in self.found.kept)
 
-    def left(self):
-        """The left lines, with advice."""
-        if not self.found.left:
-            return
-        yield from ("", "# Left out, with what to do. Rows are those of the table")
-        yield f"# '{TABLE}' in /usr/share/doc/pavelimoan/docs/ADMIN.md."
-        yield from self.grouped(self.found.left)
-
-    def needless(self):
-        """The lines in no need of a counterpart."""
-        if self.found.needless:
-            yield from ("", "# Needs no line here.")
-            yield from self.grouped(self.found.needless)
-
-    def advised(self):
-        """The lines of forwarder-advise."""
-        if self.advice:
-            yield from ("", "# What forwarder-advise says of this text.")
-            yield from (f"#     {line}" for line in self.advice)
+    def comments(self):
+        """The left lines with advice, the needless lines, and the lines of forwarder-advise."""
+        table = f"'{TABLE}' in /usr/share/doc/pavelimoan/docs/ADMIN.md."
+        for head, lines in (
+                (("# Left out, with what to do. Rows are those of the table", f"# {table}"),
+                 self.grouped(self.found.left)),
+                (("# Needs no line here.",), self.grouped(self.found.needless)),
+                (("# What forwarder-advise says of this text.",),
+                 (f"#     {line}" for line in self.advice))):
+            for number, line in enumerate(lines):
+                yield from (line,) if number else ("", *head, line)
 
     def grouped(self, lefts):
         """Lines with advice, written once for neighbouring lines."""

@@ -8,7 +8,7 @@ import subprocess
 import tempfile
 
 from running import programs
-from running.waiting import until
+from running.trying import until
 
 NEEDED = ("ip", "sed", "dnsmasq", "udhcpc", "dig")
 SCRIPT = """#!/bin/sh

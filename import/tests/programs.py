@@ -3,30 +3,25 @@ import re
 import subprocess
 
 from running import programs
-from running.foreign import NAMED, UNBOUND
-from running.trying import NotHere
-from running.waiting import until
+from running.foreign import text
+from running.trying import NotHere, until
 
-CONTROLLED = UNBOUND + """remote-control:
-  control-enable: yes
-  control-interface: "{folder}/control"
-"""
 PORT = 23053
 
 
-def started(folder, name, text, *words):
+def started(folder, name, files, *words):
     """A program with this configuration."""
     if programs.missing(name):
         raise NotHere(f"{name} missing")
     values = {"folder": folder, "address": "127.0.0.1", "port": PORT, "more": ""}
-    (folder / "conf").write_text(text.format(**values))
+    (folder / "conf").write_text(text(*files).format(**values))
     words = [programs.path(name), *words, "-c", folder / "conf"]
     return programs.Program(words, log=folder / "log")
 
 
 def of_unbound(folder):
     """The local zones of an unbound."""
-    with started(folder, "unbound", CONTROLLED, "-d") as process:
+    with started(folder, "unbound", ["unbound", "unbound_controlled"], "-d") as process:
         control = ["unbound-control", "-s", f"{folder}/control", "-c", f"{folder}/conf"]
 
         def listed():
@@ -39,8 +34,8 @@ def of_unbound(folder):
 
 def of_named(folder):
     """The empty zones of a named, from the log of its start."""
-    with started(folder, "named", NAMED, "-g"):
+    with started(folder, "named", ["named"], "-g"):
         until(lambda: " running\n" in (folder / "log").read_text(), 20, "named does not run")
-        text = (folder / "log").read_text()
+        log = (folder / "log").read_text()
     return [zone.lower()
-            for zone in re.findall(r"automatic empty zone: (?:view \S+: )?(\S+)", text)]
+            for zone in re.findall(r"automatic empty zone: (?:view \S+: )?(\S+)", log)]

@@ -6,7 +6,8 @@ import shutil
 import subprocess
 
 from repository.packing import query
-from running import foreign, programs
+from running import programs
+from running.foreign import text
 from running.forwarder import configuration
 from running.programs import WHOLE_LIFE, on, output
 
@@ -15,37 +16,6 @@ NAMES = 10_000
 # The processors of the server that all ask, of the measured program, and of the asking programs.
 ASKED_ON, MEASURED_ON, ASKS_ON = "1", "2", "0,3"
 QUESTION = query("ready.example")
-
-UNBOUND = foreign.UNBOUND + """  num-threads: 1
-  do-not-query-localhost: no
-  outgoing-range: 4096
-  num-queries-per-thread: 2048
-  msg-cache-size: 8m
-  rrset-cache-size: 8m
-remote-control:
-  control-enable: no
-forward-zone:
-  name: "."
-  forward-addr: {address}@{server}
-"""
-
-KRESD = """net.listen('{address}', {port}, {{ kind = 'dns' }})
-for _, each in ipairs({{'ta_update', 'ta_signal_query', 'priming', 'detect_time_skew',
-    'detect_time_jump'}}) do
-  modules.unload(each)
-end
-trust_anchors.remove('.')
-cache.open(100 * MB, 'lmdb://{folder}/cache')
-policy.add(policy.all(policy.STUB('{address}@{server}')))
-"""
-
-DNSDIST = """setLocal("{address}:{port}")
-setACL("127.0.0.0/8")
-setSecurityPollSuffix("")
-newServer{{address="{address}:{server}"}}
-getServer(0):setUp()
-getPool(""):setCache(newPacketCache({room}))
-"""
 
 
 class Peer:
@@ -107,13 +77,13 @@ class Bare:
 
 
 PEERS = [
-    Peer("unbound", "-d -c {folder}/conf", UNBOUND),
+    Peer("unbound", "-d -c {folder}/conf", text("unbound", "unbound_forwarding")),
     Peer("dnsmasq", "-k --conf-file=/dev/null --no-resolv --no-hosts --pid-file= --user=root "
          f"--group= --bind-interfaces --listen-address=127.0.0.1 --port={SERVED} "
          f"--server=127.0.0.1#{SERVER} --cache-size={NAMES} --dns-forward-max=4096"),
-    Peer("kresd", "-n -c {folder}/conf {folder}", KRESD,
+    Peer("kresd", "-n -c {folder}/conf {folder}", text("kresd"),
          title="Knot Resolver", package="knot-resolver"),
-    Peer("dnsdist", "--supervised --disable-syslog -C {folder}/conf", DNSDIST),
+    Peer("dnsdist", "--supervised --disable-syslog -C {folder}/conf", text("dnsdist")),
     Peer("pdns_recursor", "--config-dir={folder} --socket-dir={folder} --setuid= --setgid= "
          "--daemon=no --loglevel=3 --disable-syslog=yes --security-poll-suffix= --dont-query= "
          f"--dnssec=off --local-address=127.0.0.1 --local-port={SERVED} "

@@ -39,7 +39,7 @@ def cell(found, what):
         return f"{number(found['us'])} ({found['ratio']:.2f})"
     if what == "split":
         return f"{number(found['user'])}, {number(found['system'])}"
-    return f"{found[what]:.0f}" if what in ("asked", "p50", "p99") else f"{found[what]:.1f}"
+    return f"{found[what]:.{0 if what in ('asked', 'p50', 'p99') else 1}f}"
 
 
 def table(run):
@@ -74,11 +74,6 @@ def machine():
             "load": round(os.getloadavg()[0], 2), "busy": round(processors_busy())}
 
 
-def is_idle(found):
-    """Whether the processors had nothing to do. The load, of the minute before, says less."""
-    return found["busy"] < 5
-
-
 def a_second(run, name):
     """The answers of the forwarder in a second of a processor, in two digits."""
     rate = 1e6 / run["figures"][name]["forwarder"]["us"]
@@ -87,16 +82,17 @@ def a_second(run, name):
 
 def serves(run):
     """A sentence on what one processor serves, if the forwarder was measured."""
-    if any("forwarder" not in run["figures"].get(name, {}) for name in ("cached", "miss")):
-        return ""
-    cached, new = a_second(run, "cached"), a_second(run, "miss")
-    return (f"At these figures one processor serves {cached} cached answers or {new} new names in "
-            "a second.")
+    if all("forwarder" in run["figures"].get(name, {}) for name in ("cached", "miss")):
+        cached, new = a_second(run, "cached"), a_second(run, "miss")
+        yield (f"At these figures one processor serves {cached} cached answers or {new} new names "
+               "in a second.")
+        yield ""
 
 
 def about(run):
     """Sentences on the machine, how busy it was, the versions and how often was measured."""
-    on, idle = run["machine"], is_idle(run["machine"])
+    # The load, of the minute before, says less.
+    on, idle = run["machine"], run["machine"]["busy"] < 5
     busy = "The machine was idle before" if idle else "The machine was NOT idle"
     waits = [each["waited"] for figures in run["figures"].values() for each in figures.values()]
     versions = [f"{each['title']} {each['version']}"
@@ -114,13 +110,18 @@ def about(run):
 
 def whole(run):
     """The lines of the table, and of the text below."""
-    return [*table(run), "", *([serves(run), ""] if serves(run) else []), *about(run)]
+    return [*table(run), "", *serves(run), *about(run)]
+
+
+def between(begin, end, text, lines):
+    """The text of a document, with these lines between its two comments."""
+    before, found, rest = text.partition(begin + "\n")
+    _, ended, after = rest.partition(end)
+    if not found or not ended:
+        raise ValueError(f"{begin} or {end} is missing")
+    return before + found + "\n".join(["", *lines, ""]) + "\n" + end + after
 
 
 def with_table(text, run):
-    """The text of a document, with the table of this run between its two comments."""
-    before, begin, rest = text.partition(BEGIN + "\n")
-    _, end, after = rest.partition(END)
-    if not begin or not end:
-        raise ValueError(f"{BEGIN} or {END} is missing")
-    return before + begin + "\n".join(["", *whole(run), ""]) + "\n" + end + after
+    """The text of docs/COSTS.md, with the table of this run."""
+    return between(BEGIN, END, text, whole(run))

@@ -2,23 +2,8 @@
 from others import zone
 from repository.packing import query
 from running import programs
-from running.foreign import NAMED, UNBOUND
+from running.foreign import text
 from running.programs import Program, answers
-
-NSD = """server:
-  ip-address: {address}@{port}
-  zonesdir: "{folder}"
-  zonelistfile: "{folder}/zones"
-  xfrdfile: "{folder}/xfrd"
-  pidfile: ""
-  database: ""
-  username: ""
-  chroot: ""
-  do-ip6: no
-  server-count: 1
-remote-control:
-  control-enable: no
-"""
 
 
 class Server:
@@ -41,9 +26,6 @@ class Server:
     @classmethod
     def is_installed(cls):
         return not programs.missing(cls.command)
-
-    def words(self):
-        raise NotImplementedError
 
     def zone(self, name):
         """The lines of the configuration for a zone."""
@@ -71,7 +53,7 @@ class Server:
 
 
 class Named(Server):
-    command, head = "named", NAMED
+    command, head = "named", text("named")
     more = "recursion no; minimal-responses no; notify no;"
 
     def words(self):
@@ -82,7 +64,7 @@ class Named(Server):
 
 
 class Nsd(Server):
-    command, head = "nsd", NSD
+    command, head = "nsd", text("nsd")
 
     def words(self):
         return ["-d", "-c", self.configured()]
@@ -92,7 +74,7 @@ class Nsd(Server):
 
 
 class Unbound(Server):
-    command, head = "unbound", UNBOUND + "".join(
+    command, head = "unbound", text("unbound") + "".join(
         f'  local-zone: "{each}." static\n' for each in zone.ZONES)
 
     def words(self):

@@ -1,38 +1,32 @@
 """Scripts at the limits of a configuration and of messages, made without chance."""
 import struct
 
-A, NS, CNAME, SOA, TXT, OPAQUE = 1, 2, 5, 6, 16, 65_280
+from repository import packing
+from repository.packing import A, CNAME, IN, NS, OF_QUESTION, SOA, name, question
+
+OPAQUE = 65_280
 SERVER = "192.0.2.1:53"
-LONG = (b"a" * 63,) * 3 + (b"b" * 61,)  # 255 octets with the last one
+LONG = ".".join([*["a" * 63] * 3, "b" * 61])  # 255 octets with the last one
+ALL = []
 
 
-def written(name):
-    """A name without pointers."""
-    return b"".join(bytes([len(label)]) + label for label in name) + b"\0"
+def script(function):
+    ALL.append(function)
+    return function
 
 
-def message(number, flags, question, answers=(), authority=()):
-    """A message with one question: a name, type and class."""
-    name, kind, class_ = question
-    counts = 1, len(answers), len(authority), 0
-    return (
-        struct.pack("!6H", number, flags, *counts)
-        + written(name)
-        + struct.pack("!2H", kind, class_)
-        + b"".join((*answers, *authority))
-    )
+def record(kind, data, owner=OF_QUESTION, class_=IN):
+    """A record for a day, of the question's name unless another owner is given."""
+    return packing.record(owner, kind, 86_400, data, class_)
 
 
-def record(kind, data, owner=b"\xc0\x0c", class_=1, ttl=86_400):
-    """A record, of the question's name if nothing else is said."""
-    return owner + struct.pack("!2HIH", kind, class_, ttl, len(data)) + data
+ADDRESS = record(A, bytes(4))
 
 
 def route(suffix=".", servers=(SERVER,)):
     """A route in TOML."""
-    return f'[[route]]\nsuffix = "{suffix}"\nservers = [{", ".join(map(repr, servers))}]\n'.replace(
-        "'", '"'
-    )
+    listed = ", ".join(f'"{each}"' for each in servers)
+    return f'[[route]]\nsuffix = "{suffix}"\nservers = [{listed}]\n'
 
 
 class Script:
@@ -49,24 +43,26 @@ class Script:
         self.lines.append(f"{self.now} {event}\n")
         return len(self.lines)
 
-    def ask(self, name, kind=A, class_=1, client="udp 10.0.0.7:40000", flags=0x0100):
+    def ask(self, text, kind=A, class_=IN, client="udp 10.0.0.7:40000", flags=0x0100):
         """A client's question."""
-        return self.add(f"client {client} {message(7, flags, (name, kind, class_)).hex()}")
+        octets = packing.message(7, flags, question(name(text), kind, class_))
+        return self.add(f"client {client} {octets.hex()}")
 
-    def reply(self, asked, name, *records, kind=A, class_=1, flags=0x8500, authority=()):
+    def reply(self, asked, text, *records, kind=A, class_=IN, flags=0x8500, authority=()):
         """The reply to the query of an event."""
-        octets = message(8 * asked % 65_536, flags, (name, kind, class_), records, authority)
+        of = question(name(text), kind, class_)
+        octets = packing.message(8 * asked % 65_536, flags, of, records, authority)
         return self.add(f"reply udp {port_of(asked)} {SERVER} {octets.hex()}")
 
-    def learn(self, name, *records, **more):
+    def learn(self, text, *records, **more):
         """A question that is not in the cache, and its reply."""
-        asked = self.ask(name)
-        told = self.reply(asked, name, *records, **more)
+        asked = self.ask(text)
+        told = self.reply(asked, text, *records, **more)
         self.kinds += [(asked, "ask-udp"), (told, "close-udp"), (told, "reply")]
 
-    def find(self, name, kind):
+    def find(self, text, kind):
         """A question that is answered from the cache."""
-        self.kinds.append((self.ask(name, kind), "reply"))
+        self.kinds.append((self.ask(text, kind), "reply"))
 
     def octets(self):
         return (self.text + "".join(self.lines)).encode()
@@ -77,170 +73,151 @@ def port_of(asked):
     return 1024 + 8 * asked % 64_512
 
 
-def name_of(number):
-    return b"n%d" % number, b"example"
+def name_of(number, spelling=0):
+    """A name, with the letters of its last label in one of 128 spellings."""
+    last = (chr(ord(each) ^ (spelling >> at & 1) << 5) for at, each in enumerate("example"))
+    return f"n{number}.{''.join(last)}"
 
 
-def spelled(name, number):
-    """The name with the letters of its last label in one of 128 spellings."""
-    *first, last = name
-    return *first, bytes(
-        octet ^ 0x20 if number >> at & 1 else octet for at, octet in enumerate(last)
-    )
-
-
+@script
 def full_lists():
     """4,096 questions wait for 1,024 queries, each in four spellings. One more fails; all others
     get their answers."""
-    script = Script(questions=4096, inquiries=1024)
-    asked = [script.ask(name_of(number)) for number in range(1024)]
+    made = Script(questions=4096, inquiries=1024)
+    asked = [made.ask(name_of(number)) for number in range(1024)]
     for spelling in (1, 2, 3):
         for number in range(1024):
-            script.ask(
-                spelled(name_of(number), spelling), client=f"udp 10.0.{spelling}.1:{1024 + number}"
-            )
-    script.ask(name_of(0))
+            made.ask(name_of(number, spelling), client=f"udp 10.0.{spelling}.1:{1024 + number}")
+    made.ask(name_of(0))
     for number, event in enumerate(asked):
-        script.reply(event, name_of(number), record(A, bytes(4)))
-    return script
+        made.reply(event, name_of(number), ADDRESS)
+    return made
 
 
+@script
 def full_queries():
     """With 1,024 queries open a further name fails, an equal question joins, and a place that gets
     free is used; then all queries fail in time."""
-    script = Script(questions=4096, inquiries=1024)
-    asked = [script.ask(name_of(number)) for number in range(1024)]
-    script.ask(name_of(1024))
-    script.ask(name_of(1023))
-    script.reply(asked[500], name_of(500), record(A, bytes(4)))
-    script.ask(name_of(1024))
-    script.now += 1500
+    made = Script(questions=4096, inquiries=1024)
+    asked = [made.ask(name_of(number)) for number in range(1024)]
+    made.ask(name_of(1024))
+    made.ask(name_of(1023))
+    made.reply(asked[500], name_of(500), ADDRESS)
+    made.ask(name_of(1024))
+    made.now += 1500
     for _ in range(1025):
-        script.add("tick")
-    return script
+        made.add("tick")
+    return made
 
 
+@script
 def led_on_together():
     """501 questions in many spellings are led on by one reply, and answered by the next."""
-    script = Script(questions=501)
-    asked = [
-        script.ask(spelled(name_of(1), number), client=f"udp 10.0.0.7:{1024 + number}")
-        for number in range(501)
-    ]
-    target = written(name_of(2))
-    led_on = script.reply(asked[0], name_of(1), record(CNAME, target))
-    script.reply(led_on, name_of(2), record(A, bytes(4)))
-    return script
+    made = Script(questions=501)
+    asked = [made.ask(name_of(1, number), client=f"udp 10.0.0.7:{1024 + number}")
+             for number in range(501)]
+    led_on = made.reply(asked[0], name_of(1), record(CNAME, name(name_of(2))))
+    made.reply(led_on, name_of(2), ADDRESS)
+    return made
 
 
+@script
 def large_replies():
     """4,095 records in a set, over TCP and cut over UDP; 65,000 octets in a record, and none."""
-    script = Script()
+    made = Script()
     addresses = [record(A, struct.pack("!I", number), owner=b"\0") for number in range(4095)]
-    asked = script.ask((), client="tcp 7")
-    script.ask((), client="udp 10.0.0.7:1024")
-    script.reply(asked, (), *addresses)
-    script.ask((), client="tcp 8")
+    asked = made.ask("", client="tcp 7")
+    made.ask("", client="udp 10.0.0.7:1024")
+    made.reply(asked, "", *addresses)
+    made.ask("", client="tcp 8")
     for kind, data in ((OPAQUE, bytes(65_000)), (OPAQUE + 1, b"")):
-        asked = script.ask(name_of(1), kind, client="tcp 9")
-        script.reply(asked, name_of(1), record(kind, data), kind=kind)
-        script.ask(name_of(1), kind, client="udp 10.0.0.7:1024")
-    return script
+        asked = made.ask(name_of(1), kind, client="tcp 9")
+        made.reply(asked, name_of(1), record(kind, data), kind=kind)
+        made.ask(name_of(1), kind, client="udp 10.0.0.7:1024")
+    return made
 
 
+@script
 def all_routes():
     """64 routes of eight servers: sixteen tries for each, round its servers."""
     servers = [[f"192.0.{number}.{last}:53" for last in range(1, 9)] for number in range(64)]
     routes = [route(f"r{number}.example", each) for number, each in enumerate(servers)]
-    script = Script(routes, tries=16)
+    made = Script(routes, tries=16)
     for number in range(64):
-        asked = script.ask((b"www", b"r%d" % number, b"example"))
+        asked = made.ask(f"www.r{number}.example")
         for _ in range(16):
-            asked = script.add(f"failed udp {port_of(asked)}")
-    return script
+            asked = made.add(f"failed udp {port_of(asked)}")
+    return made
 
 
+@script
 def long_names():
     """Names of 255 octets: a question, a suffix, the target of an alias, an SOA's names."""
-    suffix = ".".join(label.decode() for label in LONG)
-    script = Script((route(), route(suffix)))
-    asked = script.ask(LONG)
-    script.reply(asked, LONG, record(A, bytes(4)))
-    script.ask(LONG)
-    asked = script.ask(name_of(1))
-    target = tuple(label.swapcase() for label in LONG)
-    script.reply(asked, name_of(1), record(CNAME, written(target)))
-    soa = written(LONG) + written(target) + struct.pack("!5I", 1, 2, 3, 4, 600)
-    asked = script.ask(name_of(2))
-    script.reply(asked, name_of(2), flags=0x8503, authority=(record(SOA, soa),))
-    script.ask((b"below", *name_of(2)))
-    many = (b"l",) * 127
-    asked = script.ask(many)
-    script.reply(asked, many, record(A, bytes(4)))
-    script.ask(many)
-    return script
+    made, target = Script((route(), route(LONG))), name(LONG.swapcase())
+    asked = made.ask(LONG)
+    made.reply(asked, LONG, ADDRESS)
+    made.ask(LONG)
+    asked = made.ask(name_of(1))
+    made.reply(asked, name_of(1), record(CNAME, target))
+    soa = name(LONG) + target + struct.pack("!5I", 1, 2, 3, 4, 600)
+    asked = made.ask(name_of(2))
+    made.reply(asked, name_of(2), flags=0x8503, authority=(record(SOA, soa),))
+    made.ask(f"below.{name_of(2)}")
+    many = "l." * 127
+    asked = made.ask(many)
+    made.reply(asked, many, ADDRESS)
+    made.ask(many)
+    return made
 
 
+@script
 def kinds_and_classes():
     """The least and the greatest classes and types; each opcode."""
-    script = Script()
+    made = Script()
     for class_ in (0, 2, 254, 256, 65_535):
         for kind in (1, 127, 256, 65_535):
-            asked = script.ask(name_of(1), kind, class_)
-            script.reply(
-                asked, name_of(1), record(kind, b"abcd", class_=class_), kind=kind, class_=class_
-            )
-            script.ask(name_of(1), kind, class_, client="tcp 18446744073709551615")
+            of = {"kind": kind, "class_": class_}
+            asked = made.ask(name_of(1), **of)
+            made.reply(asked, name_of(1), record(kind, b"abcd", class_=class_), **of)
+            made.ask(name_of(1), **of, client="tcp 18446744073709551615")
     for opcode in range(16):
-        script.ask(name_of(1), flags=opcode << 11)
-    return script
+        made.ask(name_of(1), flags=opcode << 11)
+    return made
 
 
+@script
 def late_moments():
     """Moments from 2^61 ms, past the last one that counts."""
-    script = Script()
+    made = Script()
     for moment in (2**61, 2**62 - 1500, 2**62 - 1, 2**62, 2**62 + 1, 2**64 - 1):
-        script.now = moment
-        asked = script.ask(name_of(moment % 97))
-        script.reply(asked, name_of(moment % 97), record(A, bytes(4)))
-        script.ask(name_of(moment % 97))
-        script.ask(name_of(98))
-        script.add("tick")
-    return script
+        made.now = moment
+        asked = made.ask(name_of(moment % 97))
+        made.reply(asked, name_of(moment % 97), ADDRESS)
+        made.ask(name_of(moment % 97))
+        made.ask(name_of(98))
+        made.add("tick")
+    return made
 
 
+@script
 def full_cache():
     """65,536 entries, of replies with 128 sets each: all are there until one more comes, and then
     all but the one that was used last. The reading would take minutes, so kinds are compared."""
-    script, kept, names = Script(cache=65_536), 0, []
+    made, kept, names = Script(cache=65_536), 0, []
     while kept < 65_536:
         # A name of 127 labels, whose suffixes are new but for the last label and the root.
         top, second = divmod(len(names), 120)
-        names.append(((b"l",) * 125 + (bytes([128 + second]), bytes([128 + top]))))
+        names.append("l." * 125 + f"{chr(128 + second)}.{chr(128 + top)}")
         new = min(126 + (second == 0) + (len(names) == 1), 65_536 - kept)
         owners = [struct.pack("!H", 0xC000 | 12 + 2 * at) for at in range(1, 127)] + [b"\0"]
         sets = [record(NS, b"\0", owner=owner) for owner in owners]
-        script.learn(
-            names[-1], record(A, bytes(4)), authority=sets[: new - 1 if new < 126 else None]
-        )
+        made.learn(names[-1], ADDRESS, authority=sets[:new - 1 if new < 126 else None])
         kept += new
     for at in (0, *range(1, 126, 5)):
-        script.find(names[0][at:], A if at == 0 else NS)
-    script.learn(name_of(1), record(A, bytes(4)))
-    for at in (1, 3, 4, 5, 127):
-        script.find(names[0][at:], NS)
-    script.kinds.append((script.ask(names[0][2:], NS), "ask-udp"))
-    return script
-
-
-ALL = (
-    full_lists,
-    full_queries,
-    led_on_together,
-    large_replies,
-    all_routes,
-    long_names,
-    kinds_and_classes,
-    late_moments,
-    full_cache,
-)
+        made.find(names[0][2 * at:], A if at == 0 else NS)
+    made.learn(name_of(1), ADDRESS)
+    for at in (1, 3, 4, 5):
+        made.find(names[0][2 * at:], NS)
+    made.find("", NS)
+    made.kinds.append((made.ask(names[0][4:], NS), "ask-udp"))
+    return made

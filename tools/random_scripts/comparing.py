@@ -34,19 +34,22 @@ def by_reading(octets):
     return printed(*script.replay(octets))
 
 
-def by_program(program):
+def by_program(program, octets):
     """What a program prints of a script."""
-    def run(octets):
-        ran = subprocess.run([program, "replay"], input=octets, capture_output=True, check=False,
-                             timeout=LONGEST_RUN)
-        return Printed(ran.stdout.decode("latin-1"), ran.stderr.decode("latin-1"), ran.returncode)
-    return run
+    ran = subprocess.run([program, "replay"], input=octets, capture_output=True, check=False,
+                         timeout=LONGEST_RUN)
+    return Printed(ran.stdout.decode("latin-1"), ran.stderr.decode("latin-1"), ran.returncode)
+
+
+def differ(program, octets):
+    """Whether the program and the reading print differently of a script."""
+    return by_program(program, octets) != by_reading(octets)
 
 
 def timed(program, octets):
     """What a program prints of a script, and its seconds of processor."""
     before = resource.getrusage(resource.RUSAGE_CHILDREN)
-    said = by_program(program)(octets)
+    said = by_program(program, octets)
     after = resource.getrusage(resource.RUSAGE_CHILDREN)
     return said, after.ru_utime + after.ru_stime - before.ru_utime - before.ru_stime
 
@@ -57,31 +60,28 @@ def kinds_in(said):
     return [] if said.status else [(int(number), kind) for number, kind, _ in pairs]
 
 
-def parted(octets):
-    """The configuration with its line `---`, and the event lines."""
-    top, found, rest = octets.partition(b"---\n")
-    return top + found, rest.split(b"\n") if rest else []
+def shortest(octets, is_wrong):
+    """The script without the lines that the difference does not need: an event that does nothing is
+    in place of each, so that the words of the others stay."""
+    top, mark, rest = octets.partition(b"---\n")
+    lines = rest.split(b"\n") if rest else []
 
+    def joined(kept):
+        return top + mark + b"\n".join(kept)
 
-def shortest(octets, differ):
-    """The script without the lines that the difference does not need.
-
-    A line is replaced by an event that does nothing, so that the words of the others stay.
-    """
-    top, lines = parted(octets)
-    joined = lambda kept: top + b"\n".join(kept)  # noqa: E731 (the text of a script)
-    count = bisect.bisect_left(range(len(lines)), True, key=lambda at: differ(joined(lines[:at])))
+    count = bisect.bisect_left(range(len(lines)), True, key=lambda at: is_wrong(joined(lines[:at])))
     lines = lines[:count]
     for at in range(len(lines)):
         fewer = [*lines[:at], NOTHING.encode(), *lines[at + 1:]]
-        if differ(joined(fewer)):
+        if is_wrong(joined(fewer)):
             lines = fewer
     return joined(lines)
 
 
-def report(octets, first, second):
-    """A script and its printed lines: those of the first alone have -, of the second +."""
-    one, other = first(octets).lines(), second(octets).lines()
+def report(program, octets):
+    """A script, shortened, and its printed lines: the program's alone have -, the reading's +."""
+    octets = shortest(octets, lambda each: differ(program, each))
+    one, other = by_program(program, octets).lines(), by_reading(octets).lines()
     shown = [f"- {line}" if line not in other else f"  {line}" for line in one]
     shown += [f"+ {line}" for line in other if line not in one]
     return "\n".join([octets.decode("latin-1").rstrip("\n"), "prints", *shown])

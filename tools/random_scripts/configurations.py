@@ -1,20 +1,8 @@
 """Random configurations, most of them accepted."""
+import pathlib
+import tomllib
 
-SUFFIXES = ("corp.example", "a.corp.example", "test", "lan", "a.lan", "a-b.example", "_x.test",
-            "EXAMPLE.", "example", "b.a.example")
-LIMITS = {  # values that are worth trying
-    "questions": (1, 2, 3, 4096), "inquiries": (1, 2, 3, 1024), "cache": (1, 2, 3, 4, 65_536),
-    "tries": (1, 1, 2, 2, 3, 4, 16), "ask_ms": (100, 1000, 10_000),
-    "deadline_ms": (500, 1500, 3000, 30_000), "stale_s": (0, 1, 30, 600, 86_400),
-}
-STRANGE = ("1", "-1", "0", "true", '"1"', "1.5", "[]", "{}", "[1]", '[""]', "65537", "17", '"."',
-           "9223372036854775807", "9223372036854775808", "0x10", "1_0", '"192.0.2.1"',
-           '"192.0.2.256:53"', '"192.0.2.01:53"', '"192.0.2.1:0"', '"192.0.2.1:65536"', "[[]]",
-           '"a..b"', '"a b"', '".a"', '"-"', '"' + "a" * 64 + '"', '"' + "a." * 128 + '"', "",
-           '["192.0.2.1:53", 1]', '["192.0.2.1:53", "x"]', "['192.0.2.1:53']", '"é"')
-LINES = ("colour = 1", "[limits]", "[[route]]", "[route]", "x", "version = 2", "[limits.x]",
-         'suffix = "a"', "deny = true", "deny = false", "deny = 1", "stale_s = 1", "\x00", "\xff",
-         'listen = "127.0.0.1:53"', "listen = 1", "# é", "route = []", "limits = 1")
+ODD = tomllib.loads(pathlib.Path(__file__).with_name("odd.toml").read_text(encoding="utf-8"))
 
 
 def servers(random, first):
@@ -39,7 +27,7 @@ def route(random, suffix, first, may_deny):
 
 def limits(random, version, theme):
     """The lines of the limits, some of them small."""
-    chosen = {name: random.choice(values) for name, values in LIMITS.items()
+    chosen = {name: random.choice(values) for name, values in ODD["limits"].items()
               if random.random() < (0.5 if name in ("tries", "stale_s") else 0.15)}
     if theme == "pressed":
         chosen = {"cache": random.choice((1, 2, 2, 3, 3, 4))}
@@ -62,7 +50,7 @@ def configuration(random, theme):
     """
     version = 2 if theme in ("aged", "stale") else random.choice((1, 2))
     counts = (0, 0, 1) if theme == "aged" else (0, 0, 1, 2, 3, 5, 10)
-    others = random.sample(SUFFIXES, random.choice(counts))
+    others = random.sample(ODD["suffixes"], random.choice(counts))
     others = [each for at, each in enumerate(others)
               if each.lower().strip(".") not in [one.lower().strip(".") for one in others[:at]]]
     suffixes = others if others and random.random() < 0.15 else [".", *others]
@@ -87,13 +75,13 @@ def changed(random, text):
         key, equals, _ = lines[at].partition(" = ")
         how = random.randrange(5)
         if how < 2 and equals:
-            lines[at] = f"{key} = {random.choice(STRANGE)}"
+            lines[at] = f"{key} = {random.choice(ODD['strange'])}"
         elif how == 2:
             del lines[at]
         elif how == 3:
             lines.insert(random.randrange(len(lines) + 1), random.choice(lines))
         else:
-            lines.insert(random.randrange(len(lines) + 1), random.choice(LINES))
+            lines.insert(random.randrange(len(lines) + 1), random.choice(ODD["lines"]))
         if not lines:
             return ""
     if random.random() < 0.03:

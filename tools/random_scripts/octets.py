@@ -1,14 +1,13 @@
 """Messages as any peer may write them: with pointers or without, in any letter case, or broken."""
 import struct
 
-NAME, STRING = "name", "string"
-# The parts of data that has names. Types that are not here are tried with such parts, too.
+from reading.messages import NAME, SHAPES, STRING
+
+# The parts of data: the reading's, and such parts in types that it takes as opaque.
 DATA = {
-    **dict.fromkeys((2, 3, 4, 5, 7, 8, 9, 12), (NAME,)), **dict.fromkeys((14, 17), (NAME, NAME)),
-    **dict.fromkeys((15, 18, 21), (2, NAME)), 6: (NAME, NAME, 20), 26: (2, NAME, NAME),
-    33: (6, NAME), 35: (4, STRING, STRING, STRING, NAME), 1: (4,), 28: (16,), 16: (STRING, STRING),
-    13: (STRING, STRING), 11: (4, 1, 2), 24: (18, NAME, 8), 30: (NAME, 3), 36: (2, NAME),
-    39: (NAME,), 10: (7,), 99: (STRING,), 65280: (5,), 257: (2, 5),
+    **SHAPES, 1: (4,), 28: (16,), 16: (STRING, STRING), 13: (STRING, STRING), 11: (4, 1, 2),
+    24: (18, NAME, 8), 30: (NAME, 3), 36: (2, NAME), 39: (NAME,), 10: (7,), 99: (STRING,),
+    65280: (5,), 257: (2, 5),
 }
 
 

@@ -8,6 +8,7 @@ from reading.configuration import read_configuration
 from reading.step import Forwarder
 
 from . import configurations
+from .configurations import ODD
 from .octets import DATA, Writer, broken, other_case
 from .replies import Replies
 
@@ -25,20 +26,6 @@ ODD_NAMES = (
     b"\1a" * 127 + b"\0", b"\1a" * 128 + b"\0",
     (b"\x3f" + b"a" * 63) * 3 + b"\x3e" + b"a" * 62 + b"\0")
 BEYOND = (127, 256, 42)  # types next to those that are not served
-BAD_LINES = (
-    "", "tick", "1 tick ", " 1 tick", "1  tick", "1 Tick", "1 tick\r", "x tick", "-1 tick", "---",
-    f"{2**64} tick", "000000000000000000001 tick", "\u00bd tick", "+1 tick", "1_0 tick",
-    "1 restart 1", "1 failed udp 65536", "1 failed udp 000001", "1 failed udp -1", "1 failed tcp",
-    f"1 failed tcp {2**64}", "1 client udp 10.0.0.07:1 00", "1 client udp 10.0.0.7:0 00",
-    "1 client udp 10.0.0.7:1 0", "1 client udp 10.0.0.7:1 ", "1 client udp 10.0.0.7:1",
-    "1 client udp 10.0.0.7:1 0g", "1 client udp 10.0.0.7 00", "1 client udp 10.0.0.256:1 00",
-    "1 client udp 10.0.0.7:65536 00", "1 client udp 10.0.0.7:1 -0", "1 client tcp x 00",
-    "1 client tcp 7 00 00", "1 client tcp 7 --", "1 client 7 00", "1 reply udp 1 00",
-    "1 reply udp 65536 192.0.2.1:53 00", "1 reply tcp 1 192.0.2.1 00")
-ODD_LINES = (
-    "00000000000000000001 tick", "0 failed udp 00000", "0 failed tcp 00000000000000000000",
-    "0 client udp 10.0.0.7:1 -", "0 client tcp 00007 00", "0 client tcp 7 " + "aB" * 12,
-    "0 reply udp 01032 192.0.2.1:53 -")
 
 
 class Maker:
@@ -240,12 +227,12 @@ class Maker:
         for _ in range(self.random.choice(some)):
             self.move()
             self.now = min(self.now, script.LAST_NUMBER)
-            self.add(self.random.choice(ODD_LINES) if self.chance(0.002) else self.line())
+            self.add(self.random.choice(ODD["odd_lines"]) if self.chance(0.002) else self.line())
             if self.theme == "aged" and self.chance(0.06):
                 self.press()
         if self.chance(0.03):
             at = self.random.randrange(len(self.lines) + 1)
-            self.lines.insert(at, self.random.choice(BAD_LINES))
+            self.lines.insert(at, self.random.choice(ODD["bad_lines"]))
         elif self.chance(0.001):
             self.lines = [NOTHING] * self.random.choice((8191, 8192, 8193))
         text = configurations.changed(self.random, self.text) if self.chance(0.06) else self.text

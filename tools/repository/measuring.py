@@ -10,8 +10,8 @@ import subprocess
 import tempfile
 
 from repository import crates, tried
-from repository.copied import copy_repository
 from repository.crates import TOP
+from repository.edits import copy_repository
 
 FOLDER = TOP / "tools" / "measurements"
 OUT = FOLDER / "out"

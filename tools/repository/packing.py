@@ -8,7 +8,7 @@ OF_QUESTION = b"\xc0\x0c"  # a pointer to the name of the question (RFC 1035 4.1
 
 def name(text):
     """The labels of a name, without pointers. A dot at its end makes no difference."""
-    labels = [label.encode() for label in text.split(".") if label]
+    labels = [label.encode("latin-1") for label in text.split(".") if label]
     return b"".join(bytes([len(label)]) + label for label in labels) + b"\0"
 
 

@@ -1,5 +1,6 @@
 """The definitions of the spec files: comments, bodies, and which of them each file names."""
 import functools
+import itertools
 import re
 
 from repository.crates import CRATES
@@ -8,28 +9,22 @@ from repository.imports import USE, place
 DEFINITION = re.compile(r"(?:(?:abbrev|unfoldable) pub|pub (?:record|data)) (?!use )(\S+)")
 
 
-def beginning(lines, end):
-    """The first line of the comment whose last line is above the line `end`."""
+def comment_at(lines, end):
+    """The lines of the comment whose last line is above the line `end`."""
     start = end
     while start and re.match(r"--(?! ----)", lines[start - 1]):
         start -= 1
-    return start
+    return lines[start:end]
 
 
-def comment_at(lines, end):
-    """The comment whose last line is above the line `end`, in one line."""
-    comment = lines[beginning(lines, end):end]
-    return " ".join(" ".join(line[2:].strip() for line in comment).split())
+def spoken(comment):
+    """The text of a comment in one line."""
+    return " ".join(" ".join(line[2:] for line in comment).split())
 
 
 def sentence(text):
     """The first sentence of a text."""
     return (re.match(r".*?\.(?=\s|$)", text) or [text])[0].rstrip(".") + "."
-
-
-def leading(lines):
-    """How many lines a file's first comment has."""
-    return next((at for at, line in enumerate(lines) if not line.startswith("--")), len(lines))
 
 
 def imports(text):
@@ -38,20 +33,9 @@ def imports(text):
             for crate, side, path, names, short in USE.findall(text) if side == "specs"]
 
 
-def passing(lines):
-    """The lines of a spec file that pass definitions of other files on."""
-    return [line for line in lines if re.match(r"(unfoldable )?pub use ", line)]
-
-
-def ending(lines, start):
-    """The next empty line, or the end."""
-    return next((at for at in range(start, len(lines)) if not lines[at].strip()), len(lines))
-
-
-def block_at(lines, start):
-    """The definition that begins at this line, without comments."""
-    block = lines[start:ending(lines, start)]
-    return "\n".join(line for line in block if not line.lstrip().startswith("--"))
+def listed(names):
+    """The names of a list with commas."""
+    return [name.strip() for name in names.split(",") if name.strip()]
 
 
 def words_of(text):
@@ -74,31 +58,27 @@ class Specs:
     these, first sentences of files, and what is passed on."""
 
     def __init__(self):
-        self.comments = {}
-        self.bodies = {}
-        self.written = {}
-        self.heads = {}
-        self.texts = {}
-        self.passed_on = {}
+        self.comments, self.bodies, self.written = {}, {}, {}
+        self.heads, self.texts, self.passed_on = {}, {}, {}
         for file in sorted(CRATES.glob("*/specs/*.antt")):
-            self.read(file, file.parent.parent.name, file.stem)
+            self.read(file.read_text(encoding="utf-8"), file.parent.parent.name, file.stem)
         self.order = {key: at for at, key in enumerate(self.bodies)}
 
-    def read(self, file, crate, module):
-        text = file.read_text(encoding="utf-8")
+    def read(self, text, crate, module):
         lines = text.splitlines()
         self.texts[crate, module] = text
-        self.heads[crate, module] = sentence(comment_at(lines, leading(lines)))
+        head = list(itertools.takewhile(lambda line: line.startswith("--"), lines))
+        self.heads[crate, module] = sentence(spoken(comment_at(head, len(head))))
         for at, line in enumerate(lines):
-            found = DEFINITION.match(line)
-            if found:
-                key = crate, module, found[1]
-                self.comments[key] = comment_at(lines, at)
-                self.bodies[key] = block_at(lines, at)
-                self.written[key] = lines[beginning(lines, at):ending(lines, at)]
-        for of, path, names, _ in imports("\n".join(passing(lines))):
-            for name in filter(None, map(str.strip, names.split(","))):
-                self.passed_on[crate, module, name] = (of, path)
+            if found := DEFINITION.match(line):
+                key, comment = (crate, module, found[1]), comment_at(lines, at)
+                block = list(itertools.takewhile(str.strip, lines[at:]))
+                self.comments[key], self.written[key] = spoken(comment), comment + block
+                self.bodies[key] = "\n".join(line for line in block
+                                             if not line.lstrip().startswith("--"))
+        passing = "\n".join(line for line in lines if re.match(r"(unfoldable )?pub use ", line))
+        for of, path, names, _ in imports(passing):
+            self.passed_on.update({(crate, module, name): (of, path) for name in listed(names)})
 
     def resolve(self, crate, path, name):
         """The definition of this name that the file has or passes on, if any."""
@@ -122,7 +102,7 @@ class Specs:
         """The imported names that the named file of the repository does not have."""
         for (crate, module), text in self.texts.items():
             for of, path, names, _ in imports(text):
-                for name in filter(None, map(str.strip, names.split(","))):
+                for name in listed(names):
                     if not self.has(of, path, name.partition(" as ")[0]):
                         yield f"{crate}/specs/{module}.antt: Rattle.{of}.specs.{path}.{name}"
 
@@ -130,7 +110,7 @@ class Specs:
         """The definitions that a file imports, by the words that name them there."""
         found = {}
         for crate, path, names, short in imports(text):
-            for word in filter(None, map(str.strip, names.split(","))):
+            for word in listed(names):
                 name, _, other = word.partition(" as ")
                 found[(other or name).replace("◌", "")] = self.resolve(crate, path, name)
             if short:

@@ -1,14 +1,47 @@
-"""The definitions that the headline reaches, in the order of a reader's need."""
+"""The definitions that the headline reaches, in the order of a reader's need, and the definitions
+that code or table share with claims, by the contracts that cite them."""
 import collections
+import functools
 import re
 import sys
 
-from repository.crates import uses
+from repository.crates import CRATES, uses
 from repository.imports import place
-from repository.shared import common
-from repository.specs import imports, words_of
+from repository.specs import imports, listed, words_of
 
 HEADLINE = "ServesTruly"
+TABLE = "step_table"
+CLAUSE = re.compile(r"\b(?:requires|ensures|invariant|view)\b[^\n]*\{.*?\}\s*$", re.M | re.S)
+
+
+def sources(crate):
+    """The texts of a crate's code, without comments."""
+    for file in sorted((CRATES / crate).glob("src/**/*.rt")):
+        yield re.sub(r"//[^\n]*", "", file.read_text(encoding="utf-8"))
+
+
+@functools.cache
+def of_laws():
+    """The crates of claims and laws: no line of their code is a closing brace alone, so that no
+    function there has a body."""
+    return {crate for crate in uses() if crate != TABLE
+            and not any(re.search("^}$", text, re.M) for text in sources(crate))}
+
+
+def common(specs):
+    """The definitions that contracts of code or table reach, not by claims or laws alone."""
+    cited = {key for key in specs.bodies if key[0] == TABLE}
+    for crate in uses():
+        for text in sources(crate) if crate not in of_laws() else ():
+            named = specs.imported(text)
+            words = words_of(" ".join(CLAUSE.findall(text)))
+            cited.update(named[word] for word in words if word in named)
+    return specs.reached_by(cited, of_laws())
+
+
+def computed(specs):
+    """The functions among these."""
+    return {key for key in common(specs) if specs.computes(key)}
 
 
 class Statement:
@@ -104,7 +137,7 @@ class Statement:
         for file in self.files:
             words = self.words(file)
             for crate, _, names, _ in imports(self.specs.texts[file]):
-                each = map(str.strip, names.split(",") if crate == "std" else ())
+                each = listed(names) if crate == "std" else ()
                 found.update(name for name in each if set(parts_of(name)) <= words)
         return sorted(found)
 
@@ -123,7 +156,7 @@ class Statement:
         words = self.words(file)
         for crate, path, names, short in imports(self.specs.texts[file]):
             at = place(crate, "specs", path)
-            for name in map(str.strip, names.split(",")):
+            for name in listed(names):
                 if name.rpartition(" as ")[2] in words:
                     yield self.specs.passed_on.get((*at, name), at)
             if short and any(word.startswith(f"{short}.") for word in words):

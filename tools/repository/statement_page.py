@@ -4,9 +4,8 @@ import sys
 
 from repository.crates import CRATES, TOP, purpose, uses
 from repository.generated import wrapped
-from repository.shared import sources
 from repository.specs import words_of
-from repository.statement import HEADLINE, Statement, parts_of
+from repository.statement import HEADLINE, Statement, parts_of, sources
 
 MARK = "-- [shared]"
 READING, THEOREM = "READING_SPECS.md", "THEOREM.md"

@@ -11,7 +11,7 @@ import socket
 import subprocess
 import tempfile
 
-from running import programs, waiting
+from running import programs, trying
 
 EXPLAIN = programs.TOP / "explain" / "forwarder-explain"
 FILLER = 65000  # octets
@@ -67,7 +67,7 @@ class Capture:
                 found = found[-len(last):] + file.read()
                 return last in found
 
-            waiting.until(is_written, 10, "tcpdump does not write its capture", 0.001)
+            trying.until(is_written, 10, "tcpdump does not write its capture", 0.001)
 
     def differs(self, program, configuration):
         """The first difference from the step of a service with this configuration, or None."""

@@ -1,20 +1,10 @@
-"""The common part of foreign programs' configurations: a server at one place of this machine, with
-its files in a folder."""
+"""Configurations of foreign programs, files of the folder conf, to be filled in: a server at one
+place of this machine, with its files in a folder."""
+import pathlib
 
-UNBOUND = """server:
-  interface: {address}@{port}
-  do-ip6: no
-  do-daemonize: no
-  use-syslog: no
-  chroot: ""
-  username: ""
-  directory: "{folder}"
-  pidfile: ""
-  module-config: "iterator"
-"""
-NAMED = """options {{
-  directory "{folder}"; pid-file none; session-keyfile none; dnssec-validation no;
-  listen-on port {port} {{ {address}; }}; listen-on-v6 {{ none; }}; {more}
-}};
-controls {{ }};
-"""
+CONF = pathlib.Path(__file__).with_name("conf")
+
+
+def text(*names):
+    """The text of some files."""
+    return "".join((CONF / name).read_text(encoding="utf-8") for name in names)

@@ -20,4 +20,4 @@ def enter(script, words):
         raise NoNamespace("it needs root, or a system that lets users make namespaces")
     os.environ[INSIDE] = "1"
     sys.stdout.flush()
-    os.execvp("unshare", [*unshare, sys.executable, os.path.abspath(script), *words])
+    os.execvp("unshare", [*unshare, os.path.abspath(script), *words])

@@ -10,7 +10,7 @@ import sys
 
 from repository.crates import TOP
 from repository.packing import code, framed, take_frame
-from running import waiting
+from running import trying
 
 MAIN = TOP / "crates" / "forwarder_main"
 PROGRAM = MAIN / "out" / "forwarder_main"
@@ -104,7 +104,7 @@ class Program:
             return is_ready()
 
         try:
-            waiting.until(ready, seconds, f"{self.words[0]} is not ready", pause)
+            trying.until(ready, seconds, f"{self.words[0]} is not ready", pause)
         except BaseException:
             self.kill()
             raise

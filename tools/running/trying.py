@@ -1,4 +1,5 @@
-"""The outcome of a case, for tools that go on after a failure."""
+"""The outcome of a case, for tools that go on after a failure, and waiting for a condition."""
+import time
 
 
 class NotHere(Exception):
@@ -18,3 +19,19 @@ def tried(function, *given):
 
 def named(function):
     return function.__name__.replace("_", " ")
+
+
+class Late(AssertionError):
+    """A condition that did not hold by its deadline."""
+
+
+def until(condition, seconds, otherwise, pause=0.01):
+    """Waits until a condition holds; returns the condition's value.
+
+    After `seconds` raises Late with the text `otherwise`, or with the result of calling it."""
+    deadline = time.monotonic() + seconds
+    while not (value := condition()):
+        if time.monotonic() > deadline:
+            raise Late(otherwise() if callable(otherwise) else otherwise)
+        time.sleep(pause)
+    return value

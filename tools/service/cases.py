@@ -16,8 +16,7 @@ from repository.packing import code, framed, take_frame
 from running.forwarder import Service, configuration
 from running.nameserver import NameServer, free_port
 from running.programs import WHOLE_LIFE, listens
-from running.trying import NotHere
-from running.waiting import until
+from running.trying import NotHere, until
 
 from .messages import SERVFAIL, expect, is_answer, question, reply_to
 

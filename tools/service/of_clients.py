@@ -8,10 +8,10 @@ import time
 
 from repository.packing import address, code, exactly, framed, name, reply, take_frame
 from running.processes import descriptors, resident
-from running.waiting import until
+from running.trying import until
 
 from .cases import (
-    Forwarder, Server, case, descriptors_at_most, is_served, not_held, reset)
+    Forwarder, Server, case, descriptors_at_most, free_port, is_served, not_held, reset)
 from .messages import (
     REFUSED, SERVFAIL, UNKNOWN, alias_reply_to, chain, expect, head, is_answer, is_long_answer,
     kept_reply_to, long_reply_to, never, number_of, question, reply_to)
@@ -401,3 +401,26 @@ def a_question_over_tcp_beside_a_flood(program):
                 process.wait()
         if statistics.median(took) > 0.2:
             raise AssertionError(f"answered after {milliseconds([statistics.median(took)])}")
+
+
+def client_at(address, port, forwarder):
+    client = socket.socket(type=socket.SOCK_DGRAM)
+    client.settimeout(8)
+    client.bind((address, port))
+    client.connect((forwarder.address, forwarder.port))
+    return client
+
+
+@case
+def clients_of_one_port_at_other_addresses(program):
+    """Two clients have a port and an identifier in common, and addresses of their own. Each client
+    gets its own answer."""
+    port = free_port()
+    with (Forwarder(program, [Server()]) as forwarder,
+          client_at("127.0.0.4", port, forwarder) as one,
+          client_at("127.0.0.5", port, forwarder) as other):
+        asked = {one: question("one.example"), other: question("other.example")}
+        for client, message in asked.items():
+            client.send(message)
+        for client, message in asked.items():
+            is_answer(client.recv(65535), message)

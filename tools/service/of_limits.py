@@ -1,4 +1,5 @@
-"""Bounds of the service: asks, connections, descriptors, memory and time."""
+"""Bounds of the service: asks, connections, descriptors, buffers, memory and time; and stops."""
+import pathlib
 import resource
 import select
 import socket
@@ -7,16 +8,17 @@ import time
 
 from repository.packing import code, framed, take_frame
 from running.processes import addressed, descriptors, resident, spent, waits
-from running.waiting import until
+from running.trying import until
 
 from .cases import (
     Forwarder, Server, answer_on, case, descriptors_at_most, free_port, in_a_network_of_its_own,
-    is_served, not_held, refusing, reset)
+    is_served, not_held, refusing, reset, sockets_of, stopped)
 from .messages import (
     REFUSED, SERVFAIL, UNKNOWN, cut_reply_to, expect, is_answer, kept_reply_to, long_reply_to,
     never, number_of, question, reply_to)
 
 AT_REST = 3 + 3  # the standard streams, a poll and two listeners
+RECEIVE_BUFFER = 1 << 20
 
 
 def closed(clients):
@@ -389,3 +391,80 @@ def a_stream_that_finds_no_memory_ends_the_service(program):
             except OSError:
                 break
         forwarder.ends_with(b"", b"memory\n", 4)
+
+
+@case
+def a_burst_while_the_service_is_stopped(program):
+    """The service asks the system for 1 MiB for waiting datagrams, and gets twice the system's
+    limit at most (socket(7)). A question takes some 768 octets. So 1,000 questions during a stop of
+    the service are answered if the limit is half a MiB or more, and otherwise 400."""
+    allowed = int(pathlib.Path("/proc/sys/net/core/rmem_max").read_text())
+    count = 1000 if allowed >= RECEIVE_BUFFER // 2 else 400
+    with Forwarder(program, [Server(kept_reply_to)]) as forwarder, forwarder.udp() as client:
+        forwarder.ask_udp(question())
+        client.setsockopt(socket.SOL_SOCKET, socket.SO_RCVBUF, RECEIVE_BUFFER)
+        with stopped(forwarder):
+            for n in range(count):
+                client.send(question(identifier=n))
+        expect({number_of(client.recv(65535)) for _ in range(count)}, set(range(count)))
+        for each in sockets_of(forwarder.pid):
+            with each:
+                if each.type == socket.SOCK_DGRAM:
+                    size = each.getsockopt(socket.SOL_SOCKET, socket.SO_RCVBUF)
+                    expect(size, 2 * min(RECEIVE_BUFFER, allowed))
+
+
+@case
+def a_burst_beside_an_open_query(program):
+    """A query stays without answer, and 300 cached questions come while the service is stopped. The
+    service answers in turn, and sleeps 60 times at most until the last, in a single burst of three
+    at least."""
+    server = Server(lambda query: never(query) if b"never" in query else kept_reply_to(query))
+    limits = {"ask_ms": 10000, "deadline_ms": 20000}
+    with (Forwarder(program, [server], **limits) as forwarder, forwarder.udp() as other,
+          forwarder.udp() as client):
+        client.setsockopt(socket.SOL_SOCKET, socket.SO_RCVBUF, RECEIVE_BUFFER)
+        forwarder.ask_udp(question())
+        other.send(question("never.example"))
+        slept = []
+        for _ in range(3):
+            with stopped(forwarder):
+                for n in range(300):
+                    client.send(question(identifier=n))
+                before = waits(forwarder.pid)
+            expect(len({client.recv(65535)[:2] for _ in range(300)}), 300)
+            slept.append(waits(forwarder.pid) - before)
+        if min(slept) > 60:
+            raise AssertionError(f"it slept {' and '.join(map(str, slept))} times")
+
+
+@case
+def a_question_that_is_read_after_its_deadline(program):
+    """The question comes after 400 cached ones, while the service is stopped. The service reads a
+    few, and is stopped again, for longer than a question may wait for a reply. A question's time
+    begins when the service reads it: the question is answered. If the service read the question
+    before the long stop, the next attempt lets the service run less."""
+    def by_udp(query):
+        time.sleep(0.1)
+        return kept_reply_to(query) if b"kept" in query else reply_to(query)
+
+    limits = {"ask_ms": 1500, "deadline_ms": 1500}
+    with (Forwarder(program, [server := Server(by_udp)], **limits) as forwarder,
+          forwarder.udp() as other, forwarder.udp() as client):
+        forwarder.ask_udp(question("kept.example"))
+        for runs in (3, 1, 0):
+            late = question(f"late{runs}.example")
+            with stopped(forwarder):
+                for n in range(400):
+                    other.send(question("kept.example", identifier=n))
+                client.send(late)
+            for _ in range(runs):
+                time.sleep(0.0005)
+                with stopped(forwarder):
+                    time.sleep(0.0005)
+            with stopped(forwarder):
+                time.sleep(2)
+                was_read = any(f"late{runs}".encode() in query for query in server.asked)
+            message = client.recv(65535)
+            if not was_read:
+                return is_answer(message, late)

@@ -2,7 +2,7 @@
 import pathlib
 import subprocess
 
-from . import names
+from .machine import COMPANY, OUTSIDE
 from .pages import TOP
 
 ETC = pathlib.Path("/etc/forwarder")
@@ -52,7 +52,7 @@ def captured(_office):
 
 
 def company_down(office):
-    office.stop(names.COMPANY)
+    office.stop(COMPANY)
 
 
 def lan_denied(_office):
@@ -67,8 +67,8 @@ def unwise(office):
     """A cache above the unit's memory, and a silent server."""
     limits = "[limits]\ncache = 32768"
     (ETC / "forwarder.toml").write_text(guide().replace("[limits]", limits))
-    office.stop(names.OUTSIDE[1:])
-    office.start(names.OUTSIDE[1:], silent=True)
+    office.stop(OUTSIDE[1:])
+    office.start(OUTSIDE[1:], silent=True)
 
 
 def names_of_a_day(_office):

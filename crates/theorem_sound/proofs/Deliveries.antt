@@ -215,7 +215,7 @@ module _ (c : Config) (past : List Step) (w : List (List ℕ)) (s : State) (x : 
     shown_on = ap (on_path a.path) (sym x.asks) ∙ on_path-shown a.path s.asks ∙ ap (option_map shown) on_own
 
     -- a reply with a verdict other than `Stranger` matches the ask
-    matches_it : nat_lt n (timeout_of c a) ≡ true → matches a from octets ≡ true → (actions : List Action) → Matches c (can_write actions) past (shown a) octets a.question
+    pub matches_it : nat_lt n (timeout_of c a) ≡ true → matches a from octets ≡ true → (actions : List Action) → Matches c (can_write actions) past (shown a) octets a.question
     matches_it live matched actions =
         let facts = match_facts a from octets matched in
         record {
