@@ -39,7 +39,6 @@ class Writer:
         return f"  # {said}" if said else ""
 
     def text(self, listen, routes):
-        """The whole text."""
         lines = [f"# Made by forwarder-import from {', '.join(map(shown, self.paths))}."]
         lines.append("# Read it, mend it, and have it checked: forwarder check FILE.")
         denies = any(not route.servers for route in routes)
@@ -59,7 +58,6 @@ class Writer:
         return text + "".join(within(LARGEST - len(text.encode()), list(self.comments())))
 
     def route(self, route):
-        """The lines of a route."""
         if self.found.placeholder:
             yield ("# No line names a server that can be asked, and there has to be a route. Names"
                    " below `invalid`")
@@ -89,7 +87,6 @@ class Writer:
             yield "# addresses: drop the further ones."
 
     def kept(self):
-        """The file of the kept dnsmasq."""
         if not self.found.kept:
             return
         head = "# dnsmasq is kept for DHCP. This is all of its configuration, taken out by"
