@@ -171,5 +171,4 @@ def is_private(labels):
 
 
 def advised(configuration, unit):
-    """All lines of advice."""
     return [line for function in ALL for line in function(configuration, unit)]

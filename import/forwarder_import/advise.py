@@ -1,13 +1,13 @@
 """The command `forwarder-advise`: arguments, output and status."""
 import argparse
-import sys
 
 from .advice import advised
+from .command import ended
 from .configuration import configuration_of
 from .files import Unreadable, octets_of, shown
 from .units import FOLDER, Unit
 
-FINE, ADVISED, UNREADABLE = 0, 1, 2
+FINE, ADVISED = 0, 1
 
 
 def arguments(words):
@@ -43,14 +43,13 @@ def lines_of(options):
     return lines, is_fine
 
 
-def main(words):
-    sys.stdout.reconfigure(encoding="utf-8")
-    options = arguments(words)
-    try:
-        lines, is_fine = lines_of(options)
-    except Unreadable as fault:
-        print(f"forwarder-advise: {fault}", file=sys.stderr)
-        return UNREADABLE
+def run(options):
+    """Prints the lines. Returns the status."""
+    lines, is_fine = lines_of(options)
     for line in lines:
         print(f"{shown(options.file)}: {line}")
     return FINE if is_fine else ADVISED
+
+
+def main(words):
+    return ended("forwarder-advise", run, arguments(words))

@@ -8,7 +8,6 @@ import dns.query
 import dns.rcode
 import dns.rdatatype
 
-from .advice import of
 from .configuration import shown_peer
 
 SECONDS, AT_ONCE = 2, 16
@@ -17,22 +16,17 @@ FINE = ("NOERROR", "NXDOMAIN")
 
 def asked(configuration):
     """Asks all servers. Returns a line for each server, and whether all is well."""
-    pairs = [(route, server) for route in configuration.routes for server in route.servers]
+    pairs = dict.fromkeys((route.suffix, server) for route in configuration.routes
+                          for server in route.servers)
     with ThreadPoolExecutor(AT_ONCE) as pool:
-        return list(pool.map(lambda pair: of_server(*pair), dict.fromkeys(map(hashed, pairs))))
+        return list(pool.map(lambda pair: of_server(*pair), pairs))
 
 
-def hashed(pair):
-    """A route's suffix and a server."""
-    route, server = pair
-    return route._replace(servers=()), server
-
-
-def of_server(route, server):
+def of_server(suffix, server):
     """Asks a server for the SOA record of a route's suffix, as a client would."""
-    query = dns.message.make_query(route.suffix, dns.rdatatype.SOA)
+    query = dns.message.make_query(suffix, dns.rdatatype.SOA)
     came = [came_by(call, query, server) for call in (dns.query.udp, dns.query.tcp)]
-    line = f"{of(route)}: {shown_peer(server)}: by UDP {came[0]}, by TCP {came[1]}"
+    line = f"route `{suffix}`: {shown_peer(server)}: by UDP {came[0]}, by TCP {came[1]}"
     if all(each in FINE for each in came):
         return line, True
     return f"{line}: {remedy(came)}", False

@@ -47,7 +47,6 @@ class Bind:
                     self.each(each, call)
 
     def top(self, statement):
-        """A statement of the file."""
         if statement.words[0] == "options":
             for each in statement.block:
                 self.each(each, self.option)
@@ -72,7 +71,6 @@ class Bind:
         self.found.route(suffix_of(statement.value())).lost.append((statement.line, refused))
 
     def option(self, statement):
-        """A statement of `options`."""
         key, words = statement.words[0], statement.words[1:]
         if key == "forwarders":
             self.forwarding.append(statement)
@@ -114,7 +112,6 @@ class Bind:
                                  Row.ITERATING)
 
     def forwarders(self, suffix, statement):
-        """The servers of a suffix."""
         port_of_all = after(statement.words, "port")
         is_encrypted = after(statement.words, "tls")
         for each in statement.block:
@@ -172,7 +169,6 @@ class Bind:
             raise Refused(f"{kind} is no type of a zone that is known here: {keep('named')}")
 
     def forwarded(self, suffix, statement):
-        """A zone of the type forward."""
         route = self.found.route(suffix)
         route.named.append(statement.line)
         for each in statement.block:

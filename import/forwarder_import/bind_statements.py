@@ -33,7 +33,6 @@ class Statement:
         return self.blocks[0]
 
     def value(self):
-        """The only value."""
         if len(self.words) != 2:
             raise Refused(f"{self.words[0]} has to have one value")
         return self.words[1]
@@ -64,7 +63,6 @@ class Parser:
         self.block, self.statement = self.top, None
 
     def take(self, mark, word, line):
-        """Takes a token."""
         if word is not None:
             self.word(word, line)
         elif self.statement is None and mark != "}":
@@ -89,7 +87,6 @@ class Parser:
         self.statement.words.append(word)
 
     def close(self, line):
-        """Closes a block."""
         if self.statement is not None:
             raise unreadable(line, "a semicolon is missing before }")
         if not self.open:
@@ -97,7 +94,6 @@ class Parser:
         self.block, self.statement = self.open.pop()
 
     def end(self):
-        """The statements of the file."""
         if self.open:
             line = self.open[-1][1].line
             raise unreadable(line, f"the brace of {self.open[-1][1].words[0]} is not closed")

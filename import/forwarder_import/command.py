@@ -53,7 +53,7 @@ def run(options):
     for reader in readers.values():
         reader.end(readers)
     listen, routes = settle(found)
-    writer = Writer(found, files.read)
+    writer = Writer(found, files)
     sys.stdout.write(writer.text(listen, routes))
     sys.stdout.flush()
     for note in writer.notes():
@@ -71,14 +71,18 @@ def files_of(path, kind):
         raise Unreadable(f"{shown(path)}: {fault.strerror}") from None
 
 
-def main(words):
+def ended(name, run, options):
+    """Runs a command. Returns the status; a line on standard error says what can't be read."""
     sys.stdout.reconfigure(encoding="utf-8")
-    options = arguments(words)
     try:
         return run(options)
     except Unreadable as fault:
-        print(f"forwarder-import: {fault}", file=sys.stderr)
+        print(f"{name}: {fault}", file=sys.stderr)
         return UNREADABLE
     except BrokenPipeError:
         sys.stderr.close()
         return ALL
+
+
+def main(words):
+    return ended("forwarder-import", run, arguments(words))

@@ -39,7 +39,6 @@ class Configuration:
 
 
 def peer_of(text):
-    """Address and port."""
     address, _, port = text.partition(":")
     return ipaddress.IPv4Address(address), int(port)
 

@@ -56,7 +56,6 @@ class Dnsmasq:
                     self.take(line)
 
     def take(self, line):
-        """Takes a line."""
         name, value = option_of(line.text)
         if name in self.options and not value and name not in WITHOUT_VALUE:
             raise Refused("it has no value")
@@ -220,7 +219,6 @@ class Dnsmasq:
         self.found.pass_over(line, "hosts files are never read")
 
     def conf_file(self, value, line):
-        """A further file of options."""
         self.read(self.files.path(value, line), line)
 
     def conf_dir(self, value, line):

@@ -72,10 +72,13 @@ class Files:
         return [Line(path, number, line.removesuffix("\r"))
                 for number, line in enumerate(text.split("\n"), 1)]
 
-    def place(self, line):
-        """The file and number of a line, once all files are read."""
+    def place(self, line, last=None):
+        """The file and number of a line, or of a range, once all files are read; the file's name
+        alone if unique."""
         self.short = self.short or short_names(self.read)
-        return f"{self.short[line.path]}:{line.number}"
+        path = self.short[line.path]
+        until = f"-{last.number}" if last and last.number != line.number else ""
+        return f"{path}:{line.number}{until}" if line.number else path
 
     def path(self, written, line):
         """The path in a line: below the root, next to the line's file, or in the working folder."""

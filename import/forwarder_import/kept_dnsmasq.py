@@ -42,7 +42,6 @@ class KeptDnsmasq:
             self.domains.append((value.split(",")[0].strip(), line))
 
     def take(self, name, value, line):
-        """Takes a line of DHCP."""
         self.file.append(line)
         self.dhcp.append(line)
         words = [word.strip() for word in value.split(",")]

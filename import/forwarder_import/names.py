@@ -35,7 +35,6 @@ def keep(program):
 
 
 def port_of(text):
-    """A port."""
     if not re.fullmatch("[0-9]{1,9}", text) or not 1 <= int(text) <= 65535:
         raise Refused(f"{text or 'nothing'} is no port from 1 to 65535")
     return int(text)

@@ -18,7 +18,6 @@ class Resolv:
         self.paths, self.servers = [], []  # servers are addresses with their lines
 
     def read(self, path):
-        """Takes the lines of a file."""
         self.paths.append(path)
         with self.files.lines(path) as lines:
             for line in lines:
@@ -26,7 +25,6 @@ class Resolv:
                     self.take(line)
 
     def take(self, line):
-        """Takes a line."""
         key, *words = line.text.split() or [""]
         if not key or key[0] in "#;":
             return
@@ -55,7 +53,6 @@ class Resolv:
                 self.server(address, line)
 
     def server(self, address, line):
-        """A server for all names."""
         remark = ("a program on this machine: name its own servers"
                   if address.startswith("127.") else "")
         self.found.serve(".", lambda: usable(address), line, remark)

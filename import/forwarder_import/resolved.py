@@ -44,7 +44,6 @@ class Resolved:
         return [found[name] for name in sorted(found)]
 
     def one(self, path):
-        """Takes the lines of a file."""
         section = None
         with self.files.lines(path) as lines:
             for line in joined(lines):
@@ -58,7 +57,6 @@ class Resolved:
                     self.take(section, text, line)
 
     def take(self, section, text, line):
-        """Takes a setting."""
         key, equals, value = (part.strip() for part in text.partition("="))
         if section != "[Resolve]" or not equals:
             raise Refused("it is no setting of the section [Resolve]")
@@ -104,7 +102,6 @@ class Resolved:
                 self.setting(key, value, line)
 
     def server(self, word, line, suffixes, is_encrypted):
-        """A server for each suffix."""
         address, port, link, name = parts_of(word)
         if link:
             self.found.leave(
@@ -153,7 +150,6 @@ class Resolved:
                 self.found.listen(ipv4_of(address), port_of(port), line, remark)
 
     def setting(self, key, value, line):
-        """A setting with a single value."""
         if key == "StaleRetentionSec":
             self.found.limit("stale_s", str(seconds_of(value)), line, "once all tries failed")
         elif (key, value) == ("DNSOverTLS", "opportunistic"):

@@ -27,7 +27,6 @@ class Statement:
     values: list[str] = field(default_factory=list)
 
     def value(self):
-        """The only value."""
         if len(self.values) != 1:
             raise Refused("it has to have one value")
         return self.values[0]
@@ -78,7 +77,6 @@ class Unbound:
             self.include(self.statements.pop())
 
     def include(self, statement):
-        """Reads the files of a statement."""
         if statement.key == "include-toplevel":
             self.statements.append(Statement("server", statement.line))
         for path in self.files.paths(statement.value(), statement.line):
@@ -122,7 +120,6 @@ class Unbound:
                     raise of_clause(kind)
 
     def setting(self, statement):
-        """Carries a statement of the clause `server`."""
         key, line = statement.key, statement.shown()
         if key in ("interface", "ip-address"):
             address, mark, port = statement.value().partition("@")
@@ -206,7 +203,6 @@ class Zone:
         self.kind = clause.key.partition("-")[0]
 
     def carry(self, is_encrypted):
-        """Carries the zone as a route."""
         names = [each for each in self.statements if each.key == "name"]
         if len(names) != 1:
             raise Refused("the zone has to have one name")
@@ -227,7 +223,6 @@ class Zone:
             route.lost.append((self.clause.shown(), Refused(f"the zone {suffix} has no server")))
 
     def take(self, statement, route, is_encrypted):
-        """Takes a statement of the zone."""
         part, line = statement.key.removeprefix(f"{self.kind}-"), statement.shown()
         if part in ("addr", "host"):
             remark = "a referral is no answer" if self.kind == "stub" else ""
@@ -279,7 +274,6 @@ def of_clause(kind):
 
 
 def is_yes(statement):
-    """Whether a setting is on."""
     return statement.values == ["yes"]
 
 

@@ -25,7 +25,6 @@ class Unit:
             self.take(octets_of(drop_in).decode("utf-8", "replace"), drop_in)
 
     def take(self, text, path):
-        """Takes a drop-in."""
         self.memory = [self.memory, *re.findall(r"(?m)^\s*MemoryMax\s*=\s*(\S+)", text)][-1]
         for word in re.findall(r"[0-9.]+/[0-9]+", text):
             if is_of_others(word):

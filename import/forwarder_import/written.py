@@ -4,7 +4,7 @@ import itertools
 
 from .advice import advised
 from .configuration import configuration_of
-from .files import LONGEST_ADVICE, short_names, shown
+from .files import LONGEST_ADVICE, shown
 from .found import LIMITS, Value
 from .rows import TABLE
 from .settling import MOST_ROUTES
@@ -18,16 +18,8 @@ MOST_PLACES = 64  # next to a key
 class Writer:
     """Writes the settled findings."""
 
-    def __init__(self, found, paths):
-        self.found, self.paths = found, paths
-        self.short, self.advice = short_names(paths), []
-        self.order = {path: number for number, path in enumerate(paths)}
-
-    def place(self, line, last=None):
-        """The file and number of a line, or of a range; the file's name alone if unique."""
-        path = self.short[line.path]
-        until = f"-{last.number}" if last and last.number != line.number else ""
-        return f"{path}:{line.number}{until}" if line.number else path
+    def __init__(self, found, files):
+        self.found, self.paths, self.place, self.advice = found, files.read, files.place, []
 
     def origin(self, value):
         """The comment next to a key."""
@@ -39,7 +31,6 @@ class Writer:
         return f"  # {said}" if said else ""
 
     def text(self, listen, routes):
-        """The whole text."""
         lines = [f"# Made by forwarder-import from {', '.join(map(shown, self.paths))}."]
         lines.append("# Read it, mend it, and have it checked: forwarder check FILE.")
         denies = any(not route.servers for route in routes)
@@ -59,7 +50,6 @@ class Writer:
         return text + "".join(within(LARGEST - len(text.encode()), list(self.comments())))
 
     def route(self, route):
-        """The lines of a route."""
         if self.found.placeholder:
             yield ("# No line names a server that can be asked, and there has to be a route. Names"
                    " below `invalid`")
@@ -89,7 +79,6 @@ class Writer:
             yield "# addresses: drop the further ones."
 
     def kept(self):
-        """The file of the kept dnsmasq."""
         if not self.found.kept:
             return
         head = "# dnsmasq is kept for DHCP. This is all of its configuration, taken out by"
@@ -118,10 +107,9 @@ class Writer:
 
     def sorted(self, lefts):
         """The left lines, in the order of files and lines."""
-        def place(left):
-            return self.order[left.line.path], left.line.number
-
-        return sorted(dict.fromkeys(lefts), key=place)
+        order = {path: number for number, path in enumerate(self.paths)}
+        return sorted(dict.fromkeys(lefts),
+                      key=lambda left: (order[left.line.path], left.line.number))
 
     def named(self, lefts):
         """Place and text of each line, or of each range by first and last line."""

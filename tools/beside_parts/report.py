@@ -5,27 +5,11 @@ import platform
 import re
 import textwrap
 import time
+import tomllib
 
 NONE = "–"
 BEGIN, END = "<!-- begin: tools/beside --costs -->", "<!-- end: tools/beside --costs -->"
-# The rows: title, measurement, figure ("split": user's and system's).
-ROWS = [
-    ("a cached answer, 10 names", "cached", "us"),
-    ("– of it user, system", "cached", "split"),
-    ("– asked by a generator that never sleeps", "awake", "us"),
-    ("– of it user, system", "awake", "split"),
-    ("a cached answer, 10,000 names", "many", "us"),
-    ("a cached answer over TCP", "stream", "us"),
-    ("a new name", "miss", "us"),
-    ("– of it user, system", "miss", "split"),
-    ("a name below a denied one", "below", "us"),
-    ("– asked of the server, of 100", "below", "asked"),
-    ("a cached answer at 1,000 a second", "slow", "us"),
-    ("– median wait of a client, µs", "slow", "p50"),
-    ("– its 99th percentile, µs", "slow", "p99"),
-    ("memory at the start, MiB", "many", "start"),
-    ("memory with 10,000 names, MiB", "many", "full"),
-]
+SHOWN = tomllib.loads(pathlib.Path(__file__).with_name("shown.toml").read_text(encoding="utf-8"))
 
 
 def number(value):
@@ -47,7 +31,7 @@ def table(run):
     keys = list(run["programs"])
     titles = " | ".join(run["programs"][key]["title"] for key in keys)
     lines = [f"| µs of processor | {titles} |", "|---|" + "--:|" * len(keys)]
-    for title, name, what in (row for row in ROWS if row[1] in run["figures"]):
+    for title, name, what in (row for row in SHOWN["costs"] if row[1] in run["figures"]):
         cells = [cell(run["figures"][name].get(key), what) for key in keys]
         lines.append(f"| {title} | " + " | ".join(cells) + " |")
     return lines

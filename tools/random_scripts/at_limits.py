@@ -24,7 +24,6 @@ ADDRESS = record(A, bytes(4))
 
 
 def route(suffix=".", servers=(SERVER,)):
-    """A route in TOML."""
     listed = ", ".join(f'"{each}"' for each in servers)
     return f'[[route]]\nsuffix = "{suffix}"\nservers = [{listed}]\n'
 
@@ -44,7 +43,6 @@ class Script:
         return len(self.lines)
 
     def ask(self, text, kind=A, class_=IN, client="udp 10.0.0.7:40000", flags=0x0100):
-        """A client's question."""
         octets = packing.message(7, flags, question(name(text), kind, class_))
         return self.add(f"client {client} {octets.hex()}")
 

@@ -19,7 +19,6 @@ class Printed:
     status: int
 
     def lines(self):
-        """All of it as lines to be read."""
         return [*self.out.splitlines(), *(f"error: {line}" for line in self.error.splitlines()),
                 f"status {self.status}"]
 

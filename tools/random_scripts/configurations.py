@@ -15,7 +15,6 @@ def servers(random, first):
 
 
 def route(random, suffix, first, may_deny):
-    """The lines of a route."""
     lines = ["[[route]]", f'suffix = "{suffix}"']
     if may_deny and random.random() < 0.25:
         return [*lines, "deny = true"]

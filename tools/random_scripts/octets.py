@@ -26,7 +26,6 @@ class Writer:
         self.strange = random.choice((0,) * 19 + (0.1,))
 
     def header(self, number, flags, counts):
-        """The first twelve octets."""
         self.out += struct.pack("!6H", number, flags, *counts)
 
     def name(self, name):
@@ -50,7 +49,6 @@ class Writer:
         self.out += b"\0"
 
     def question(self, name, kind, class_):
-        """A question."""
         self.name(name)
         self.out += struct.pack("!2H", kind, class_)
 

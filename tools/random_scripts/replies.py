@@ -15,7 +15,6 @@ class Replies:
         self.large, self.aged = theme == "large", theme == "aged"
 
     def odd(self, chance):
-        """Whether something odd is done."""
         return self.random.random() < chance * (1 - self.calm)
 
     def ttl(self):

@@ -45,7 +45,6 @@ class Maker:
         self.replies = Replies(random, self.name, self.class_, self.calm, self.theme)
 
     def chance(self, chance):
-        """Whether something is done."""
         return self.random.random() < chance
 
     def make_kinds(self):
@@ -189,7 +188,6 @@ class Maker:
         return f"{self.now} failed {path[0]} {path[1]}"
 
     def line(self):
-        """One event line."""
         due, _ = self.moments()
         is_due = any(moment <= max(self.now, self.forwarder.now) for moment in due)
         weights = {self.client: 35, self.failed: 2 * (1.2 - self.calm)}
@@ -243,5 +241,4 @@ class Maker:
 
 
 def make(seed):
-    """The script with this seed."""
     return Maker(seed).make()

@@ -1,4 +1,4 @@
-"""Whether a reply counts, and which record sets and denials it carries."""
+"""Whether a reply counts, and the record sets and denials of a reply."""
 import struct
 from dataclasses import dataclass, replace
 
@@ -18,7 +18,7 @@ LONGEST_DENIAL = 10_800  # seconds: RFC 2308 5 advises one to three hours
 
 @dataclass(frozen=True)
 class Piece:
-    """A record set, or a denial with its SOA record, if any: what is kept and answered as a whole.
+    """A record set, or a denial with its SOA record, if any: kept and answered as a whole.
 
     A name error denies all types, so its `kind` is None. The lifetime is in seconds.
     """
@@ -36,16 +36,17 @@ class Piece:
         return key(self.owner), self.kind, self.class_
 
     def target(self):
-        """The name that the one record of an alias leads to."""
+        """The target of an alias."""
         return self.rows[0][0]
 
 
 def judge(ask, peer, octets):
-    """The first that holds of a reply.
+    """The first verdict that holds of a reply.
 
-    It is a stranger, and nothing happens, unless it comes from the server asked, answers a query,
-    and has the identifier and the question asked (RFC 5452 9.1). It is truncated (TC, RFC 2181 9),
-    failed with an RCODE other than NOERROR and NXDOMAIN (RFC 1035 4.1.1), malformed or whole.
+    A stranger, for which nothing happens, does not come from the server asked, answers no query, or
+    has not the identifier and the question asked (RFC 5452 9.1). Otherwise a reply is truncated
+    (TC, RFC 2181 9), failed with an RCODE besides NOERROR and NXDOMAIN (RFC 1035 4.1.1), malformed
+    or whole.
     """
     if not 12 <= len(octets) <= LONGEST_MESSAGE:
         return STRANGER
@@ -76,8 +77,8 @@ def seconds(ttl):
 def record_set(section, name, kind, class_):
     """The records of a section with this name, type and class, as a piece; None without any.
 
-    They are in their order, and of equal data only the first (RFC 2181 5). The owner is spelled as
-    in the first. The lifetime is the lowest TTL of all, also of those left out (RFC 2181 5.2).
+    The records keep their order; of equal data only the first counts (RFC 2181 5). The owner is
+    spelled as in the first. The lifetime is the lowest TTL, also of left out ones (RFC 2181 5.2).
     """
     found = [record for record in section
              if (key(record.owner), record.kind, record.class_) == (key(name), kind, class_)]
@@ -89,10 +90,10 @@ def record_set(section, name, kind, class_):
 
 
 def denial(message, form, name, kind, class_):
-    """A denial at a name, with the first SOA record of the authority section at or above it.
+    """A denial at a name, with the first SOA record of the authority section at or above the name.
 
-    Its lifetime is the lower of that record's TTL and MINIMUM, at most three hours; without such a
-    record it is 0, and nothing is kept (RFC 2308 3, 5).
+    The lifetime is the lower of that record's TTL and MINIMUM, at most three hours; without such a
+    record the lifetime is 0, and nothing is kept (RFC 2308 3, 5).
     """
     fitting = [record for record in message.authority if record.kind == SOA
                and record.class_ == class_ and is_under(name, record.owner)]
@@ -104,11 +105,11 @@ def denial(message, form, name, kind, class_):
 
 
 def walk(message, question, route, configuration):
-    """The pieces that lead from the question to the end of its aliases: pieces, end, last name.
+    """The pieces from the question to the end of its aliases: pieces, end, last name.
 
     The answer section is followed from name to name (RFC 1034 3.6.2), over at most eight aliases,
-    as long as the names are on the route asked: of other names the server is not believed. The
-    RCODE is that of the last name (RFC 2308 2.1, 2.2). A name has one CNAME record at most (RFC
+    as long as the names are on the route asked: of further names the server is not believed. The
+    RCODE is of the last name (RFC 2308 2.1, 2.2). A name has one CNAME record at most (RFC
     2181 10.1): with more, and without the set asked for, the whole reply is lame.
     """
     name, kind, class_, aliases = question.name, question.kind, question.class_, []
@@ -128,17 +129,17 @@ def walk(message, question, route, configuration):
 
 
 def several(alias):
-    """Whether a name has several CNAME records; targets of other letter case are others, too."""
+    """Whether a name has several CNAME records; a target's letter case counts."""
     return alias is not None and len(alias.rows) > 1
 
 
 def end_of_walk(message, aliases, name, kind, class_):
-    """The end at a name that the answer section has nothing of.
+    """The end at a name without records in the answer section.
 
     NXDOMAIN denies the name, with an SOA record or without. Otherwise an SOA record says that the
-    name has no such type. Without it, a name that aliases led to is asked for on its own; and a
-    reply about the name asked is lame, a referral, if it has NS records and AA is clear. If not, it
-    says that the name has no such type, too (RFC 2308 2.2).
+    name has no such type. Without SOA record, a name after aliases is asked for on its own; and a
+    reply about the name asked is lame, a referral, with NS records and AA clear. All further
+    replies say that the name has no such type, too (RFC 2308 2.2).
     """
     if message.header.rcode == NXDOMAIN:
         piece = denial(message, NAME_ERROR, name, None, class_)
@@ -152,7 +153,7 @@ def end_of_walk(message, aliases, name, kind, class_):
 
 
 def authority_sets(message, question, pieces, route, configuration):
-    """The NS sets of the authority section that are carried, too, by a reply with AA set.
+    """The NS sets of the authority section, carried too if AA is set.
 
     Their owners are at or above the name asked and on its route, and have no other piece.
     """
@@ -170,7 +171,7 @@ def carried(message, question, route, configuration):
     """The pieces of the walk, its end and last name, and the NS sets, each piece with its rank.
 
     Data at the name asked, from a reply with AA set, is trusted most: rank 3. The NS sets have rank
-    2, and all that aliases led to, or that came with AA clear, has rank 1 (RFC 2181 5.4.1).
+    2, and all data after aliases, or with AA clear, has rank 1 (RFC 2181 5.4.1).
     """
     pieces, end, name = walk(message, question, route, configuration)
     sets = authority_sets(message, question, pieces, route, configuration)

@@ -1,7 +1,7 @@
 """What each event does: a question, a reply, a failed path, the time, a restart.
 
-Each gives its actions in this order: a close, the replies in the order in which their questions
-came, an ask. A path is ("udp", port) or ("tcp", number of the connection).
+Each gives its actions in this order: a close, the replies in the order of their questions' arrival,
+an ask. A path is ("udp", port) or ("tcp", number of the connection).
 """
 from dataclasses import dataclass, replace
 
@@ -41,7 +41,7 @@ class Ask:
 
 
 class Forwarder:
-    """All that the forwarder remembers. Moments are milliseconds, and never go back."""
+    """The forwarder's memory. Moments are milliseconds, and never go back."""
 
     def __init__(self, configuration):
         self.configuration, self.limits = configuration, configuration.limits
@@ -52,7 +52,7 @@ class Forwarder:
         self.words = []
 
     def step(self, moment, words, event, *given):
-        """The actions of one event. A restart forgets everything, its own moment too."""
+        """The actions of an event. A restart forgets everything, also the event's moment."""
         if event == "restart":
             self.__init__(self.configuration)
             return []
@@ -65,9 +65,9 @@ class Forwarder:
     # A question of a client.
 
     def on_client(self, client, octets):
-        """A message of a client; one that is no query is dropped (RFC 1035 4.1.1).
+        """A client's message: dropped, unless a query (RFC 1035 4.1.1).
 
-        Nothing after its question is looked at, and no flag but QR, opcode and RD.
+        Nothing after the question is looked at, and no flag but QR, opcode and RD.
         """
         if is_dropped(octets):
             return []
@@ -87,9 +87,9 @@ class Forwarder:
         return self.on_question(request)
 
     def on_question(self, request):
-        """Answers from the cache, or else joins or opens the inquiry of the name that is missing.
+        """Answers from the cache, or else joins or opens the inquiry of the missing name.
 
-        Equal questions share one inquiry.
+        Equal questions share an inquiry.
         """
         chain, end, name = self.look_up(request.question, [])
         if end != MISS:
@@ -115,7 +115,7 @@ class Forwarder:
         return look_up(question, held, find, self.cache.promote, self.configuration.denies)
 
     def answered(self, request, chain, end):
-        """The reply for a question of which the end is known."""
+        """The reply for a question with a known end."""
         if end == LONG:
             return answers.failure(request, answers.CHAIN_LONG)
         rcode = NXDOMAIN if end in (LOCAL, NAME_ERROR) else NOERROR
@@ -125,16 +125,16 @@ class Forwarder:
     # Asking.
 
     def ask_of(self, question):
-        """The listed ask of an equal question, if any: the inquiry is open as long as it is."""
+        """The listed ask of an equal question, if any: so long is the inquiry open."""
         return next((ask for ask in self.asks if ask.question.same(question)), None)
 
     def listed(self, path):
-        """The ask on a path, if any; past its time too, until it is closed."""
+        """The ask on a path, if any: until the close, also past the ask's time."""
         return next((ask for ask in self.asks if ask.path == path), None)
 
     def open(self, question):
-        """The first ask of an inquiry: over UDP, to the server that gave the last accepted reply
-        on this route, or the first one."""
+        """The first ask of an inquiry: over UDP, to the server of the last accepted reply on this
+        route, or otherwise to the first server."""
         route = self.configuration.route_of(question.name)
         return self.ask(question, route, self.preferred[route], 1, "udp")
 
@@ -164,7 +164,7 @@ class Forwarder:
         return [(f"close-{ask.path[0]}", ask.path[1])]
 
     def waiting_for(self, ask):
-        """The questions of an inquiry, in the order in which they came."""
+        """The questions of an inquiry, in the order of arrival."""
         return [each for each in self.waiting if each.wanted.same(ask.question)]
 
     def end(self, waiting):
@@ -174,7 +174,7 @@ class Forwarder:
     # A reply of a server.
 
     def on_reply(self, path, peer, octets):
-        """A reply counts if its ask has time left, and is followed to where it leads."""
+        """A reply counts if its ask has time left, and is followed to the end of its aliases."""
         ask = self.listed(path)
         if not ask or self.now >= ask.asked + self.limits["ask_ms"]:
             return []
@@ -192,7 +192,7 @@ class Forwarder:
     def accept(self, ask, pieces, end, name, sets):
         """Answers the questions of an inquiry or sends them on, and then keeps the pieces.
 
-        The server is asked first from now on: its place in the group, not its address.
+        The server is asked first from now on: the place in the group, not the address.
         """
         actions, waiting = self.close(ask), self.waiting_for(ask)
         self.preferred[ask.route] = ask.server
@@ -207,15 +207,15 @@ class Forwarder:
         return actions
 
     def reply_to(self, waiting, new, end):
-        """The reply for a question of which the reply has the end."""
+        """The reply for a question whose end the server's reply has."""
         chain = waiting.held + new
         return self.answered(waiting.request, chain, LONG if len(chain) > MOST_ALIASES + 1 else end)
 
     def send_on(self, waiting, new, wanted):
-        """Looks up the name that a reply leads to, in the cache as it was before the reply.
+        """Looks up the name after a reply's aliases, in the cache from before the reply.
 
-        The questions that this does not answer join the inquiry of the missing name or open it. It
-        is one name for all of them.
+        Questions still without answer join or open the inquiry of the missing name: the name is
+        equal for all of them.
         """
         found = [self.look_on(wanted, each.held + new) for each in waiting]
         missing = [replace(wanted, name=name) for _, end, name in found
@@ -233,12 +233,12 @@ class Forwarder:
         return replies + asks
 
     def unanswered(self, request, name):
-        """The reply for a question of which a name is missing and can't be asked for."""
+        """The reply for a question with a missing name for which no server can be asked."""
         has_route = self.configuration.route_of(name) is not None
         return answers.failure(request, answers.NO_PORT if has_route else answers.NO_ROUTE)
 
     def look_on(self, wanted, held):
-        """Follows a question from where a reply led it; with nine aliases it is not looked up."""
+        """Follows a question after a reply's aliases; with nine aliases there is no look-up."""
         if len(held) > MOST_ALIASES:
             return held, LONG, wanted.name
         return self.look_up(wanted, held)
@@ -246,16 +246,15 @@ class Forwarder:
     # Failures and the time.
 
     def on_failed(self, path):
-        """A path that broke is a failed ask."""
+        """A broken path is a failed ask."""
         ask = self.listed(path)
         return self.fail(ask, "path") if ask else []
 
     def fail(self, ask, verdict):
-        """A failed ask is closed, and the next try made if one is left.
+        """A failed ask is closed, and the next try made if any is left.
 
-        A truncated reply over UDP is asked for again over TCP, from the same server (RFC 2181 9).
-        After all other failures the next server of the group is asked over UDP, after the last one
-        the first.
+        After a truncated reply over UDP the server is asked again over TCP (RFC 2181 9). After all
+        further failures the next server of the group is asked over UDP, after the last the first.
         """
         closed, waiting = self.close(ask), self.waiting_for(ask)
         if ask.tries == self.limits["tries"]:
@@ -273,10 +272,10 @@ class Forwarder:
         return closed + [answers.failure(each.request, answers.NO_PORT) for each in waiting]
 
     def give_up(self, waiting):
-        """The reply after the last try: SERVFAIL, or a set that ended a short time ago (RFC 8767).
+        """The reply after the last try: SERVFAIL, or a recently ended set (RFC 8767).
 
-        At most eight aliases may lead to it, with those that the question holds, and none to a name
-        that its route denies. Nothing is promoted.
+        At most eight aliases may lead there, the question's held aliases included, and none to a
+        denied name. Nothing is promoted.
         """
         window = self.limits["stale_s"]
 
@@ -292,10 +291,10 @@ class Forwarder:
         return answers.failure(waiting.request, answers.EXHAUSTED)
 
     def on_tick(self):
-        """Serves what was due first, of one moment questions first, then the older.
+        """Serves the first due question or ask: of equal moments questions first, then the older.
 
-        A question past its deadline fails; if no other waits with it, its ask is closed. An ask
-        past its time has failed.
+        A question past its deadline fails; if no further question waits for the ask, the ask is
+        closed. An ask past its time has failed.
         """
         due = [(each.taken + self.limits["deadline_ms"], 0, at, each)
                for at, each in enumerate(self.waiting)]
@@ -317,12 +316,12 @@ def is_dropped(octets):
 
 
 def asked(octets):
-    """The question of a client: its message has just one (RFC 1035 4.1.2, RFC 9619)."""
+    """The question of a client: a message has just one (RFC 1035 4.1.2, RFC 9619)."""
     return first_question(octets)
 
 
 def is_served(question):
-    """Types that are no data, those of questions alone, and class ANY are not served.
+    """Types without data, types of questions alone, and class ANY are not served.
 
     They are 0, OPT (RFC 6891 6.1) and 128 to 255 (RFC 6895 3.1); class 255 is RFC 1035 3.2.5.
     """
@@ -332,5 +331,5 @@ def is_served(question):
 
 
 def port_of(word):
-    """The port that a random word draws, of all from 1024 on; its low half is the identifier."""
+    """The port drawn by a random word, of all from 1024 on; the low half is the identifier."""
     return 1024 + word // 65_536 % 64_512

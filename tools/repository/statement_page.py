@@ -1,4 +1,5 @@
 """The page of the statement: all definitions that the headline reaches."""
+import pathlib
 import re
 import sys
 
@@ -9,28 +10,7 @@ from repository.statement import HEADLINE, Statement, parts_of, sources
 
 MARK = "-- [shared]"
 READING, THEOREM = "READING_SPECS.md", "THEOREM.md"
-HEAD = """
-What is proved of every run is one definition, `{headline}`. This page has it, and below it each
-definition of this repository that it reaches. [THEOREM.md](THEOREM.md) says the same in ordinary
-mathematics, and what is tested and trusted. [{reading}]({reading}) explains the signs.
-`tools/definitions --statement` writes this page.
-
-**To believe**: {count} definitions in {files} files, {lines} lines without comments and empty
-lines. Code or table share {shared} of these definitions ({shared_lines} lines), marked `{mark}`:
-{functions} functions and {statements} statements.
-
-**The order** is from the claim down to octets: from the ground up, a reader would learn hundreds of
-words before the first claim that needs them. Each word is defined below all its uses. So a reader
-can stop after any part. What is left says only what the words *cited above* mean, listed at the
-head of each part.
-
-**A shared definition** is cited by the claim, and by a contract of the code or by the table, to
-which the code is proved equal. If a shared definition is wrong, claim and code can be wrong alike,
-and no proof fails. The other functions and statements are cited by no contract of the code and no
-row of the table, except by the theorem's and the laws' own: an error there has to be made again, in
-other words, for the code to follow. Types of data are common to all, and have no mark. A claim that
-says too little is found by reading alone.
-"""
+HEAD = pathlib.Path(__file__).with_name("statement_head.txt")
 
 
 def link(file):
@@ -122,10 +102,10 @@ def head(statement):
     """The page down to its first part."""
     keys, shared = statement.keys, statement.shared
     functions = [key for key in shared if statement.specs.computes(key)]
-    text = HEAD.format(headline=HEADLINE, reading=READING, mark=MARK, files=len(statement.files),
-                       count=len(keys), lines=f"{statement.lines(keys):,}", shared=len(shared),
-                       functions=len(functions), statements=len(shared) - len(functions),
-                       shared_lines=f"{statement.lines(shared):,}")
+    text = HEAD.read_text(encoding="utf-8").format(
+        headline=HEADLINE, reading=READING, mark=MARK, files=len(statement.files), count=len(keys),
+        lines=f"{statement.lines(keys):,}", shared=len(shared), functions=len(functions),
+        statements=len(shared) - len(functions), shared_lines=f"{statement.lines(shared):,}")
     yield "# The statement"
     yield from map(wrapped, text.strip().split("\n\n"))
     yield table_of_parts(statement)

@@ -28,13 +28,11 @@ def spent(pid):
 
 
 def waits(pid):
-    """The number of waits so far."""
     text = pathlib.Path(f"/proc/{pid}/status").read_text()
     return int(re.search(r"^voluntary_ctxt_switches:\s+(\d+)", text, re.M)[1])
 
 
 def descriptors(pid):
-    """The number of open descriptors."""
     return len(os.listdir(f"/proc/{pid}/fd"))
 
 

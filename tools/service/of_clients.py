@@ -264,7 +264,6 @@ def small_reader(port):
 
 
 def any_reader(port):
-    """A client like any other."""
     return socket.create_connection(("127.0.0.1", port))
 
 
