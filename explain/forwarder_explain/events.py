@@ -42,15 +42,15 @@ class Query:
     `asked` is None of a connection that carried nothing yet. `number` counts the tries of its inquiry. `how` is its end
     in a word, since `ended`. `unfit` has the moments and faults of dropped replies. `is_wanted`: a question waited for
     it. `is_shared`: another program may have asked the same at that time. `is_lacked`: the capture has only ICMP's news
-    of it."""
+    of it. `cut` is the query with a cut reply, whose question a connection seemed to be for as it began."""
 
-    __slots__ = "moment transport server source identifier asked number how ended reply unfit late".split()
+    __slots__ = "moment transport server source identifier asked number how ended reply unfit late cut".split()
     __slots__ += ["is_wanted", "is_shared", "is_lacked"]
 
     def __init__(self, moment, transport, server, source, identifier=None, asked=None):
         self.moment, self.transport, self.server, self.source = moment, transport, server, source
         self.identifier, self.asked, self.number = identifier, asked, 1
-        self.how = self.ended = self.reply = self.late = None
+        self.how = self.ended = self.reply = self.late = self.cut = None
         self.unfit, self.is_wanted, self.is_shared, self.is_lacked = (), False, False, False
 
     def end(self, how, moment):

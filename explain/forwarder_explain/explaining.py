@@ -98,10 +98,8 @@ class Explaining:
                     each.others += (question.peer,)
 
     def asked_of(self, query):
-        self.sent.append(query)
-        if self.history.told and query.is_wanted:
-            key, kind, klass = query.asked.same
-            self.history.ask((key, klass, kind), query.moment)
+        if query.cut is None or query.identifier is None:  # it is not counted yet
+            self.sent.append(query)
         if self.upstream.record and not query.is_lacked:
             self.upstream.record.query(query)
 

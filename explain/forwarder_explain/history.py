@@ -142,9 +142,11 @@ class History:
                 if each.begun is None and each.until <= moment:
                     each.begun = moment
 
-    def ask(self, slot, moment):
+    def ask(self, query):
         """The service asks for data that were surely cached: a restart that was told came after their reply."""
-        for found in self.at(slot):
+        (key, kind, klass), moment = query.asked.same, query.moment
+        slot = key, klass, kind
+        for found in self.at(slot) if self.told and query.is_wanted else ():
             if self.is_kept(slot, found, moment):
                 carried = found.reply.moment
                 if any(each.since <= moment and each.until > carried for each in self.told):

@@ -23,7 +23,8 @@ th:first-child,td:first-child,.text{text-align:left}td:first-child{overflow-wrap
 tr:nth-child(even) td{background:#f4f4f2}a{color:#14559c}svg{max-width:100%;height:auto}
 ol{list-style:none;padding:0;font:12px/1.5 monospace}li{overflow-wrap:anywhere;padding-left:.6em;margin:.1em 0;
 border-left:.5em solid #ddd}li pre{margin:0;white-space:pre-wrap}.chosen{display:none}.chosen:target{display:block}
-.key{display:inline-block;width:.8em;height:.8em;margin-right:.4em}.note{color:#666}"""
+.key{display:inline-block;width:.8em;height:.8em;margin-right:.4em}.note{color:#666}
+.verdict{font-size:1.7em;font-weight:600;margin:.4em 0}"""
 CLASS, TEXTS = ' class="text"', ("name", "type", "reason", "how")  # of columns
 POLICY = "default-src 'none'; style-src 'unsafe-inline'"
 HEAD = f'''<!DOCTYPE html>
@@ -39,6 +40,7 @@ FATES = {
     "open": "#8a6d4b", "different": "#d6259a",
 }  # fmt: skip
 CACHED, ASKED, DENIED, EXPIRED, FAILED, NO_ANSWER, REFUSED, OPEN, WRONG = FATES
+AMBER = "#b26a00"
 
 
 class Group:
@@ -196,18 +198,29 @@ def text(words):
     return f"<td{CLASS}>{escape(words)}</td>"
 
 
+def headline(tally):
+    """The verdict in a few words, and its colour."""
+    answers, of = tally.answers, tally.kinds
+    if of[judge.DIFFERENT]:
+        return f"Different answers: {of[judge.DIFFERENT]:,} of {answers:,}", FATES[FAILED]
+    if of[judge.OPEN] or not answers:
+        return f"No answer is different; open: {of[judge.OPEN]:,} of {answers:,}", AMBER
+    return f"All answers are right: {answers:,}", FATES[ASKED]
+
+
 class Page:
     """The page of the questions of groups; `about` has its subject, a line each."""
 
     def __init__(self, groups, summary, about):
         self.groups, self.tally, self.about, self.link = groups, summary.tally, about, groups.link
-        self.verdict = summary.verdict()
+        self.verdict, (self.head, self.colour) = summary.verdict(), headline(summary.tally)
 
     def html(self):
         counts = [*self.counts()]  # which make the links
         yield HEAD
         yield f"<title>{escape(self.about[0])}</title><style>{STYLE}{self.groups.style()}</style></head><body>"
         yield f"<h1>{escape(self.about[0])}</h1>"
+        yield f'<p class="verdict" style="color:{self.colour}">{escape(self.head)}</p>'
         yield from (f'<p class="note">{escape(line)}</p>' for line in self.about[1:])
         yield "<p>" + "<br>".join(map(escape, self.verdict)) + "</p>"
         yield from counts

@@ -39,6 +39,7 @@ class Upstream:
         self.paths["udp", source] = query
         if query is not None:
             self.begin(query)
+            self.history.ask(query)
 
     def begin(self, query):
         key = query.asked.same
@@ -217,40 +218,45 @@ class Upstream:
     # Connections.
 
     def connect(self, connection, moment):
-        """A connection to a server begins: its query is known later, or never."""
-        fitting = [each for each in self.cuts if each.server == connection.server]
+        """A connection to a server begins, perhaps after a cut reply: its question is known later, or never."""
         query = connection.query = Query(moment, "tcp", connection.server, connection.client)
-        if fitting:
-            self.cuts.remove(fitting[0])
-            query.asked = fitting[0].asked
+        fitting = (each for each in self.cuts if each.server == query.server)
+        query.cut = next((each for each in fitting if self.latest.get(each.asked.same) is each), None)
+        if query.cut:
+            query.asked = query.cut.asked
             self.begin(query)
 
     def carried(self, connection, octets):
         """Takes the question over a connection. One not in the forwarder's form is another program's."""
-        query = connection.query
+        query, asked = connection.query, asked_in(octets)
         if query is None or query.identifier is not None:
             return
-        asked = asked_in(octets)
-        if asked is None or query.asked is not None and query.asked.same != asked.same:
+        is_known = query.asked is not None and asked is not None and query.asked.same == asked.same
+        if not is_known:
             self.withdraw(query)
-            query = connection.query = asked and Query(query.moment, "tcp", query.server, query.source)
-        if query is None:
+        if asked is None:
+            connection.query = None
             self.foreign += 1
             return
-        is_known, query.identifier, query.asked = query.asked is not None, octets[:2], asked
+        query.identifier, query.asked = octets[:2], asked
         if not is_known:
+            other = self.latest.get(asked.same)
+            if other is not None and other.identifier is None:
+                self.withdraw(other)
             self.begin(query)
+        self.history.ask(query)
 
     def withdraw(self, query):
-        """A connection was another program's, or for another question."""
+        """A connection is another program's, or for another question than it seemed."""
         if query.asked is None:
             return
         key = query.asked.same
         for question in self.waiting.get(key, ()):
             question.tries = [each for each in question.tries if each is not query]
         if self.latest.get(key) is query:
-            del self.latest[key]
+            self.latest[key] = query.cut
         self.open.pop(id(query), None)
+        query.asked, query.number, query.is_shared = None, 1, False
 
     def forget(self, now):
         """Drops queries to which no later packet can belong."""

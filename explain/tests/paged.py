@@ -27,6 +27,7 @@ class Read(HTMLParser):
     def __init__(self, text):
         super().__init__()
         self.open, self.faults, self.ids, self.links, self.items, self.cells = [], [], set(), [], [], [[]]
+        self.verdict = re.search('class="verdict" style="color:(.*?)">(.*?)</p>', text).groups()
         self.feed(text)
         self.faults += [f"{tag} is open" for tag in self.open]
 
@@ -96,6 +97,15 @@ def numbers_lead_to_lines(program):
     wanted = sorted([lines[2:6], lines[2:6], asked_both, asked_both, asked_both, lines[1:5]])
     yield "4", sorted(page.lines_of("4")), wanted
     yield "2", page.lines_of("2"), [lines[4:6]]
+
+
+def the_verdict_is_at_the_head(program):
+    for capture, colour, said in (
+        ("answers", "#2f7d32", "All answers are right: 9"),
+        ("kept_before", "#b26a00", "No answer is different; open: 3 of 5"),
+        ("codes_changed", "#c6402f", "Different answers: 3 of 4"),
+    ):
+        yield capture, paged(program, f"{capture}.pcap")[0].verdict, (colour, said)
 
 
 def a_file_that_was_there(program):

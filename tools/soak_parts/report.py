@@ -63,7 +63,7 @@ def faults(judge, found, explanations):
     """All faults, a line each."""
     yield from (f"by the zones: {fault}" for fault in judge.faults)
     for each in explanations:
-        yield from (f"by the step: {fault}" for fault in each.faults())
+        yield from (f"by the claim: {fault}" for fault in each.faults())
     for number, life in enumerate(found.lives, 1):
         yield from (f"life {number}: {fault}" for fault in life.faults())
     if len(judge.undue) * MOST_UNDUE > sum(judge.counts.values()):

@@ -1,12 +1,13 @@
 //! The service: a forwarder over sockets, both of one configuration.
 
-ghost use Rattle.std.specs.Prelude.{◌≡◌, IfOk, IfErr, OnOk};
+ghost use Rattle.std.specs.Prelude.{◌≡◌, ◌<◌, ◌-◌, ◌^◌, IfOk, IfErr, OnOk};
 ghost use Rattle.replay_script.specs.StepTable.Steps.{initial};
 ghost use Rattle.wires.specs.Wire.{journal};
 ghost use Rattle.replay_script.specs.Configs.{IsOfStream};
 ghost use Rattle.forwarder_commands.specs.Commands.{IsFaultOfStream};
 ghost use Rattle.forwarder_commands.specs.Service.{IsWireOf, ServesAndReports, ServesFrom, StopsServing};
 ghost use Rattle.forwarder_commands.specs.Service.{journal_of};
+ghost use Rattle.socket_wire.specs.History.{IsOfCalls};
 
 use crate::counted::Counted;
 use crate::fault::Fault;
@@ -80,6 +81,8 @@ fn forwarder_of<R: RandomSource, A: Allocator + Copy>(
 
 /// Serves `turns` turns over sockets with a forwarder of one configuration with its wire. What the
 /// wire gave from then on is what the turns took, and what they put is what it was asked to do.
+/// All that the wire ever gave and took, the system's calls gave and were asked, in their order, as
+/// long as its count of faults is below the last value.
 fn serve_as_one<R: Net + Clock, A: Allocator + Copy, T: Write>(
     alloc: A,
     wire: &mut MioWire<'_, R, A>,
@@ -93,8 +96,11 @@ fn serve_as_one<R: Net + Clock, A: Allocator + Copy, T: Write>(
     ensures serves { OnOk result (ServesAndReports forwarder.old (journal_of wire.old) turns forwarder.new
         (journal_of wire.new) (T.contents writer.old) (T.contents writer.new)) }
     ensures fault { IfErr result IsFaultOfStream }
+    ensures calls { wire.new.faults < 2 ^ 64 - 1 → IsOfCalls A wire.new }
 {
-    serve_and_report(alloc, wire, forwarder, turns, writer)
+    let served = serve_and_report(alloc, wire, forwarder, turns, writer);
+    wire.is_of_calls();
+    served
 }
 
 /// Serves `turns` turns over a wire, and writes a line with the counts.

@@ -1,7 +1,9 @@
 -- The effect of an action on the sockets of asks and on the connections.
 use Rattle.std.specs.Prelude.{◌≡◌, ℕ, ◌⊎◌, Bool, true, false, not, List, [], ◌∷◌, ◌++◌, Option, Some, None}
 use Rattle.std.specs.Prelude.{Result, Ok, Err, is_ok, if◌then◌else◌}
+use Rattle.std.specs.IoError.{error_kind}
 use Rattle.std.specs.declared.io.Error.{Error}
+use Rattle.std.specs.declared.io.ErrorKind.TheVariants.{OutOfMemory}
 use Rattle.std.specs.declared.net.socket_addr.SocketAddr.{SocketAddr}
 use Rattle.system_calls.specs.Call.{Call, begin, send_to, watch_stream}
 use Rattle.system_calls.specs.declared.sockets.DatagramSocket.{DatagramSocket}
@@ -27,8 +29,8 @@ use Rattle.stream_connections.specs.Open.{without_server}
 use Rattle.stream_connections.specs.Queries.{IsBegunWith}
 use Rattle.stream_connections.specs.Serving.{is_over}
 
--- The calls that begin a connection, and have it watched. A refusal is the last call. Out of
--- memory, none is made.
+-- The calls that begin a connection, and have it watched. A refusal is the last call. None is made
+-- only out of memory.
 abbrev pub BeginsOn : {A : Type 0} → (conn : ℕ) (server : Peer) (query : List ℕ)
     → Result (ServerStream A) Error → (before after : List Call) → Type 0
 BeginsOn conn server query (Ok connection) before after =
@@ -37,7 +39,7 @@ BeginsOn conn server query (Ok connection) before after =
     × Watches (Server conn) (λ token interest. watch_stream stream token interest (Ok tt))
     (before ++ begin to (Ok stream) ∷ []) after
 BeginsOn conn server query (Err error) before after =
-    (after ≡ before)
+    ((error_kind error ≡ OutOfMemory) × (after ≡ before))
     ⊎ ((to : SocketAddr) × IsAddressOf server to
     × ((after ≡ before ++ begin to (Err error) ∷ [])
     ⊎ ((stream : Stream)

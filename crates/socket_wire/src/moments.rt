@@ -46,8 +46,9 @@ impl<'a, R: Clock> Moments<'a, R> {
         ensures rises { self.old.last ≤ self.new.last }
         ensures reads { ReadsOnce self.old.is_read self.old.started self.old.last self.new.last
             calls.old calls.new }
-        ensures same { self.new.started ≡ self.old.started }
         ensures notes { self.new.given.calls ≡ self.old.given.calls ++ (result, tt) ∷ [] }
+        ensures rest { self.new
+            ≡ record self.old { last = self.new.last; is_read = true; given = self.new.given } }
     {
         let now = self.now(calls);
         self.given = self.given.and(&now, &());

@@ -87,6 +87,11 @@ impl<'a, R: Net, A: Allocator + Copy> Noted<'a, R, A> {
             self.old.sockets.calls self.new.sockets.calls }
         ensures report { result ≡ moments.new.last }
         ensures notes { moments.new.given.calls ≡ moments.old.given.calls ++ (result, tt) ∷ [] }
+        ensures moments { moments.new ≡ record moments.old {
+          last = moments.new.last;
+          is_read = true;
+          given = moments.new.given;
+        } }
         ensures rest { self.new ≡ record self.old {
           sockets = record self.old.sockets { calls = self.new.sockets.calls };
         } }
@@ -110,6 +115,7 @@ impl<'a, R: Net, A: Allocator + Copy> Noted<'a, R, A> {
     pub fn words(&mut self) -> [u32; 8]
         ensures gives { GivesWords result self.old.sockets.words self.new.sockets.words }
         ensures notes { self.new.log ≡ self.old.log then words_were result }
+        ensures rest { self.new.sockets ≡ record self.old.sockets { words = self.new.sockets.words } }
     {
         let words = self.sockets.words();
         self.log.words(words);

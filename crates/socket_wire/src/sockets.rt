@@ -177,8 +177,12 @@ impl<'a, R: Net, A: Allocator + Copy> Sockets<'a, R, A> {
         ensures reads { ReadsOnce moments.old.is_read moments.old.started moments.old.last result
             self.old.calls self.new.calls }
         ensures report { result ≡ moments.new.last }
-        ensures same { moments.new.started ≡ moments.old.started }
         ensures notes { moments.new.given.calls ≡ moments.old.given.calls ++ (result, tt) ∷ [] }
+        ensures moments { moments.new ≡ record moments.old {
+          last = moments.new.last;
+          is_read = true;
+          given = moments.new.given;
+        } }
         ensures rest { self.new ≡ record self.old { calls = self.new.calls } }
     {
         moments.give(&mut self.calls)

@@ -1,7 +1,8 @@
 //! The wire.
 
-ghost use Rattle.std.specs.Prelude.{◌≡◌, ◌+◌, Some, IfOk, OnErr, OnOk};
+ghost use Rattle.std.specs.Prelude.{◌≡◌, ◌<◌, ◌+◌, ◌-◌, ◌^◌, Some, IfOk, OnErr, OnOk};
 ghost use Rattle.wires.specs.Wire.{silence};
+ghost use Rattle.socket_wire.specs.History.{IsOfCalls};
 ghost use Rattle.socket_wire.specs.Listening.{IsOpenedAt};
 
 use crate::answers::kept_if;
@@ -33,6 +34,8 @@ pub struct MioWire<'a, R: Net + Clock, A: Allocator = Global> {
 }
 
 impl<'a, R: Net + Clock, A: Allocator> Model for MioWire<'a, R, A> {
+    ghost use Rattle.std.specs.Prelude.{◌<◌, ◌-◌, ◌^◌};
+    ghost use Rattle.socket_wire.specs.History.{Lives};
     ghost use Rattle.socket_wire.specs.Seen.{SeenWire, with_moments};
 
     ghost Value = { SeenWire };
@@ -44,6 +47,15 @@ impl<'a, R: Net + Clock, A: Allocator> Model for MioWire<'a, R, A> {
       calls = w.sockets.sockets.calls;
       words = w.sockets.sockets.words;
     } };
+
+    ghost invariant = { λ w. w.faults < 2 ^ 64 - 1 → Lives (record {
+      sockets = w.sockets.sockets;
+      started = w.moments.started;
+      last = w.moments.last;
+      is_read = w.moments.is_read;
+      log = w.sockets.log;
+      given = w.moments.given.calls;
+    }) };
 }
 
 impl<'a, R: Net + Clock + RandomSource, A: Allocator + Copy> MioWire<'a, R, A> {
@@ -67,6 +79,16 @@ impl<'a, R: Net + Clock + RandomSource, A: Allocator + Copy> MioWire<'a, R, A> {
             moments,
             faults: 0,
         })
+    }
+}
+
+impl<R: Net + Clock, A: Allocator + Copy> MioWire<'_, R, A> {
+    /// Does nothing. What the wire gave and took since its opening, its calls gave and were asked,
+    /// in order, as long as its count of faults is below the last value.
+    pub fn is_of_calls(&self)
+        ensures { self.now.faults < 2 ^ 64 - 1 → IsOfCalls A self.now }
+    {
+        let _faults = self.faults;
     }
 }
 

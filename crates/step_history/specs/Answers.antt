@@ -11,9 +11,9 @@ use Rattle.cache_laws.specs.Replacing.{AreOfOneSlot}
 use Rattle.step_values.specs.declared.event.Client.{Client}
 use Rattle.step_history.specs.History.{Look, moment_at}
 use Rattle.step_history.specs.Carried.{Justified}
+use Rattle.step_history.specs.Questions.{for_name}
 use Rattle.step_history.specs.Replies.{answer_text, cut_text, sized_for, FitsTransport}
 use Rattle.answer_builder.specs.Values.{asked_in}
-use Rattle.dns_message.specs.Questions.{asked_at}
 
 -- the piece has this name, without letter case, and this class and type
 abbrev pub IsOf : Piece → List (List ℕ) → ℕ → Option ℕ → Type 0
@@ -31,7 +31,7 @@ abbrev pub FollowsAliases : Look → Question → List Held → Question → Typ
 FollowsAliases l q [] last = last ≡ q
 FollowsAliases l q (o ∷ os) last =
     (q.kind ≢ 5) × Justified l q.name o × IsOf o.piece q.name q.class (Some 5)
-    × (name : List (List ℕ)) × IsAliasTo o.piece name × FollowsAliases l (asked_at q name) os last
+    × (name : List (List ℕ)) × IsAliasTo o.piece name × FollowsAliases l (for_name q name) os last
 
 -- the piece is q's set, q's NODATA (RFC 2308 2), or a name error at or above q's name (RFC 8020 2)
 abbrev pub EndsChain : Question → Piece → Body → Type 0

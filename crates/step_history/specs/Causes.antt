@@ -12,13 +12,14 @@ use Rattle.step_values.specs.declared.action.Why.TheVariants.{Answered, BadForma
 use Rattle.step_values.specs.declared.action.Why.TheVariants.{QuestionsFull, InquiriesFull, NoPort, Exhausted, Deadline}
 use Rattle.step_values.specs.declared.action.Why.TheVariants.{ChainLong, TooLarge, Stale, LocalDenied}
 use Rattle.step_values.specs.Values.{path_failed, tick, Action, SentAsk, ask_in, Step}
-use Rattle.dns_message.specs.Questions.{same_question, is_unserved}
+use Rattle.dns_message.specs.Questions.{same_question}
 use Rattle.dns_message.specs.Header.{header_in}
 use Rattle.trust_rank.specs.Values.{Piece}
 use Rattle.record_cache.specs.Values.{Held}
 use Rattle.step_history.specs.History.{is_restart, before_newest, Look, ShownAsk, listed, on_path, closes_path}
 use Rattle.step_history.specs.History.{tcp_asks, moment_at, Matches, Carries, NothingAccepted, Reads}
 use Rattle.step_history.specs.Answers.{FollowsAliases, Leads, Chain}
+use Rattle.step_history.specs.Questions.{IsUnserved}
 use Rattle.step_history.specs.Stale.{StaleChain}
 use Rattle.step_history.specs.Local.{ChainToLocal}
 use Rattle.step_history.specs.Replies.{answer_text, full_text, stale_sections, denied_sections}
@@ -135,7 +136,7 @@ pub record HasNoRoute (l : Look) (octets : List ℕ) : Type 0 where
   pub opcode : (header_in octets).opcode ≡ 0
   pub question : Question
   pub reads : Reads octets question
-  pub served : is_unserved question ≡ false
+  pub served : IsUnserved question → ⊥
   pub aliases : List Held
   pub last : Question
   pub leads : Leads l question aliases last
@@ -148,7 +149,7 @@ pub record AsksUnserved (l : Look) (octets : List ℕ) : Type 0 where
   pub opcode : (header_in octets).opcode ≡ 0
   pub question : Question
   pub reads : Reads octets question
-  pub unserved : is_unserved question ≡ true
+  pub unserved : IsUnserved question
 
 -- at once: as many asks are listed as may be, and none of them is for the question, or for the one
 -- that aliases lead to

@@ -1,7 +1,7 @@
 -- A history: the list of its steps, the newest first. A claim about a step is a claim about the
 -- list from this step on.
 use Rattle.std.specs.Prelude.{◌≡◌, ◌≢◌, ℕ, ◌+◌, ◌^◌, ◌<◌, ◌≤◌, Bool, true, false, if◌then◌else◌, not, min, max, List, []}
-use Rattle.std.specs.Prelude.{◌∷◌, ◌++◌, length, filter, Option, Some, None, ◌⊎◌}
+use Rattle.std.specs.Prelude.{◌∷◌, ◌++◌, length, filter, slice_index, Option, Some, None, ◌⊎◌}
 use Rattle.std.specs.List.{find, list_any}
 use Rattle.dns_message.specs.Values.{Question, Message}
 use Rattle.dns_message.specs.Messages.{Spells}
@@ -135,6 +135,7 @@ pub record Matches (c : Config) (s : Step) (past : List Step) (ask : ShownAsk) (
   pub not_too_long : length octets ≤ 65535
   pub is_reply : (header_in octets).qr ≡ true
   pub opcode : (header_in octets).opcode ≡ 0
+  pub questions : slice_index (header_in octets).counts 0 ≡ 1
   -- the ask's own text gives its identifier and question
   pub identifier : (header_in octets).id ≡ (header_in ask.octets).id
   pub ask_reads : Reads ask.octets asked

@@ -1,4 +1,5 @@
 pub mod History
+pub mod Questions
 pub mod Carried
 pub mod Replies
 pub mod Answers
@@ -9,6 +10,7 @@ pub mod Causes
 pub mod Sound
 pub mod Asked
 pub mod Given
+pub mod Turns
 pub mod Accounting
 pub mod Laws
 pub use Rattle.cache_laws.specs as CacheLaws

@@ -9,11 +9,12 @@ use Rattle.step_values.specs.declared.event.Client.{Client}
 use Rattle.step_values.specs.declared.action.Why.{Why}
 use Rattle.step_values.specs.declared.action.Why.TheVariants.{Answered, BadFormat, BadOpcode, Stale, LocalDenied}
 use Rattle.step_values.specs.Values.{Request, request_in, Action, SentReply, reply_in_action, Step}
-use Rattle.dns_message.specs.Questions.{same_question, is_unserved}
+use Rattle.dns_message.specs.Questions.{same_question}
 use Rattle.dns_message.specs.Header.{header_in}
 use Rattle.step_history.specs.History.{is_restart, InEra, moment_at, Look, NothingAccepted, Reads, Sends}
 use Rattle.step_history.specs.History.{takes_question}
 use Rattle.step_history.specs.Answers.{Answers}
+use Rattle.step_history.specs.Questions.{IsUnserved}
 use Rattle.step_history.specs.Replies.{failure_text}
 use Rattle.answer_builder.specs.Values.{asked_in}
 use Rattle.step_history.specs.Stale.{StaleAnswers}
@@ -46,7 +47,7 @@ pub record RightAnswer (l : Look) (client : Client) (request octets : List ℕ) 
   pub opcode : (header_in request).opcode ≡ 0
   pub question : Question
   pub reads : Reads request question
-  pub served : is_unserved question ≡ false
+  pub served : IsUnserved question → ⊥
   pub answers : Answers l client (header_in request) question octets
 
 -- opcode 0, a served type and class, `AllTriesFailed`, a window, and octets that answer with
@@ -54,7 +55,7 @@ pub record RightAnswer (l : Look) (client : Client) (request octets : List ℕ) 
 pub record RightStaleAnswer (l : Look) (client : Client) (request octets : List ℕ) : Type 0 where
   pub opcode : (header_in request).opcode ≡ 0
   pub tries : AllTriesFailed l request
-  pub served : is_unserved tries.question ≡ false
+  pub served : IsUnserved tries.question → ⊥
   pub window : 1 ≤ l.config.limits.stale_s
   pub answers : StaleAnswers l client (header_in request) tries.question tries.aliases tries.last octets
 
@@ -63,7 +64,7 @@ pub record RightLocalAnswer (l : Look) (client : Client) (request octets : List 
   pub opcode : (header_in request).opcode ≡ 0
   pub question : Question
   pub reads : Reads request question
-  pub served : is_unserved question ≡ false
+  pub served : IsUnserved question → ⊥
   pub answers : LocalAnswers l client (header_in request) question octets
 
 -- the right kind of answer for the reason, otherwise an error response with its `Cause`

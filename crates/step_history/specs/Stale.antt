@@ -11,7 +11,7 @@ use Rattle.step_values.specs.declared.event.Client.{Client}
 use Rattle.step_history.specs.History.{before_newest, Look, moment_at}
 use Rattle.step_history.specs.Carried.{CarriedInEra, NotReplaced}
 use Rattle.step_history.specs.Answers.{IsOf, IsAliasTo}
-use Rattle.dns_message.specs.Questions.{asked_at}
+use Rattle.step_history.specs.Questions.{for_name}
 use Rattle.step_history.specs.Replies.{full_text, short_text, stale_sections, sized_for, FitsTransport}
 use Rattle.answer_builder.specs.Values.{asked_in}
 
@@ -41,7 +41,7 @@ abbrev pub FollowsStale : Look → Question → List Held → Question → Type 
 FollowsStale l q [] last = last ≡ q
 FollowsStale l q (o ∷ os) last =
     (q.kind ≢ 5) × JustifiedStale l q.name o × IsOf o.piece q.name q.class (Some 5)
-    × (name : List (List ℕ)) × IsAliasTo o.piece name × FollowsStale l (asked_at q name) os last
+    × (name : List (List ℕ)) × IsAliasTo o.piece name × FollowsStale l (for_name q name) os last
 
 -- after the held aliases, such aliases and a set answer q; at most eight in all
 pub record StaleChain (l : Look) (held : List Held) (q : Question) (found : List Held) (o : Held) : Type 0 where

@@ -1,6 +1,8 @@
 //! The connections of asks.
 
-ghost use Rattle.std.specs.Prelude.{◌≡◌, IfOk};
+ghost use Rattle.std.specs.IoError.{error_kind};
+ghost use Rattle.std.specs.Prelude.{◌≡◌, IfErr, IfOk};
+ghost use Rattle.std.specs.declared.io.ErrorKind.TheVariants.{OutOfMemory};
 ghost use Rattle.tcp_frames.specs.Frames.{framed};
 ghost use Rattle.stream_connections.specs.Queries.{IsWithin, ServesQuery};
 ghost use Rattle.stream_connections.specs.Streams.{HearsAfter};
@@ -15,9 +17,11 @@ use system_calls::{Calls, Stream};
 use tcp_frames::{Unsent, frame};
 
 /// The octets of a query over TCP: its length in two octets, then the query (RFC 1035 4.2.2). `Err`
-/// if memory ran out, or the query is longer than 65,535 octets.
+/// of the kind `OutOfMemory` if memory ran out, or the query is longer than 65,535 octets.
 pub fn unsent_query<A: Allocator + Copy>(alloc: A, query: &[u8]) -> io::Result<Unsent<A>>
-    ensures { IfOk result (λ unsent. unsent ≡ record { left = framed query.now; taken = 0 }) }
+    ensures made { IfOk result (λ unsent. unsent
+        ≡ record { left = framed query.now; taken = 0 }) }
+    ensures err { IfErr result (λ error. error_kind error ≡ OutOfMemory) }
 {
     let Ok(framed) = frame(alloc, query) else {
         return Err(io::Error::from(ErrorKind::OutOfMemory));

@@ -35,6 +35,7 @@ use Rattle.step_table.specs.Clients.{without_server, fate_missed, fate_at}
 use Rattle.theorem_cache.specs.Kept.{CanBeWrittenAt, CanBeRepeated, SpellsSections, SpellsAnswer}
 use Rattle.theorem_cache.specs.Chains.{look_from, EndsRight, IsSized, IsRightStale}
 use Rattle.theorem_sound.specs.Explains.{Comes, Waits}
+use Rattle.theorem_sound.proofs.Served.{served_is}
 use Rattle.theorem_sound.proofs.AskText.{read_well}
 use Rattle.theorem_cache.proofs.CallerLemmas.{answers_are_spelled, stale_answers_are_spelled, local_answers_are_spelled}
 use Rattle.step_table.proofs.CallerLemmas.{All-append}
@@ -140,7 +141,7 @@ answer_owned c n now x i k is aliases end chain can_write = sized_owned c now x 
           opcode = k.opcode;
           question = k.question;
           reads = k.reads;
-          served = k.served;
+          served = served_is k.question k.served;
           answers = record {
             aliases = aliases;
             end = end;
@@ -212,7 +213,7 @@ stale_owned c n now x i k is leads failed none window can_write most found room 
         record {
           opcode = k.opcode;
           tries = tries;
-          served = k.served;
+          served = served_is k.question k.served;
           window = window;
           answers = record {
             found = past;
@@ -262,7 +263,7 @@ local_owned c n now x i k is aliases chain can_write = sized_owned c now x i k L
           opcode = k.opcode;
           question = k.question;
           reads = k.reads;
-          served = k.served;
+          served = served_is k.question k.served;
           answers = record {
             aliases = aliases;
             chain = chain;
@@ -296,7 +297,7 @@ without_server_owned c n now x i k is aliases last leads none at_once can_write 
         opcode = k.opcode;
         question = k.question;
         reads = k.reads;
-        served = k.served;
+        served = served_is k.question k.served;
         aliases = aliases;
         last = last;
         leads = leads;

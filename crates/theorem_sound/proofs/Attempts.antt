@@ -11,7 +11,7 @@ use Rattle.step_table.specs.Attempts.{group_of, servers_in, peer_at}
 
 -- ---- servers
 
-group_there : (o : Option Route) (server : ℕ) (p : Peer) → slice_get (servers_in o) server ≡ Some p → (r : Route) × (o ≡ Some r) × (slice_get r.servers server ≡ Some p)
+pub group_there : (o : Option Route) (server : ℕ) (p : Peer) → slice_get (servers_in o) server ≡ Some p → (r : Route) × (o ≡ Some r) × (slice_get r.servers server ≡ Some p)
 group_there None server p e = absurd (cc)
 group_there (Some r) server p e = (r, refl, e)
 

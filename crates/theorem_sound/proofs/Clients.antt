@@ -46,6 +46,7 @@ use Rattle.step_table.proofs.CallerLemmas.{All-append, still_earlier, IsAskBy, a
 use Rattle.theorem_sound.proofs.Answering.{IsTold, answered_told, answer_owned, without_server_owned, without_server_fails}
 use Rattle.theorem_sound.proofs.Actions.{OwnsReply, asks_answer_none}
 use Rattle.theorem_sound.proofs.Redirecting.{question_led}
+use Rattle.theorem_sound.proofs.Served.{unserved_is}
 use Rattle.theorem_sound.proofs.AskText.{read_well}
 use Rattle.theorem_sound.proofs.Listed.{drawn-shown}
 use Rattle.theorem_sound.proofs.Matching.{is_full, has_room}
@@ -398,7 +399,7 @@ module _ (c : Config) (past : List Step) (w : List (List ℕ)) (s : State) (x : 
   asked takes opcode None none = refused s.cache x.cache _ BadFormat takes (λ e. cc) (refl, (refl, opcode, λ q reads. let e : None ≡ Some q = sym none ∙ reads in absurd (cc)))
   asked takes opcode (Some q) reads =
       cond_both (is_unserved q) _ _ P
-      (λ t. refused s.cache x.cache _ NotServed takes (λ e. cc) ((q, reads, refl), record { at_once = refl; opcode = opcode; question = q; reads = reads; unserved = t }))
+      (λ t. refused s.cache x.cache _ NotServed takes (λ e. cc) ((q, reads, refl), record { at_once = refl; opcode = opcode; question = q; reads = reads; unserved = unserved_is q t }))
       (λ f. routed takes opcode q reads f (serving_route_of c q.name) refl)
 
   pub client_explained : P (row_of_request (start c n words s) client request)

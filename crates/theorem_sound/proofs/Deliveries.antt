@@ -54,7 +54,7 @@ use Rattle.theorem_sound.proofs.Names.{same_peer-is}
 use Rattle.theorem_sound.proofs.Messages.{spells_read, read_spells, read_header}
 use Rattle.theorem_sound.proofs.Listed.{on_path-shown, shown_from}
 use Rattle.step_table.proofs.CallerLemmas.{ask_on-is, without_shorter, IsFresh, drawn_fresh, free_now, still_earlier, draws_left, IsAskBy, ask_by-some, ask_by-none, udp-some, udp-none, peer_within, preferred_peer, preferred_put, none_same}
-use Rattle.theorem_sound.proofs.Matching.{judged_parts, judged_match, match_facts}
+use Rattle.theorem_sound.proofs.Matching.{judged_parts, judged_match, match_facts, one_counted}
 use Rattle.theorem_sound.proofs.Asking.{none_asks}
 use Rattle.theorem_sound.proofs.Nexts.{IsNext, next_tried, next_right, MayFollow}
 use Rattle.theorem_sound.proofs.Tries.{next_asks, settled_sends, other_asks}
@@ -215,7 +215,7 @@ module _ (c : Config) (past : List Step) (w : List (List ℕ)) (s : State) (x : 
     shown_on = ap (on_path a.path) (sym x.asks) ∙ on_path-shown a.path s.asks ∙ ap (option_map shown) on_own
 
     -- a reply with a verdict other than `Stranger` matches the ask
-    matches_it : nat_lt n (timeout_of c a) ≡ true → matches a from octets ≡ true → (actions : List Action) → Matches c (can_write actions) past (shown a) octets a.question
+    pub matches_it : nat_lt n (timeout_of c a) ≡ true → matches a from octets ≡ true → (actions : List Action) → Matches c (can_write actions) past (shown a) octets a.question
     matches_it live matched actions =
         let facts = match_facts a from octets matched in
         record {
@@ -226,6 +226,7 @@ module _ (c : Config) (past : List Step) (w : List (List ℕ)) (s : State) (x : 
           not_too_long = facts.not_too_long;
           is_reply = facts.is_reply;
           opcode = facts.opcode;
+          questions = one_counted octets facts.question facts.reads;
           identifier = facts.identifier ∙ sym tried_a.identifier;
           ask_reads = tried_a.reads;
           question = facts.question;

@@ -60,7 +60,7 @@ pub fails_speak : (why : Why) (q : Question) (xs : List Waiting) → AllByRecurs
 fails_speak why q [] = tt
 fails_speak why q (x ∷ xs) = (cond_both (waits_for q x) (gets (gives_up why x)) (waits x) Speaks (λ _. tt) (λ _. tt), fails_speak why q xs)
 
-sends_speak : (why : Why) (x : Waiting) (r : Result (List ℕ) Fault) → Speaks (gets (sends why x r))
+pub sends_speak : (why : Why) (x : Waiting) (r : Result (List ℕ) Fault) → Speaks (gets (sends why x r))
 sends_speak why x (Ok text) = tt
 sends_speak why x (Err fault) = tt
 
@@ -69,7 +69,7 @@ past_speaks n x None = tt
 past_speaks n x (Some found) = sends_speak Stale x (stale_answer_of x.asked (x.held ++ found) (length x.held) n (transport_of x.client))
 
 -- so is the last possible reply
-runs_out_speak : (c : Config) (n : ℕ) (entries : List Held) (q : Question) (xs : List Waiting) → AllByRecursion Speaks (map (runs_out c n entries q) xs)
+pub runs_out_speak : (c : Config) (n : ℕ) (entries : List Held) (q : Question) (xs : List Waiting) → AllByRecursion Speaks (map (runs_out c n entries q) xs)
 runs_out_speak c n entries q [] = tt
 runs_out_speak c n entries q (x ∷ xs) = (cond_both (waits_for q x) (gets (with_stale_ttl n x (found_stale c n entries x))) (waits x) Speaks (λ _. past_speaks n x (found_stale c n entries x)) (λ _. tt), runs_out_speak c n entries q xs)
 

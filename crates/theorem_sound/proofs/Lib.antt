@@ -3,6 +3,7 @@ pub mod Numbers
 pub mod Names
 pub mod AskText
 pub mod Messages
+pub mod Served
 pub mod Listed
 pub mod Asking
 pub mod Due

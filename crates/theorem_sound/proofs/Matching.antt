@@ -1,6 +1,6 @@
 -- The facts implied by a verdict.
 use Rattle.std.proofs.Common.{◌≡◌, ℕ, ◌+◌, ◌≤◌, List, length, Bool, true, false, refl, sym, ◌∙◌, subst, arith, Option, Some, None}
-use Rattle.std.specs.Prelude.{◌==◌, ◌&&◌, ◌||◌, nat_le}
+use Rattle.std.specs.Prelude.{◌==◌, ◌&&◌, ◌||◌, nat_le, slice_index}
 use Rattle.std.proofs.lemmas.Bool.{and_parts, leb-true, le-leb, cond-true, cond-false, eqb-true, false≢true}
 use Rattle.dns_message.specs.Values.{Question}
 use Rattle.suffix_routes.specs.declared.peer.Peer.{Peer}
@@ -42,6 +42,18 @@ judged_match from octets a v e known = by (matches a from octets) refl
     by : (b : Bool) → matches a from octets ≡ b → matches a from octets ≡ true
     by true m = m
     by false m = absurd (subst IsNoStranger (sym e ∙ cond-false (matches a from octets) _ _ m) known)
+
+-- the only question is the only one counted
+pub one_counted : (octets : List ℕ) (q : Question) → one_question octets ≡ Some q
+    → slice_index (header_in octets).counts 0 ≡ 1
+one_counted octets q reads = by (slice_index (header_in octets).counts 0 == 1) refl
+  where
+    by : (b : Bool) → (slice_index (header_in octets).counts 0 == 1) ≡ b → slice_index (header_in octets).counts 0 ≡ 1
+    by true one = eqb-true (slice_index (header_in octets).counts 0) 1 one
+    by false other = absurd (none (sym (cond-false (slice_index (header_in octets).counts 0 == 1) _ _ other) ∙ reads))
+      where
+        none : ◌≡◌ {A = Option Question} None (Some q) → ⊥
+        none e = absurd cc
 
 -- the parts of a match, as facts
 pub record MatchFacts (a : Ask) (from : Peer) (octets : List ℕ) : Type 0 where

@@ -17,6 +17,9 @@ pub mod Asked
 pub mod AskRows
 pub mod AskHistory
 pub mod Given
+pub mod Cuts
+pub mod TurnRows
+pub mod Turns
 pub mod Theorem
 pub mod InTime
 pub mod CallerLemmas

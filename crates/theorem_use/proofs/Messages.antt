@@ -30,6 +30,8 @@ use Rattle.step_table.specs.Clients.{row_of_request}
 use Rattle.alias_chains.specs.LookingUp.{ends, LookUp, look_up}
 use Rattle.theorem_sound.specs.TheoremCache.Kept.{IsKept}
 use Rattle.theorem_sound.proofs.TheoremCache.CallerLemmas.{all_among}
+use Rattle.step_history.proofs.CacheLaws.CallerLemmas.{serves_exactly}
+use Rattle.theorem_sound.proofs.CallerLemmas.{served_is, served_so}
 use Rattle.theorem_sound.specs.Explains.{Explains}
 use Rattle.theorem_use.specs.Use.{AsksToLookUp}
 use Rattle.theorem_use.specs.Touched.{Touched, carried_in, TouchedInEra, LeadsAlong, AnswersNothing}
@@ -102,7 +104,7 @@ module _ (c : Config) (past : List Step) (w : List (List ℕ)) (s : State) (x : 
     looks_up slots k stops says ts era = inl (record {
       client = client;
       question = k.question;
-      asks = record { octets = octets; sends = refl; taken = k.taken; opcode = eqb-true (header_in octets).opcode 0 k.opcode; reads = k.reads; served = k.served; route = k.route; on_route = k.on_route };
+      asks = record { octets = octets; sends = refl; taken = k.taken; opcode = eqb-true (header_in octets).opcode 0 k.opcode; reads = k.reads; served = served_is k.question k.served; route = k.route; on_route = serves_exactly.only c k.question.name k.route k.on_route };
       along = record {
         pieces = led.pieces;
         leads = subst (λ (m : ℕ). LeadsAlong (AnswersNothing t) m ts k.question led.pieces) moment_now led.leads;
@@ -191,9 +193,9 @@ module _ (c : Config) (past : List Step) (w : List (List ℕ)) (s : State) (x : 
       opcode = subst (λ (o : List ℕ). (header_in o).opcode ≡ 0) octets_are asks.opcode;
       question = q;
       reads = subst (λ (o : List ℕ). one_question o ≡ Some q) octets_are asks.reads;
-      served = asks.served;
+      served = served_so q asks.served;
       route = asks.route;
-      on_route = asks.on_route;
+      on_route = serves_exactly.each c q.name asks.route x.config.differ asks.on_route;
       end = leads.0;
       ends_so = leads.1;
     }

@@ -37,7 +37,8 @@ use Rattle.theorem_sound.proofs.TheoremCache.CallerLemmas.{promotions_keep_cache
 use Rattle.step_table.proofs.CallerLemmas.{All-weaker}
 use Rattle.theorem_sound.specs.Explains.{Explains}
 use Rattle.theorem_sound.specs.Runs.{Run}
-use Rattle.theorem_sound.proofs.CallerLemmas.{row_explained, start_explained, IsHeard, heard, heard_carried, carries, offered}
+use Rattle.step_history.proofs.CacheLaws.CallerLemmas.{serves_exactly}
+use Rattle.theorem_sound.proofs.CallerLemmas.{served_so, row_explained, start_explained, IsHeard, heard, heard_carried, carries, offered}
 use Rattle.theorem_use.specs.Standing.{standing}
 use Rattle.theorem_use.specs.Use.{IsOneOf, HasFewSlots, FoundMemory, HasRoom, AsksToLookUp, LeadsToEnd, IsKnown, AnswersAtOnce}
 use Rattle.theorem_use.specs.Touched.{Touched, TouchedInEra}
@@ -50,6 +51,7 @@ use Rattle.theorem_use.proofs.Messages.{message_is, recent_is_hit}
 use Rattle.theorem_use.proofs.AskRows.{GivesIfHeard, event_row}
 use Rattle.theorem_use.proofs.AskHistory.{asks_for_waiting}
 use Rattle.theorem_use.proofs.Given.{ends_asking, all_are_tries}
+use Rattle.theorem_use.proofs.Turns.{turns_after, first_turns}
 use Rattle.theorem_use.proofs.AtOnce.{IsHit, is_hit, hit_is, is_hit_so, IsOwnAnswer, hit_is_owned}
 use Rattle.theorem_use.proofs.Ending.{Ends, look_up_ends}
 use Rattle.theorem_use.proofs.Finding.{finds_the_same}
@@ -218,9 +220,9 @@ module _ (c : Config) (past : List Step) (w : List (List ℕ)) (s : State) (x : 
       opcode = subst (λ (o : List ℕ). (header_in o).opcode ≡ 0) octets_are asks.opcode;
       question = q;
       reads = subst (λ (o : List ℕ). one_question o ≡ Some q) octets_are asks.reads;
-      served = asks.served;
+      served = served_so q asks.served;
       route = asks.route;
-      on_route = asks.on_route;
+      on_route = serves_exactly.each c q.name asks.route x.config.differ asks.on_route;
       end = leads.0;
       ends_so = ap (λ (v : LookUp). v.met) same ∙ leads.1;
     }
@@ -421,6 +423,8 @@ row_fully_explained c past w s h o s' both r = (
           (used.0 ∷ w) used.1,
     );
     tries = (both.tries, all_are_tries c (t ∷ past) (used.0 ∷ w) s' used.1);
+    turns = turns_after c past w s both.explained h.now h.words o.unkept o.more both.turns h.event r.octets d r.happens
+        (used.0 ∷ w) used.1;
   },
 )
   where
@@ -481,6 +485,7 @@ start_fully_explained c config = record {
   asked = tt;
   given = tt;
   tries = tt;
+  turns = first_turns c;
 }
 
 run_fully_explained : (c : Config) (s s' : State) (steps : List Step) (past : List Step) (w : List (List ℕ))
@@ -522,6 +527,8 @@ run_serves_truly c steps s came =
       asks = one.explained.asked_well;
       given = one.given;
       tries = one.tries;
+      places = one.turns.places;
+      turns = one.turns.turns;
       waiting = one.asked;
       uses = one.mirrored.uses;
       used = one.recent.used;

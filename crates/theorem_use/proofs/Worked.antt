@@ -23,6 +23,8 @@ use Rattle.step_values.specs.Values.{tick, restart, Event, Step}
 use Rattle.step_history.specs.History.{Sends}
 use Rattle.step_history.specs.Carried.{CarriedInEra}
 use Rattle.step_history.specs.Sound.{RightReply}
+use Rattle.step_history.proofs.CacheLaws.CallerLemmas.{serves_exactly}
+use Rattle.theorem_sound.proofs.CallerLemmas.{served_is}
 use Rattle.step_table.specs.State.{State}
 use Rattle.step_table.specs.Steps.{initial}
 use Rattle.step_table.proofs.Played.{server, client, config}
@@ -239,9 +241,9 @@ looks_up octets = record {
   taken = refl;
   opcode = refl;
   reads = refl;
-  served = refl;
+  served = served_is (address a) refl;
   route = 0;
-  on_route = refl;
+  on_route = serves_exactly.only config a 0 refl;
 }
 
 room : HasRoom config before carried
@@ -352,6 +354,8 @@ nothing_ran = record {
   asks = tt;
   given = tt;
   tries = tt;
+  places = [];
+  turns = tt;
   waiting = tt;
   uses = tt;
   used = [];

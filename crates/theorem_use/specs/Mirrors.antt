@@ -9,6 +9,8 @@ use Rattle.record_cache.specs.Laws.{Among}
 use Rattle.step_values.specs.Values.{StepInput, Outcome, Step}
 use Rattle.step_history.specs.Carried.{CarriedInEra}
 use Rattle.step_history.specs.Given.{GivesWhatCame, AsksFewTimes}
+use Rattle.step_history.specs.Turns.{AskedAt, IsPreferred, AsksInTurn}
+use Rattle.step_table.specs.Attempts.{preferred_on}
 use Rattle.step_table.specs.State.{State}
 use Rattle.theorem_sound.specs.TheoremCache.Kept.{IsKept}
 use Rattle.theorem_sound.specs.Explains.{Explains}
@@ -51,8 +53,16 @@ pub record HasRecent (c : Config) (past : List Step) (w : List (List ℕ)) (s : 
   pub keeps : (ts : List Touched) → TouchedInEra c past used ts → KeepsRecent c s.moment ts s.cache.entries
   pub uses : UsesWhatIsRecent c past w used
 
+-- With some places of the steps, the asks took their turns. The state has the place of each listed
+-- ask's server, and of each route's preferred server.
+pub record HasTurns (c : Config) (past : List Step) (s : State) : Type 0 where
+  pub places : List ℕ
+  pub turns : AsksInTurn c past places
+  pub asked : AllByRecursion (λ a. AskedAt a.question past places a.server) s.asks
+  pub prefers : (route : ℕ) → IsPreferred c route past places (preferred_on s route)
+
 -- `Explains`, `IsMirrored`, `HasRecent`, `AreServed` and `AsksForThoseWhoWait`, with the same
--- owners, `GivesWhatCame` and `AsksFewTimes`
+-- owners, `GivesWhatCame`, `AsksFewTimes` and `HasTurns`
 pub record FullyExplains (c : Config) (past : List Step) (w : List (List ℕ)) (s : State) : Type 0 where
   pub explained : Explains c past w s
   pub mirrored : IsMirrored c past w s
@@ -61,6 +71,7 @@ pub record FullyExplains (c : Config) (past : List Step) (w : List (List ℕ)) (
   pub asked : AsksForThoseWhoWait c past w
   pub given : GivesWhatCame c past
   pub tries : AsksFewTimes c past
+  pub turns : HasTurns c past s
 
 -- a history that fully explains s, and this step, fully explain s' for some owners
 abbrev pub StaysFullyExplained : Config → State → StepInput → Outcome → State → Type 0

@@ -4,7 +4,7 @@ use Rattle.std.specs.Prelude.{◌≡◌, ◌≢◌, ℕ, zero, suc, ◌+◌, ◌
 use Rattle.std.specs.Prelude.{Some, ◌⊎◌}
 use Rattle.std.specs.List.{concat, AllByRecursion}
 use Rattle.dns_message.specs.Values.{Question}
-use Rattle.dns_message.specs.Questions.{asked_at}
+use Rattle.step_history.specs.Questions.{for_name}
 use Rattle.suffix_routes.specs.Values.{Config}
 use Rattle.trust_rank.specs.declared.slot.Slot.{Slot}
 use Rattle.trust_rank.specs.Values.{rows}
@@ -93,7 +93,7 @@ IsAnsweredByRecent c n ts zero q = (o : Held) × IsReadyEnd c n ts q o
 IsAnsweredByRecent c n ts (suc more) q =
     ((o : Held) × IsReadyEnd c n ts q o)
     ⊎ ((o : Held) × (name : List (List ℕ)) × IsReadyAlias c n ts q o name
-    × IsAnsweredByRecent c n ts more (asked_at q name))
+    × IsAnsweredByRecent c n ts more (for_name q name))
 
 -- ---- the claim
 

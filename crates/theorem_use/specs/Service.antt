@@ -1,10 +1,11 @@
 -- Everything claimed of a run, in one record.
-use Rattle.std.specs.Prelude.{List, ◌++◌, reverse}
+use Rattle.std.specs.Prelude.{ℕ, List, ◌++◌, reverse}
 use Rattle.suffix_routes.specs.Values.{Config, IsConfig}
 use Rattle.trust_rank.specs.declared.slot.Slot.{Slot}
 use Rattle.step_values.specs.Values.{Step}
 use Rattle.step_history.specs.Asked.{AsksWell}
 use Rattle.step_history.specs.Given.{GivesWhatCame, AsksFewTimes}
+use Rattle.step_history.specs.Turns.{AsksInTurn}
 use Rattle.step_table.specs.State.{State}
 use Rattle.step_table.specs.Steps.{initial}
 use Rattle.theorem_sound.specs.Runs.{Run, IsSound}
@@ -39,6 +40,12 @@ pub record ServesTruly (c : Config) (steps : List Step) : Type 0 where
   pub given : GivesWhatCame c (reverse steps)
   -- After every step fewer than `tries` asks failed before each listed ask, in its inquiry.
   pub tries : AsksFewTimes c (reverse steps)
+  -- Each first ask of an inquiry goes by UDP to the server of the era's last accepted reply on the
+  -- route, otherwise to the first. After a failed ask the same server is asked over TCP if the reply
+  -- was truncated by UDP, otherwise the next of the group by UDP. For some places of the steps'
+  -- servers.
+  pub places : List ℕ
+  pub turns : AsksInTurn c (reverse steps) places
   -- A question for which enough carried data stands (RFC 2181 5.4.1) is answered at once, if the
   -- cache has room: by a single reply, owned by the question, with the same owners.
   pub uses : UsesWhatStands c (reverse steps) sound.owners

@@ -5,7 +5,7 @@ use Rattle.std.specs.Prelude.{Some, ◌⊎◌}
 use Rattle.std.specs.List.{AllByRecursion}
 use Rattle.dns_message.specs.Header.{header_in}
 use Rattle.dns_message.specs.Values.{Question}
-use Rattle.dns_message.specs.Questions.{asked_at}
+use Rattle.step_history.specs.Questions.{for_name}
 use Rattle.suffix_routes.specs.Values.{Config}
 use Rattle.trust_rank.specs.declared.slot.Slot.{Slot}
 use Rattle.trust_rank.specs.Values.{Piece, elsewhere}
@@ -63,7 +63,7 @@ LeadsAlong Misses n ts q (h ∷ pieces) =
     IsLiving n ts h
     × ((EndsChain q h.piece h.piece.body × (pieces ≡ []))
     ⊎ ((q.kind ≢ 5) × IsOf h.piece q.name q.class (Some 5) × (name : List (List ℕ)) × IsAliasTo h.piece name
-    × LeadsAlong Misses n ts (asked_at q name) pieces))
+    × LeadsAlong Misses n ts (for_name q name) pieces))
 
 -- the slots are those of pieces along which a look-up of q leads: of eight aliases at most, and one
 -- piece more
@@ -99,7 +99,7 @@ pub record LooksOn (c : Config) (s : Step) (past : List Step) (ts : List Touched
   pub end : accepts.end ≡ elsewhere name
   pub each : List (List Slot)
   pub are : slots ≡ flat_map (λ used. used) each
-  pub along : AllByRecursion (LooksAlong (Unit {0}) (moment_at (s ∷ past)) ts (asked_at accepts.asked name)) each
+  pub along : AllByRecursion (LooksAlong (Unit {0}) (moment_at (s ∷ past)) ts (for_name accepts.asked name)) each
 
 -- the step used no slot, and sent no answer from cache
 pub record LooksNowhere (s : Step) (slots : List Slot) : Type 0 where

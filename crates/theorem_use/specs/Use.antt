@@ -1,5 +1,5 @@
 -- Claims that a question is answered at once if enough data stands.
-use Rattle.std.specs.Prelude.{◌≡◌, ℕ, zero, suc, ◌≤◌, true, false, List, [], ◌∷◌, length, Option, None, Some, ◌⊎◌}
+use Rattle.std.specs.Prelude.{◌≡◌, ℕ, zero, suc, ◌≤◌, true, List, [], ◌∷◌, length, Option, None, Some, ◌⊎◌}
 use Rattle.std.specs.List.{concat, AllByRecursion}
 use Rattle.dns_message.specs.Header.{header_in}
 use Rattle.dns_message.specs.Values.{Question}
@@ -13,11 +13,11 @@ use Rattle.step_values.specs.declared.event.Client.{Client}
 use Rattle.step_values.specs.declared.action.Why.{Why}
 use Rattle.step_values.specs.declared.action.Why.TheVariants.{Answered, TooLarge}
 use Rattle.step_values.specs.Values.{send_reply, Step}
-use Rattle.suffix_routes.specs.Serving.{serving_route_of}
 use Rattle.step_history.specs.History.{is_restart, moment_at, Reads, Sends}
 use Rattle.step_values.specs.Requests.{is_taken}
 use Rattle.step_history.specs.Carried.{CarriedInEra}
-use Rattle.dns_message.specs.Questions.{is_unserved, asked_at}
+use Rattle.step_history.specs.CacheLaws.Serving.{IsServedBy}
+use Rattle.step_history.specs.Questions.{IsUnserved, for_name}
 use Rattle.step_history.specs.Sound.{unanswered, RightReply}
 use Rattle.theorem_use.specs.Standing.{standing}
 
@@ -53,9 +53,9 @@ pub record AsksToLookUp (c : Config) (s : Step) (client : Client) (q : Question)
   pub taken : is_taken octets ≡ true
   pub opcode : (header_in octets).opcode ≡ 0
   pub reads : Reads octets q
-  pub served : is_unserved q ≡ false
+  pub served : IsUnserved q → ⊥
   pub route : ℕ
-  pub on_route : serving_route_of c q.name ≡ Some route
+  pub on_route : IsServedBy c q.name route
 
 -- there is a target name, and `onward` holds of the name
 abbrev pub AtTarget : (List (List ℕ) → Type 0) → Option (List (List ℕ)) → Type 0
@@ -75,7 +75,7 @@ EndsOrLeadsOn onward miss = ⊥
 abbrev pub LeadsToEnd : List Route → ℕ → List Held → ℕ → Question → Type 0
 LeadsToEnd routes n stood zero q = EndsOrLeadsOn (λ name. ⊥) (found routes n stood q)
 LeadsToEnd routes n stood (suc more) q =
-    EndsOrLeadsOn (λ name. LeadsToEnd routes n stood more (asked_at q name)) (found routes n stood q)
+    EndsOrLeadsOn (λ name. LeadsToEnd routes n stood more (for_name q name)) (found routes n stood q)
 
 -- the pieces standing at the step's moment answer q after at most eight aliases; so their look-up
 -- ends (`look_up_ends`)

@@ -19,6 +19,8 @@ use Rattle.step_history.specs.Sound.{unanswered}
 use Rattle.step_table.proofs.Played.{a, address, config}
 use Rattle.theorem_use.specs.Asking.{AnyByRecursion, Wants, EachWants, Asks, WasListed, IsSpelled, AsksForWaiting}
 use Rattle.theorem_use.specs.Use.{AsksToLookUp}
+use Rattle.theorem_use.proofs.TheoremSound.Served.{served_is}
+use Rattle.cache_laws.proofs.CallerLemmas.{serves_exactly}
 use Rattle.worked_claims.proofs.Texts.{question_text, client, none_listed}
 
 -- ---- a single message, and a single question
@@ -45,9 +47,9 @@ looks_up s id brings = record {
   taken = refl;
   opcode = refl;
   reads = refl;
-  served = refl;
+  served = served_is (address a) refl;
   route = 0;
-  on_route = refl;
+  on_route = serves_exactly.only config a 0 refl;
 }
 
 pub looks_up_no_other : (c : Config) (s : Step) (id : ℕ) → BringsQuestion s id → (asker : Client) (q : Question)

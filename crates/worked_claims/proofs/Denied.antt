@@ -1,6 +1,6 @@
 -- A worked denial by the configuration, whole: a.e is denied at once. No such answer is right a
 -- step later, for a name not denied, for an opcode other than 0, or for a type not served.
-use Rattle.std.proofs.Common.{◌≡◌, ℕ, List, [], ◌∷◌, length, Some, Ok, refl, sym, ap, ◌∙◌, arith}
+use Rattle.std.proofs.Common.{◌≡◌, ℕ, List, [], ◌∷◌, length, Some, Ok, refl, sym, ap, ◌∙◌, arith, subst, inl, inr}
 use Rattle.std.proofs.lemmas.Bool.{true≢false}
 use Rattle.dns_message.specs.Names.{step as name_step, walk_in, name_within}
 use Rattle.dns_message.specs.Header.{header_of, header_in}
@@ -14,11 +14,12 @@ use Rattle.step_values.specs.declared.action.Why.TheVariants.{LocalDenied}
 use Rattle.step_values.specs.Values.{from_client, tick, send_reply, Step}
 use Rattle.suffix_routes.specs.Serving.{is_local}
 use Rattle.step_history.specs.History.{Look}
-use Rattle.dns_message.specs.Questions.{is_unserved}
 use Rattle.cache_laws.proofs.CallerLemmas.{denies_names_exactly}
 use Rattle.step_history.specs.Local.{ChainToLocal, LocalAnswers}
 use Rattle.step_history.specs.Sound.{RightReply, RightLocalAnswer}
 use Rattle.step_table.proofs.Played.{a, address, config}
+use Rattle.theorem_use.proofs.TheoremSound.Served.{served_is}
+use Rattle.step_history.specs.Questions.{IsUnserved}
 use Rattle.worked_claims.proofs.Texts.{question_text, status_text, with_flags, client, step_of}
 use Rattle.worked_claims.proofs.Reasons.{denies_a}
 use Rattle.worked_claims.proofs.Silent.{nothing_followed}
@@ -64,7 +65,7 @@ answers = record {
 
 a_denial_at_once : RightReply at_once client (question_text 7 1) 0 LocalDenied denial
 unfolding first_question question_at octets_end name_within walk_in name_step
-a_denial_at_once = record { opcode = refl; question = address a; reads = refl; served = refl; answers = answers }
+a_denial_at_once = record { opcode = refl; question = address a; reads = refl; served = served_is (address a) refl; answers = answers }
 
 -- ---- no such answer
 
@@ -102,4 +103,4 @@ unfolding first_question question_at octets_end name_within walk_in name_step
 for_every_type l octets h =
     let reads : Some (record (address a) { kind = 255 }) ≡ Some h.question = h.reads in
     let same : record (address a) { kind = 255 } ≡ h.question = cc in
-    true≢false (ap is_unserved same ∙ h.served)
+    h.served (subst IsUnserved same (inr (inr (inl (omega arith, omega arith)))))

@@ -27,6 +27,7 @@ use Rattle.step_history.specs.Sound.{unanswered, RightReply, Owns, Replies}
 use Rattle.step_table.proofs.Played.{a, address, config}
 use Rattle.theorem_use.specs.Touched.{Touched, LeadsAlong, AnswersNothing, LooksUp}
 use Rattle.theorem_use.specs.Use.{AnswersAtOnce}
+use Rattle.theorem_use.proofs.TheoremSound.Served.{served_is}
 use Rattle.worked_claims.proofs.Texts.{question_text, client, step_of}
 use Rattle.worked_claims.proofs.Silent.{justified_at_once}
 use Rattle.worked_claims.proofs.Accepted.{answer_with, held}
@@ -106,7 +107,7 @@ right : (before : List Step) → StandsAfter before → (waiting : ℕ)
     → RightReply (seen before) client (question_text 7 1) waiting Answered again_text
 unfolding first_question question_at octets_end name_within walk_in name_step
 right before stands waiting =
-    record { opcode = refl; question = address a; reads = refl; served = refl; answers = answers before stands }
+    record { opcode = refl; question = address a; reads = refl; served = served_is (address a) refl; answers = answers before stands }
 
 pub owns_it : (before : List Step) (owners : List ℕ) → StandsAfter before
     → Owns config (hit ∷ before) owners (length before)

@@ -10,30 +10,26 @@ use Rattle.dns_message.specs.Records.{octets_end, question_at}
 use Rattle.dns_message.specs.Messages.{first_question}
 use Rattle.dns_message.specs.Questions.{one_question, same_question}
 use Rattle.dns_message.specs.Values.{Question}
-use Rattle.dns_message.specs.Writing.{◌▹◌, each, name_text, written}
-use Rattle.suffix_routes.specs.Routes.{route_of}
 use Rattle.suffix_routes.specs.Values.{Config}
 use Rattle.trust_rank.specs.Values.{found, ends_no_data, ends_denied, elsewhere, lame}
 use Rattle.outstanding.specs.declared.ask.Path.TheVariants.{Udp}
 use Rattle.step_values.specs.Values.{delivery, ask_udp, close_udp, Step}
-use Rattle.cache_laws.proofs.CallerLemmas.{serves_exactly}
-use Rattle.step_history.specs.Asked.{AsksWell}
-use Rattle.step_history.specs.Causes.{ClosesAsk, NoneAsks, SendsAsk, FailedSoFar}
+use Rattle.step_history.specs.Causes.{NoneAsks, SendsAsk, FailedSoFar}
 use Rattle.step_history.specs.Given.{EndsHere, EndsAsking, GivesWhatCame, IsOneOfTries, AsksFewTimes}
 use Rattle.step_history.specs.History.{ShownAsk, Reads}
 use Rattle.step_table.proofs.Played.{a, b, address, server, other_server, config}
-use Rattle.theorem_use.specs.Asking.{AsksForWaiting}
 use Rattle.theorem_use.specs.Service.{ServesTruly}
 use Rattle.worked_claims.proofs.Neighbours.{HoldsButFor}
 use Rattle.worked_claims.proofs.Texts.{question_text, step_of, only_closes, the_only_ask, none_listed}
-use Rattle.worked_claims.proofs.Silent.{nothing_came, nothing_heard}
 use Rattle.worked_claims.proofs.Accepted.{asked, ask, answered, reply_text, piece, with_limits, reply_accepted}
-use Rattle.worked_claims.proofs.Brought.{not_sent, question_is, wants_it, waits_for_one}
+use Rattle.worked_claims.proofs.Brought.{question_is}
 use Rattle.worked_claims.proofs.EarlierTries.{retries, past, one_failed, none_failed}
 use Rattle.worked_claims.proofs.Failures.{begun}
-use Rattle.worked_claims.proofs.FirstStep.{word, asked_for, asks_it, asks_right, uses_nothing, uses_no_slot}
-use Rattle.worked_claims.proofs.FirstStep.{only_asks}
+use Rattle.worked_claims.proofs.FirstStep.{word}
 use Rattle.worked_claims.proofs.ReplyTo.{AcceptsTo}
+use Rattle.worked_claims.proofs.InTurn.{first_turn}
+use Rattle.worked_claims.proofs.SecondAsks.{all_else_holds}
+use Rattle.worked_claims.proofs.TakenTurns.{takes_next}
 use Rattle.worked_claims.proofs.Waiting.{hears, WaitsAlone, when_asked, when_heard}
 
 -- ---- contents with an end
@@ -116,6 +112,8 @@ but_for_what_came given = record {
   asks = waits.asks;
   given = waits.given;
   tries = waits.tries;
+  places = waits.places;
+  turns = waits.turns;
   waiting = waits.waiting;
   uses = waits.uses;
   used = [] ∷ [] ∷ [];
@@ -200,79 +198,8 @@ of_no_question = (
 too_often : ServesTruly one_try (asked ∷ retries ∷ []) → ⊥
 too_often h = too_many h.tries.1.0
 
-closes_first : ClosesAsk (address a) retries (asked ∷ [])
-unfolding first_question question_at octets_end name_within walk_in name_step
-closes_first = record { ask = ask; asked = address a; is_listed = refl; closed = refl; reads = refl; same = refl }
-
-asks_well : AsksWell one_try past
-unfolding written ◌▹◌ each name_text first_question question_at octets_end name_within walk_in name_step route_of
-asks_well = (
-  asks_right one_try.limits false (omega arith),
-  (tt, tt),
-  omega arith,
-  (
-    tt,
-    (
-      (
-        record {
-          id = 16;
-          question = address a;
-          text = refl;
-          reads = refl;
-          server = record {
-            route = 0;
-            group = _;
-            place = 1;
-            route_is = serves_exactly.only one_try a 0 refl;
-            there = refl;
-            server = refl;
-          };
-          drawn_so = refl;
-        },
-        refl,
-      ),
-      tt,
-    ),
-  ),
-)
-
-it_waits : AsksForWaiting one_try retries (asked ∷ []) []
-unfolding first_question question_at octets_end name_within walk_in name_step closes_first
-it_waits = waits_for_one one_try retries (asked ∷ []) [] second_ask (address a) 0 refl refl
-    (wants_it one_try asked 7 [] past refl (inr (refl, inl refl)))
-    (record { question = address a; reads = refl; same = refl })
-    (inr (record {
-      question = address a;
-      reads = refl;
-      from = inr (record {
-        closes = closes_first;
-        failed = nothing_heard one_try retries (asked ∷ []) refl;
-        spelled = refl;
-      });
-    }))
-
 but_for_its_tries : AsksFewTimes one_try past → ServesTruly one_try (asked ∷ retries ∷ [])
-but_for_its_tries tries = record {
-  sound = record {
-    owners = [] ∷ [] ∷ [];
-    sound = ((tt, refl, λ q octets hit. tt), refl, λ q octets hit. absurd hit.0);
-    tells = ((tt, refl), refl);
-    few = omega arith;
-  };
-  asks = asks_well;
-  given = ((tt, nothing_came one_try asked [] refl), nothing_came one_try retries (asked ∷ []) refl);
-  tries = tries;
-  waiting = ((tt, asked_for one_try false word), it_waits);
-  uses = (
-    uses_nothing one_try false word asks_it [],
-    λ asker q some asks is room known. absurd (not_sent asks.sends),
-  );
-  used = [] ∷ [] ∷ [];
-  recent = (
-    uses_no_slot one_try false word asks_it [] only_asks,
-    λ ts era. (
-      inr (inr (record { none = refl; silent = λ q octets from. absurd from.0 })),
-      λ asker q asks known. absurd (not_sent asks.sends),
-    ),
-  );
-}
+but_for_its_tries tries = all_else_holds 1 other_server 1 refl tries (1 ∷ 0 ∷ []) (
+  first_turn one_try.limits false word,
+  (tt, (takes_next 1, tt)),
+)

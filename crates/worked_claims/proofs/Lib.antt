@@ -32,6 +32,9 @@ mod Inquiries
 mod Transports
 mod Brought
 mod FirstStep
+mod InTurn
+mod SecondAsks
+mod TakenTurns
 mod Waiting
 mod FromAddress
 mod Truly

@@ -32,6 +32,7 @@ use Rattle.step_history.specs.Answers.{Answers}
 use Rattle.step_history.specs.Sound.{RightReply, Owns, Replies, Sound}
 use Rattle.step_history.specs.Asked.{AsksWell, AsksRight}
 use Rattle.step_history.specs.Given.{IsOneOfTries}
+use Rattle.step_history.specs.Turns.{TakesTurn}
 use Rattle.step_history.proofs.CallerLemmas.{alias_to}
 use Rattle.step_table.proofs.Played.{a, b, address, name_data, server, config}
 use Rattle.theorem_use.specs.Asking.{Wants, Asks, AsksForWaiting, AsksForThoseWhoWait}
@@ -39,12 +40,14 @@ use Rattle.theorem_use.specs.Recent.{IsReadyEnd, IsReadyAlias, IsAnsweredByRecen
 use Rattle.theorem_use.specs.Service.{ServesTruly}
 use Rattle.theorem_use.specs.Touched.{Touched, TouchedInEra, LooksAlong, LooksOn}
 use Rattle.theorem_use.specs.Use.{AsksToLookUp, IsKnown, UsesWhatStands}
+use Rattle.theorem_use.proofs.TheoremSound.Served.{served_is}
 use Rattle.worked_claims.proofs.Texts.{client, step_of, only_closes}
 use Rattle.worked_claims.proofs.Silent.{nothing_heard, nothing_came}
 use Rattle.worked_claims.proofs.ReplyTo.{matches_ask}
 use Rattle.worked_claims.proofs.Accepted.{asked, answered, piece, held, carries, carried_now}
 use Rattle.worked_claims.proofs.Carried.{one_era}
 use Rattle.worked_claims.proofs.Touches.{touched_nothing, touched_these, CameIn, recent_came, the_one_brought}
+use Rattle.worked_claims.proofs.InTurn.{prefers_on, begins_turn, turns_so_far, prefers_first}
 use Rattle.worked_claims.proofs.Truly.{it_gives, it_asks_once, nobody_waits, handed_on, recent_so_far}
 use Rattle.worked_claims.proofs.Brought.{request_is, not_sent, question_is, waits_for_new, begins_tries}
 use Rattle.worked_claims.proofs.Whole.{history, it_is_sound, it_asks_well, it_tells_that_nothing_is_due}
@@ -230,7 +233,7 @@ answers = record {
 
 right : (waiting : ℕ) → RightReply seen client (question_for_b 9) waiting Answered client_text
 unfolding first_question question_at octets_end name_within walk_in name_step
-right waiting = record { opcode = refl; question = address b; reads = refl; served = refl; answers = answers }
+right waiting = record { opcode = refl; question = address b; reads = refl; served = served_is (address b) refl; answers = answers }
 
 owns : Owns config now (0 ∷ []) 2 (record { client = client; octets = client_text; why = Answered })
 owns = record {
@@ -365,6 +368,13 @@ none_ready (suc more) (inr (o, name, leads, rest)) =
     no_alias name (subst (λ (h : Held). IsReadyAlias config 2000 touched (address b) h name)
     (sym (came o (recent_came 4096 touched o leads.ready.slots leads.ready.recent))) leads)
 
+-- the server that answered is asked again
+turn_b : TakesTurn config asks_b history (0 ∷ 0 ∷ []) 0
+    (record { path = Udp 1040; server = server; octets = question_for_b 16 })
+unfolding first_question question_at octets_end name_within walk_in name_step route_of
+turn_b = begins_turn asks_b history (0 ∷ 0 ∷ []) 1040 (question_for_b 16) (address b) refl refl
+    (inl (address b, refl, refl)) tt (prefers_on config asks_b history (0 ∷ 0 ∷ []) 0 0 refl refl prefers_first)
+
 -- ---- all else holds, whatever the slots claimed as used
 
 -- look-ups of the newest step used these slots
@@ -386,6 +396,8 @@ but_for_its_slots slots looked = record {
     λ pieces servers k ends. record { none_listed = tt; none_sent = λ q. only_closes },
   );
   tries = ((it_asks_once, tries_b), tt);
+  places = 0 ∷ 0 ∷ 0 ∷ 0 ∷ [];
+  turns = ((turns_so_far, (turn_b, tt)), (tt, (tt, tt)));
   waiting = waits_on;
   uses = used_what_stands;
   used = slots ∷ [] ∷ [] ∷ [] ∷ [];

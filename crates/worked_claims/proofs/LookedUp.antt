@@ -1,6 +1,6 @@
 -- Messages to look up, the question wanted by an owner, and the number of pieces along a look-up,
 -- computed; in each neighbour a single part fails.
-use Rattle.std.proofs.Common.{◌≡◌, ◌∙◌, ℕ, zero, suc, List, [], ◌∷◌, length, Option, Some, None, refl, sym, ap}
+use Rattle.std.proofs.Common.{◌≡◌, ◌∙◌, ℕ, zero, suc, List, [], ◌∷◌, length, Option, Some, None, refl, sym, ap, subst}
 use Rattle.std.proofs.Common.{inl, inr, arith}
 use Rattle.std.specs.Prelude.{map}
 use Rattle.std.proofs.lemmas.Bool.{true≢false}
@@ -9,7 +9,7 @@ use Rattle.dns_message.specs.Header.{header_in}
 use Rattle.dns_message.specs.Names.{step as name_step, walk_in, name_within}
 use Rattle.dns_message.specs.Records.{octets_end, question_at}
 use Rattle.dns_message.specs.Messages.{first_question}
-use Rattle.dns_message.specs.Questions.{one_question, is_unserved}
+use Rattle.dns_message.specs.Questions.{one_question}
 use Rattle.dns_message.specs.Values.{Question}
 use Rattle.suffix_routes.specs.Values.{Config}
 use Rattle.suffix_routes.specs.Routes.{route_of}
@@ -24,6 +24,8 @@ use Rattle.step_table.proofs.Played.{a, b, address, config}
 use Rattle.theorem_use.specs.Asking.{Wants}
 use Rattle.theorem_use.specs.Touched.{Touched, LeadsAlong, LooksAlong}
 use Rattle.theorem_use.specs.Use.{AsksToLookUp}
+use Rattle.step_history.specs.Questions.{IsUnserved}
+use Rattle.cache_laws.proofs.CallerLemmas.{serves_exactly}
 use Rattle.worked_claims.proofs.Texts.{question_text, status_text, with_flags, client, step_of, in_one}
 use Rattle.worked_claims.proofs.Silent.{nothing_followed}
 use Rattle.worked_claims.proofs.Accepted.{asked}
@@ -68,7 +70,7 @@ unfolding first_question question_at octets_end name_within walk_in name_step
 every_type asker q asks =
     let is : for_every_type ≡ q = question_is for_every_type q
     (ap one_question (own_octets config (question_text 7 255) asker q asks) ∙ asks.reads) in
-    true≢false (ap is_unserved is ∙ asks.served)
+    asks.served (subst IsUnserved is (inr (inr (inl (omega arith, omega arith)))))
 
 -- a name without a serving route
 a_denied_name : (asker : Client) (q : Question) → AsksToLookUp denies_a (brings (question_text 7 1)) asker q → ⊥
@@ -77,7 +79,7 @@ a_denied_name asker q asks =
     let is : address a ≡ q = question_is (address a) q
     (ap one_question (own_octets denies_a (question_text 7 1) asker q asks) ∙ asks.reads) in
     let none : ◌≡◌ {A = Option ℕ} None (Some asks.route) = ap (λ (x : Question). serving_route_of denies_a x.name) is
-    ∙ asks.on_route in
+    ∙ serves_exactly.each denies_a q.name asks.route (tt, tt) asks.on_route in
     absurd cc
 
 -- ---- the question wanted by an owner: its own, if no alias was carried

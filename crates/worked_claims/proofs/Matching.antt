@@ -113,6 +113,11 @@ of_another_opcode : (s : Step) (x : ShownAsk) (q : Question)
     → Matches config s (asked ∷ []) x (answer_with 8 149 0 60) q → ⊥
 of_another_opcode s x q h = let opcode : 2 ≡ 0 = h.opcode in omega (arith, opcode)
 
+-- two questions are counted
+of_two_questions : (s : Step) (x : ShownAsk) (q : Question)
+    → Matches config s (asked ∷ []) x (0 ∷ 8 ∷ 133 ∷ 0 ∷ 0 ∷ 2 ∷ 0 ∷ 0 ∷ 0 ∷ 0 ∷ 0 ∷ 0 ∷ []) q → ⊥
+of_two_questions s x q h = let two : 2 ≡ 1 = h.questions in omega (arith, two)
+
 too_short : (s : Step) (x : ShownAsk) (q : Question)
     → Matches config s (asked ∷ []) x (0 ∷ 8 ∷ 133 ∷ 0 ∷ 0 ∷ 1 ∷ 0 ∷ 0 ∷ 0 ∷ 0 ∷ 0 ∷ []) q → ⊥
 too_short s x q h = let long : 12 ≤ 11 = h.long_enough in omega (arith, long)

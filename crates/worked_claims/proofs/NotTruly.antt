@@ -1,6 +1,6 @@
--- For each field of `ServesTruly`, except for the fields on use and those in `Given`, a history in
--- which all else holds: a wrong reply, a wrong report, too many waiting questions, a wrong ask, and
--- a question without an ask.
+-- For each field of `ServesTruly`, except for the fields on use and those in `Given` and
+-- `TakenTurns`, a history in which all else holds: a wrong reply, a wrong report, too many waiting
+-- questions, a wrong ask, and a question without an ask.
 use Rattle.std.proofs.Common.{◌≡◌, ℕ, ◌≤◌, List, [], ◌∷◌, true, false, Option, Some, None, refl, sym, ap, ◌∙◌, subst}
 use Rattle.std.proofs.Common.{inl, inr, arith}
 use Rattle.std.specs.Prelude.{zero, suc, length}
@@ -33,6 +33,7 @@ use Rattle.worked_claims.proofs.Silent.{nothing_heard, nothing_came, nothing_car
 use Rattle.worked_claims.proofs.Brought.{looks_up_no_other, wants_it}
 use Rattle.worked_claims.proofs.FirstStep.{first, word, asks_it, with_questions, asked_for, asks_right, first_try}
 use Rattle.worked_claims.proofs.FirstStep.{uses_nothing, uses_no_slot, only_asks}
+use Rattle.worked_claims.proofs.InTurn.{first_turn}
 
 -- ---- a wrong reply: the failure of a deadline, without a tick
 
@@ -61,6 +62,8 @@ but_for_soundness sound = record {
   asks = (tt, tt, omega arith, (tt, tt));
   given = (tt, nothing_came config fails_early [] refl);
   tries = (tt, tt);
+  places = 0 ∷ [];
+  turns = (tt, (tt, tt));
   waiting = (tt, record { wanted = []; each = tt; asked = tt; wanting = tt; spelled = tt });
   uses = uses_nothing config false word (send_reply client [] Deadline ∷ []) (0 ∷ []);
   used = [] ∷ [];
@@ -88,6 +91,8 @@ but_for_what_it_tells tells = record {
   asks = asks_right config.limits true (omega arith);
   given = (tt, nothing_came config tells_more [] refl);
   tries = first_try config true word (omega arith);
+  places = 0 ∷ [];
+  turns = first_turn config.limits true word;
   waiting = (tt, asked_for config true word);
   uses = uses_nothing config true word asks_it [];
   used = [] ∷ [];
@@ -214,6 +219,8 @@ but_for_how_many_wait few = record {
     nothing_came one_may_wait joins (first false word asks_it ∷ []) refl,
   );
   tries = (first_try one_may_wait false word (omega arith), joins_the_first_try);
+  places = 0 ∷ 0 ∷ [];
+  turns = (first_turn one_may_wait.limits false word, tt);
   waiting = ((tt, asked_for one_may_wait false word), both_asked_for);
   uses = joins_unknown;
   used = [] ∷ [] ∷ [];
@@ -234,6 +241,8 @@ but_for_its_ask asks_so = record {
   asks = asks_so;
   given = (tt, nothing_came config (first false [] asks_it) [] refl);
   tries = first_try config false [] (omega arith);
+  places = 0 ∷ [];
+  turns = first_turn config.limits false [];
   waiting = (tt, asked_for config false []);
   uses = uses_nothing config false [] asks_it [];
   used = [] ∷ [];
@@ -269,6 +278,8 @@ but_for_what_is_asked waits = record {
   asks = (tt, tt, omega arith, tt);
   given = (tt, nothing_came config (first false word []) [] refl);
   tries = (tt, tt);
+  places = 0 ∷ [];
+  turns = (tt, tt);
   waiting = waits;
   uses = uses_nothing config false word [] [];
   used = [] ∷ [];

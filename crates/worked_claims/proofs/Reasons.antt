@@ -1,6 +1,6 @@
 -- The reasons for no answer at once, computed: for each reason a history, and neighbours a step, a
 -- question, an ask or a port away.
-use Rattle.std.proofs.Common.{◌≡◌, ℕ, ◌-◌, ◌^◌, List, [], ◌∷◌, length, Option, Some, None, true, false, refl, sym, ap, ◌∙◌, inl, inr, arith}
+use Rattle.std.proofs.Common.{◌≡◌, ℕ, ◌-◌, ◌^◌, List, [], ◌∷◌, length, Option, Some, None, true, false, refl, sym, ap, ◌∙◌, inl, inr, arith, subst}
 use Rattle.std.proofs.lemmas.Bool.{true≢false}
 use Rattle.dns_message.specs.Names.{step as name_step, walk_in, name_within}
 use Rattle.dns_message.specs.Records.{octets_end, question_at}
@@ -14,10 +14,12 @@ use Rattle.suffix_routes.specs.Serving.{serving_route_of, is_local}
 use Rattle.step_history.specs.History.{Look, before_newest, tcp_asks, listed}
 use Rattle.cache_laws.proofs.CallerLemmas.{none_serves_exactly}
 use Rattle.step_history.specs.Causes.{Cause, HasNoRoute, newest_words, newest_actions}
-use Rattle.dns_message.specs.Questions.{is_unserved, same_question}
+use Rattle.dns_message.specs.Questions.{same_question}
 use Rattle.step_history.specs.Draws.{drawn}
 use Rattle.outstanding.specs.Draws.{drawn_by_tcp}
 use Rattle.step_table.proofs.Played.{a, b, address, server, config}
+use Rattle.theorem_use.proofs.TheoremSound.Served.{served_is}
+use Rattle.step_history.specs.Questions.{IsUnserved}
 use Rattle.worked_claims.proofs.Texts.{question_text, status_text, client, step_of}
 use Rattle.worked_claims.proofs.Silent.{IsSilent, nothing_followed}
 use Rattle.worked_claims.proofs.Accepted.{asked}
@@ -89,14 +91,14 @@ of_type kind = record (address a) { kind = kind }
 
 type_128_is_not_served : Cause (at_once config (question_text 7 128)) client (question_text 7 128) 0 NotServed
 unfolding first_question question_at octets_end name_within walk_in name_step
-type_128_is_not_served = record { at_once = refl; opcode = refl; question = of_type 128; reads = refl; unserved = refl }
+type_128_is_not_served = record { at_once = refl; opcode = refl; question = of_type 128; reads = refl; unserved = inr (inr (inl (omega arith, omega arith))) }
 
 type_127_is_served : Cause (at_once config (question_text 7 127)) client (question_text 7 127) 0 NotServed → ⊥
 unfolding first_question question_at octets_end name_within walk_in name_step
 type_127_is_served h =
     let reads : Some (of_type 127) ≡ Some h.question = h.reads in
     let same : of_type 127 ≡ h.question = cc in
-    true≢false (sym h.unserved ∙ ap is_unserved (sym same))
+    served_is (of_type 127) refl (subst IsUnserved (sym same) h.unserved)
 
 what_is_not_served_is_told_at_once : Cause (a_step_later config (question_text 7 128)) client
     (question_text 7 128) 0 NotServed
@@ -119,7 +121,7 @@ a_has_no_route = record {
   opcode = refl;
   question = address a;
   reads = refl;
-  served = refl;
+  served = served_is (address a) refl;
   aliases = [];
   last = address a;
   leads = record { few = omega arith; follows = refl };

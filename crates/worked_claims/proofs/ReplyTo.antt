@@ -11,6 +11,7 @@ use Rattle.trust_rank.specs.Values.{Piece, End}
 use Rattle.trust_rank.specs.Walks.{is_lame, walk_of}
 use Rattle.step_values.specs.Values.{Step}
 use Rattle.step_history.proofs.CallerLemmas.{walk_accepted, walk_accepted-end}
+use Rattle.theorem_use.proofs.TheoremSound.Matching.{one_counted}
 use Rattle.step_history.specs.History.{ShownAsk, listed, on_path, moment_at, Reads, Delivers, Matches, Accepts}
 
 -- a reply of 12 to 65,535 octets, with the identifier and the question of this ask's text
@@ -34,6 +35,7 @@ matches_ask c s past ask octets q reaches reply = record {
   not_too_long = reply.1;
   is_reply = reply.2;
   opcode = reply.3;
+  questions = one_counted octets q reply.6;
   identifier = reply.4;
   ask_reads = reply.5;
   question = q;

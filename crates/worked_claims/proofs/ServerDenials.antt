@@ -29,6 +29,7 @@ use Rattle.step_history.specs.Carried.{CarriedInEra, Justified}
 use Rattle.step_history.specs.Answers.{EndsChain, Chain, Answers}
 use Rattle.step_history.specs.Sound.{RightReply}
 use Rattle.step_table.proofs.Played.{a, b, example, address, server, config}
+use Rattle.theorem_use.proofs.TheoremSound.Served.{served_is}
 use Rattle.worked_claims.proofs.Texts.{question_text, client, step_of}
 use Rattle.worked_claims.proofs.Accepted.{asked, ask, piece, carried_before}
 use Rattle.worked_claims.proofs.ReplyTo.{ReachesAsk, matches_ask}
@@ -249,12 +250,12 @@ answers_with_error = record {
 none_is_right : RightReply (seen there_is_none) client (question_text 7 1) 1 Answered (client_text 128)
 unfolding first_question question_at octets_end name_within walk_in name_step
 none_is_right =
-    record { opcode = refl; question = address a; reads = refl; served = refl; answers = answers_with_none }
+    record { opcode = refl; question = address a; reads = refl; served = served_is (address a) refl; answers = answers_with_none }
 
 error_is_right : RightReply (seen is_not_there) client (question_text 7 1) 1 Answered (client_text 131)
 unfolding first_question question_at octets_end name_within walk_in name_step
 error_is_right =
-    record { opcode = refl; question = address a; reads = refl; served = refl; answers = answers_with_error }
+    record { opcode = refl; question = address a; reads = refl; served = served_is (address a) refl; answers = answers_with_error }
 
 -- ---- pieces ending no look-up
 

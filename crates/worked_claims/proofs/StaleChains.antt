@@ -28,6 +28,7 @@ use Rattle.step_history.specs.Causes.{AllTriesFailed, ClosesAsk}
 use Rattle.step_history.specs.Stale.{JustifiedStale, FollowsStale, StaleChain, StaleAnswers}
 use Rattle.step_history.specs.Sound.{RightReply}
 use Rattle.step_table.proofs.Played.{a, b, address, name_data, server}
+use Rattle.theorem_use.proofs.TheoremSound.Served.{served_is}
 use Rattle.worked_claims.proofs.Texts.{question_text, client, step_of}
 use Rattle.worked_claims.proofs.Silent.{nothing_heard}
 use Rattle.worked_claims.proofs.Accepted.{asked, ask, carried_before}
@@ -233,7 +234,7 @@ stale_answers = record {
 an_answer_along_an_alias : RightReply seen client (question_text 7 1) 1 Stale stale_text
 unfolding tries
 an_answer_along_an_alias =
-    record { opcode = refl; tries = tries; served = refl; window = omega arith; answers = stale_answers }
+    record { opcode = refl; tries = tries; served = served_is (address a) refl; window = omega arith; answers = stale_answers }
 
 -- an alias leads from its own name, and to its own target
 from_another_name : (l : Look) (last : Question) → FollowsStale l (address b) (alias ∷ []) last → ⊥
@@ -369,4 +370,4 @@ held_answers = record {
 an_answer_behind_a_held_alias : RightReply seen_sooner client (question_text 7 1) 1 Stale held_text
 unfolding tries_behind
 an_answer_behind_a_held_alias =
-    record { opcode = refl; tries = tries_behind; served = refl; window = omega arith; answers = held_answers }
+    record { opcode = refl; tries = tries_behind; served = served_is (address a) refl; window = omega arith; answers = held_answers }

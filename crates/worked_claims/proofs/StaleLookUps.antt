@@ -1,7 +1,7 @@
 -- A worked answer with an expired set, whole: the address of a.e was carried for 60 seconds,
 -- expired, and is sent once all tries failed (RFC 8767 5); without a window, for a message of
 -- another opcode, and while the tries go on, no such answer is right.
-use Rattle.std.proofs.Common.{◌≡◌, ℕ, ◌≤◌, List, [], ◌∷◌, Some, Ok, refl, sym, ap, ◌∙◌, subst}
+use Rattle.std.proofs.Common.{◌≡◌, ℕ, ◌≤◌, List, [], ◌∷◌, Some, Ok, refl, sym, ap, subst}
 use Rattle.std.proofs.Common.{inl, inr, arith}
 use Rattle.std.proofs.lemmas.Bool.{true≢false}
 use Rattle.dns_message.specs.Names.{step as name_step, walk_in, name_within}
@@ -10,7 +10,6 @@ use Rattle.dns_message.specs.Shapes.{shape_of}
 use Rattle.dns_message.specs.Header.{header_of, header_in}
 use Rattle.dns_message.specs.Records.{octets_end, question_at, record_at, counted}
 use Rattle.dns_message.specs.Messages.{message_at, message_of, first_question}
-use Rattle.dns_message.specs.Questions.{is_unserved}
 use Rattle.dns_message.specs.Values.{Question, Message}
 use Rattle.dns_message.specs.Writing.{◌▹◌, each, name_text, data_text, with_length, written}
 use Rattle.dns_message.proofs.CallerLemmas.{message_read_is_spelled}
@@ -28,6 +27,8 @@ use Rattle.cache_laws.proofs.CallerLemmas.{serves_exactly}
 use Rattle.step_history.specs.Stale.{JustifiedStale, StaleAnswers}
 use Rattle.step_history.specs.Sound.{RightReply, RightStaleAnswer}
 use Rattle.step_table.proofs.Played.{a, address, server}
+use Rattle.theorem_use.proofs.TheoremSound.Served.{served_is}
+use Rattle.step_history.specs.Questions.{IsUnserved}
 use Rattle.worked_claims.proofs.Texts.{question_text, status_text, client, step_of}
 use Rattle.worked_claims.proofs.Silent.{nothing_heard, nothing_carried}
 use Rattle.worked_claims.proofs.Accepted.{asked, answered, answer_with, held, with_limits, carried_now}
@@ -129,7 +130,7 @@ answers = record {
 
 an_answer_past_its_end : RightReply (seen 1 600) client (question_text 7 1) 1 Stale stale_text
 unfolding tries
-an_answer_past_its_end = record { opcode = refl; tries = tries; served = refl; window = omega arith; answers = answers }
+an_answer_past_its_end = record { opcode = refl; tries = tries; served = served_is (address a) refl; window = omega arith; answers = answers }
 
 -- ---- no such answer
 
@@ -148,7 +149,7 @@ unfolding first_question question_at octets_end name_within walk_in name_step
 no_answer_for_every_type l octets h =
     let reads : Some for_every_type ≡ Some h.tries.question = h.tries.reads in
     let same : for_every_type ≡ h.tries.question = cc in
-    true≢false (ap is_unserved same ∙ h.served)
+    h.served (subst IsUnserved same (inr (inr (inl (omega arith, omega arith)))))
 
 -- seen from a step closing no ask
 abbrev goes_on : Look

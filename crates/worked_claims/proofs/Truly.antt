@@ -1,6 +1,6 @@
 -- A history that serves truly, whole: a question, its ask, the reply with the answer, and the same
--- question answered from cache. `NotTruly` and `Given` have a neighbour for each field of
--- `ServesTruly`, except for the fields on use; `Unbelieved` and `Unused` have the neighbours for
+-- question answered from cache. `NotTruly`, `Given` and `TakenTurns` have a neighbour for each field
+-- of `ServesTruly`, except for the fields on use; `Unbelieved` and `Unused` have the neighbours for
 -- these.
 use Rattle.std.proofs.Common.{◌≡◌, ℕ, List, [], ◌∷◌, false, refl, sym, ap, ◌∙◌, subst, inl, inr, arith}
 use Rattle.std.proofs.lemmas.Bool.{true≢false}
@@ -24,6 +24,7 @@ use Rattle.worked_claims.proofs.OnlyThis.{carries_this}
 use Rattle.worked_claims.proofs.Whole.{history, it_is_sound, it_asks_well, it_tells_that_nothing_is_due}
 use Rattle.worked_claims.proofs.Brought.{not_sent}
 use Rattle.worked_claims.proofs.FirstStep.{word, asks_it, first_try, asked_for, uses_nothing, uses_no_slot, only_asks}
+use Rattle.worked_claims.proofs.InTurn.{turns_so_far}
 use Rattle.worked_claims.proofs.FromAddress.{hit, StandsAfter, owns_it, answers_at_once, looked_at_the_address}
 
 -- ---- the whole history: asked, answered, and answered again from cache
@@ -121,6 +122,8 @@ it_serves_truly = record {
   asks = (it_asks_well, tt, omega arith, (tt, tt));
   given = (it_gives, nothing_came config hit history refl);
   tries = (it_asks_once, tt);
+  places = 0 ∷ 0 ∷ 0 ∷ [];
+  turns = (turns_so_far, (tt, tt));
   waiting = (nobody_waits, record { wanted = []; each = tt; asked = tt; wanting = tt; spelled = tt });
   uses = used_at_once;
   used = (held.piece.slot ∷ []) ∷ [] ∷ [] ∷ [];

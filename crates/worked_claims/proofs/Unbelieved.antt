@@ -23,6 +23,7 @@ use Rattle.cache_laws.proofs.CallerLemmas.{keeps_place}
 use Rattle.step_history.specs.History.{Carries}
 use Rattle.step_history.specs.Carried.{CarriedInEra}
 use Rattle.step_history.specs.Sound.{Owns}
+use Rattle.step_history.specs.Turns.{IsPreferred}
 use Rattle.step_table.proofs.Played.{a, b, address, name_data, config}
 use Rattle.theorem_use.specs.Recent.{IsBelieved, LeadsNowhere, IsReadyEnd, IsReadyAlias, IsAnsweredByRecent, UsesWhatIsRecent}
 use Rattle.theorem_use.specs.Service.{ServesTruly}
@@ -35,7 +36,8 @@ use Rattle.worked_claims.proofs.ReplyTo.{matches_ask, AcceptsTo, accepted_to}
 use Rattle.worked_claims.proofs.ServerDenials.{server_text, no_address, none_carries}
 use Rattle.worked_claims.proofs.Touches.{touched_nothing, touched_these, CameIn, recent_came, the_one_brought}
 use Rattle.worked_claims.proofs.Brought.{not_sent, looks_up, looks_up_no_other}
-use Rattle.worked_claims.proofs.Unused.{asks_at, is_reply, waits_again, asks_again_right, tries_again, no_reply}
+use Rattle.worked_claims.proofs.Unused.{asks_at, is_reply, waits_again, asks_again_right, tries_again, turns_again, no_reply}
+use Rattle.worked_claims.proofs.InTurn.{prefers_the_answering}
 use Rattle.worked_claims.proofs.Waiting.{hears, WaitsAlone, when_asked, leads_on, when_heard, no_port_text, closes_at, owns_failure}
 use Rattle.worked_claims.proofs.Waiting.{closes_all}
 
@@ -308,6 +310,12 @@ it_uses_what_is_recent = (
   ),
 )
 
+-- the answering server is preferred
+prefers_it : IsPreferred config 0 after_none (0 ∷ waits.places) 0
+unfolding first_question question_at octets_end name_within walk_in name_step route_of
+prefers_it = prefers_the_answering heard_none after_long waits.places 0 0 ask (address a) none_now_carries.pieces
+    none_now_carries.servers none_now_carries.accepts waits.asks_one refl refl waits.asked_first
+
 -- ---- and all else holds
 
 owns : Owns config after_none [] 0 (record { client = client; octets = no_port_text (question_text 7 1); why = NoPort })
@@ -333,6 +341,8 @@ but_for_its_use uses = record {
     nothing_came config asks_again after_none refl,
   );
   tries = ((waits.tries, tt), tries_again 2200 after_none refl refl);
+  places = 0 ∷ 0 ∷ waits.places;
+  turns = ((waits.turns, (tt, (tt, tt))), (turns_again 2200 after_none (0 ∷ waits.places) refl prefers_it, tt));
   waiting = (
     (waits.waiting, record { wanted = []; each = tt; asked = tt; wanting = tt; spelled = tt }),
     waits_again 2200 after_none refl refl refl,

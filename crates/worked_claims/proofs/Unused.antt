@@ -18,7 +18,9 @@ use Rattle.cache_laws.proofs.CallerLemmas.{serves_exactly}
 use Rattle.step_history.specs.Asked.{AsksRight}
 use Rattle.step_history.specs.Draws.{drawn}
 use Rattle.step_history.specs.Given.{IsOneOfTries}
+use Rattle.step_history.specs.Causes.{NoneAsks}
 use Rattle.step_history.specs.Sound.{Replies, unanswered}
+use Rattle.step_history.specs.Turns.{IsPreferred, TakesTurn}
 use Rattle.step_table.proofs.Played.{a, address, server, config}
 use Rattle.theorem_use.specs.Asking.{AsksForWaiting}
 use Rattle.theorem_use.specs.Service.{ServesTruly}
@@ -31,6 +33,7 @@ use Rattle.worked_claims.proofs.Accepted.{asked, answered, piece, carries, held,
 use Rattle.worked_claims.proofs.OnlyThis.{leads_nowhere}
 use Rattle.worked_claims.proofs.Whole.{history, it_is_sound, it_asks_well, it_tells_that_nothing_is_due}
 use Rattle.worked_claims.proofs.Brought.{not_sent, looks_up, wants_it, waits_for_new, begins_tries}
+use Rattle.worked_claims.proofs.InTurn.{prefers_on, begins_turn, turns_so_far, prefers_first}
 use Rattle.worked_claims.proofs.Truly.{it_gives, it_asks_once, nobody_waits, handed_on}
 
 -- ---- standing, recent pieces are not used: the question is asked again
@@ -91,6 +94,14 @@ unfolding first_question question_at octets_end name_within walk_in name_step
 tries_again now past none_before one_now = begins_tries config (asks_at now) past (ask_at now) (address a) refl none_before
     one_now refl (inl (address a, refl, refl)) (omega arith)
 
+-- of the preferred server
+pub turns_again : (now : ℕ) (past : List Step) (places : List ℕ) → listed past ≡ [] → IsPreferred config 0 past places 0
+    → TakesTurn config (asks_at now) past places 0 (record { path = Udp 1040; server = server; octets = question_text 16 1 })
+unfolding first_question question_at octets_end name_within walk_in name_step route_of
+turns_again now past places none preferred = begins_turn (asks_at now) past places 1040 (question_text 16 1) (address a) refl
+    refl (inl (address a, refl, refl)) (subst (NoneAsks (address a)) (sym none) tt)
+    (prefers_on config (asks_at now) past places 0 0 refl refl preferred)
+
 pub no_reply : (octets : List ℕ) → Replies (ask_udp 1040 server (question_text 16 1) ∷ []) octets → ⊥
 no_reply octets (inl never) = never
 no_reply octets (inr none) = none
@@ -108,6 +119,11 @@ but_for_its_use uses recent = record {
   asks = (it_asks_well, (tt, tt), omega arith, ((asks_again_right 2000 history refl, refl), tt));
   given = (it_gives, nothing_came config asks_again history refl);
   tries = (it_asks_once, tries_again 2000 history refl refl);
+  places = 0 ∷ 0 ∷ 0 ∷ [];
+  turns = (
+    turns_so_far,
+    (turns_again 2000 history (0 ∷ 0 ∷ []) refl prefers_first, tt),
+  );
   waiting = (nobody_waits, waits_again 2000 history refl refl refl);
   uses = uses;
   used = [] ∷ [] ∷ [] ∷ [];
@@ -230,6 +246,15 @@ but_for_what_is_recent recent = record {
   asks = ((it_asks_well, tt, omega arith, tt), (tt, tt), omega arith, ((asks_again_right 2000 stumbled refl, refl), tt));
   given = ((it_gives, nothing_came config stumbles history refl), nothing_came config asks_again stumbled refl);
   tries = ((it_asks_once, tt), tries_again 2000 stumbled refl refl);
+  places = 0 ∷ 0 ∷ 0 ∷ 0 ∷ [];
+  turns = (
+    (turns_so_far, tt),
+    (
+      turns_again 2000 stumbled (0 ∷ 0 ∷ 0 ∷ []) refl
+          (prefers_on config stumbles history (0 ∷ 0 ∷ []) 0 0 refl refl prefers_first),
+      tt,
+    ),
+  );
   waiting = (
     (nobody_waits, record { wanted = []; each = tt; asked = tt; wanting = tt; spelled = tt }),
     waits_again 2000 stumbled refl refl refl,

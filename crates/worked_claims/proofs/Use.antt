@@ -16,6 +16,8 @@ use Rattle.step_values.specs.Values.{Action, reply_in_action, from_client, ask_u
 use Rattle.step_table.proofs.Played.{a, b, name_data, address, server, config}
 use Rattle.theorem_use.specs.Standing.{standing}
 use Rattle.theorem_use.specs.Use.{HasRoom, AsksToLookUp, LeadsToEnd, UsesWhatStands}
+use Rattle.theorem_use.proofs.TheoremSound.Served.{served_is}
+use Rattle.cache_laws.proofs.CallerLemmas.{serves_exactly}
 use Rattle.worked_claims.proofs.Texts.{with_flags, question_text, client, step_of}
 use Rattle.worked_claims.proofs.Accepted.{asked}
 use Rattle.worked_claims.proofs.Brought.{looks_up}
@@ -151,9 +153,9 @@ looks_up_plainly actions = record {
   taken = refl;
   opcode = refl;
   reads = refl;
-  served = refl;
+  served = served_is (address a) refl;
   route = 0;
-  on_route = refl;
+  on_route = serves_exactly.only config a 0 refl;
 }
 
 -- the standing denial is used without RD, too

@@ -30,6 +30,7 @@ use Rattle.step_history.specs.History.{listed, Carries}
 use Rattle.step_history.specs.Carried.{NotReplaced}
 use Rattle.step_history.specs.Replies.{full_text, short_text, sized_for}
 use Rattle.step_history.specs.Sound.{Replies, FromCache, Owns, Sound}
+use Rattle.step_history.specs.Turns.{TakesTurn}
 use Rattle.step_table.proofs.Played.{a, address, server, config}
 use Rattle.theorem_use.specs.Asking.{Wants, AsksForWaiting}
 use Rattle.theorem_use.specs.Service.{ServesTruly}
@@ -42,6 +43,7 @@ use Rattle.worked_claims.proofs.ServerDenials.{server_text, ask_at, name_error, 
 use Rattle.worked_claims.proofs.Touches.{touched_nothing, touched_these}
 use Rattle.worked_claims.proofs.Brought.{request_is, not_sent, question_is, waits_for_new, begins_tries}
 use Rattle.worked_claims.proofs.FirstStep.{word, asks_it, only_asks}
+use Rattle.worked_claims.proofs.InTurn.{prefers_on, begins_turn, turns_so_far, prefers_first}
 use Rattle.worked_claims.proofs.Truly.{it_gives, it_asks_once, nobody_waits, handed_on, recent_so_far}
 use Rattle.worked_claims.proofs.Whole.{history, it_is_sound, it_asks_well, it_tells_that_nothing_is_due}
 use Rattle.worked_claims.proofs.Waiting.{no_port_text, closes_at, owns_failure, closes_all}
@@ -165,6 +167,12 @@ unfolding first_question question_at octets_end name_within walk_in name_step
 tries_status = begins_tries config asks_status history (ask_at 1025) (address a) refl refl refl refl
     (inl (address a, refl, refl)) (omega arith)
 
+turn_status : TakesTurn config asks_status history (0 ∷ 0 ∷ []) 0
+    (record { path = Udp 1032; server = server; octets = question_text 8 1 })
+unfolding first_question question_at octets_end name_within walk_in name_step route_of
+turn_status = begins_turn asks_status history (0 ∷ 0 ∷ []) 1032 (question_text 8 1) (address a) refl refl
+    (inl (address a, refl, refl)) tt (prefers_on config asks_status history (0 ∷ 0 ∷ []) 0 0 refl refl prefers_first)
+
 -- ---- all else holds, whatever the slots claimed as used
 
 -- a look-up of the newest step used these slots
@@ -195,6 +203,8 @@ but_for_its_slots slots looked_up = record {
     nothing_came config hit before refl,
   );
   tries = (((it_asks_once, tries_status), tt), tt);
+  places = 0 ∷ 0 ∷ 0 ∷ 0 ∷ 0 ∷ [];
+  turns = (((turns_so_far, (turn_status, tt)), (tt, (tt, tt))), (tt, tt));
   waiting = (
     ((nobody_waits, status_waits), record { wanted = []; each = tt; asked = tt; wanting = tt; spelled = tt }),
     record { wanted = []; each = tt; asked = tt; wanting = tt; spelled = tt },

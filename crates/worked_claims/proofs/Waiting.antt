@@ -22,6 +22,7 @@ use Rattle.step_history.specs.Causes.{NoneAsks, FailedSoFar}
 use Rattle.step_history.specs.Given.{EndsHere, EndsAsking, GivesWhatCame, IsOneOfTries, AsksFewTimes}
 use Rattle.step_history.specs.Replies.{failure_text}
 use Rattle.step_history.specs.Sound.{Owns, Sound, unanswered}
+use Rattle.step_history.specs.Turns.{AskedAt, AsksInTurn}
 use Rattle.step_table.proofs.Played.{a, address, server, config}
 use Rattle.theorem_use.specs.Asking.{AnyByRecursion, Asks, AsksForWaiting, AsksForThoseWhoWait}
 use Rattle.theorem_use.specs.Recent.{UsesWhatIsRecent}
@@ -34,6 +35,7 @@ use Rattle.worked_claims.proofs.Carried.{one_end}
 use Rattle.worked_claims.proofs.Failures.{begun}
 use Rattle.worked_claims.proofs.FirstStep.{word, asked_for, asks_it, asks_right, first_try, uses_nothing, uses_no_slot}
 use Rattle.worked_claims.proofs.FirstStep.{only_asks}
+use Rattle.worked_claims.proofs.InTurn.{first_turn, first_place}
 use Rattle.worked_claims.proofs.ReplyTo.{AcceptsTo}
 
 -- a reply of these octets comes to the ask, without an action
@@ -69,6 +71,9 @@ pub record WaitsAlone (past : List Step) (owners : List (List ℕ)) (used : List
   pub begun : FailedSoFar config (address a) past 0
   pub given : GivesWhatCame config past
   pub tries : AsksFewTimes config past
+  pub places : List ℕ
+  pub turns : AsksInTurn config past places
+  pub asked_first : AskedAt (address a) past places 0
   pub waiting : AsksForThoseWhoWait config past owners
   pub uses : UsesWhatStands config past owners
   pub recent : UsesWhatIsRecent config past owners used
@@ -84,6 +89,9 @@ when_asked = record {
   begun = begun config;
   given = (tt, nothing_came config asked [] refl);
   tries = first_try config false word (omega arith);
+  places = 0 ∷ [];
+  turns = first_turn config.limits false word;
+  asked_first = first_place;
   waiting = (tt, asked_for config false word);
   uses = uses_nothing config false word asks_it [];
   recent = uses_no_slot config false word asks_it [] only_asks;
@@ -123,6 +131,9 @@ when_heard now octets past owners used none_due gives waits =
         subst (AllByRecursion (IsOneOfTries config (hears now octets ∷ past))) (sym waits.asks_one)
             (record { question = address a; reads = refl; before = 0; failed = on; few = omega arith }, tt),
       );
+      places = 0 ∷ waits.places;
+      turns = (waits.turns, tt);
+      asked_first = inr ((λ never. never), waits.asked_first);
       waiting = (
         waits.waiting,
         waits_on (hears now octets) past (concat owners) (inr (refl, waits.in_era)) waits.asks_one waits.asks_one one,
