@@ -66,9 +66,16 @@ class Failures:
             raise Different(why)
         return Verdict(OPEN, NOT_SEEN, 8)
 
-    @staticmethod
-    def has_too_many_aliases(question):
-        """Whether aliases lead back to a name, or are more than a question may have."""
+    def has_too_many_aliases(self, question):
+        """Whether aliases lead back to a name, or are more than a question may have; perhaps cached ones alone."""
+        key, kind, klass = question.asked.same
+        for _ in range(MOST_ALIASES + 1):
+            alias = kind != CNAME and self.history.alias(key, klass, question.moment)
+            if not alias or self.history.restart_between(alias.moment(), question.answered):
+                break
+            key = alias.rows[0].lower()
+        else:
+            return True
         wanted = [key[0] for key in question.wanted]
         replies = [each.reply for each in question.tries if each.reply]
         counts, last = {}, -1
