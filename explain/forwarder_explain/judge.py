@@ -18,6 +18,7 @@ IN_PART = "the capture lacks a part of a reply"
 NO_PORT = "no packet of its servers' port is in the capture"
 NOT_SEEN = "not all of its tries are in the capture"
 NOT_TAKEN = "a reply came in time, and was not taken"
+AGAIN = "it is a second answer to one question"
 UNEQUAL = "an equal question got another answer at one moment"
 
 
@@ -245,7 +246,6 @@ class Judge:
         return None
 
     # Answers with content.
-
     def by_content(self, question, code, octets):
         asked = question.asked
         try:
@@ -414,7 +414,6 @@ class Judge:
             raise Different(UNEQUAL)
 
     # Answers that are cut.
-
     def cut(self, question, code):
         key, kind, klass = question.asked.same
         owner, rows, used, last, is_denied = question.asked.name, [], [], None, False

@@ -69,6 +69,8 @@ class Teller:
 
     def by_reason(self, question, verdict):
         reason, limits = verdict.reason, self.limits
+        if verdict.why == judge.AGAIN:
+            return "answered before"
         if reason in PLAIN:
             return PLAIN[reason]
         if reason == 5:

@@ -36,6 +36,28 @@ def cut_before_a_told_restart():
     return scene.pcap()
 
 
+def failed_early_after_a_restart():
+    """A fault: a client repeats its question after a refusal of another, and SERVFAIL comes before the tries are over.
+    The question from before the restart could have failed then."""
+    scene = Scene()
+    scene.question(0, ONE, 1, WWW)
+    for at, server in ((0.2, FIRST), (1000.2, SECOND), (1800.2, FIRST)):
+        scene.query(at, server, WWW)
+    scene.question(1500, OTHER, 2, WWW)
+    scene.unreachable(1500.1, "10.0.0.53", OTHER, FORWARDER)
+    scene.question(1800, ONE, 1, WWW)
+    scene.answer(2000.5, ONE, 1, WWW, 0x8182)
+    return scene.pcap()
+
+
+def answered_twice():
+    """A fault: a question has a second answer, with another address."""
+    scene = Scene()
+    scene.fetched(0, ONE, 1, WWW, 300, (192, 0, 2, 80))
+    scene.answer(40, ONE, 1, WWW, answers=[address(300, 192, 0, 2, 66)])
+    return scene.pcap()
+
+
 def restarted_in_flight():
     """A question is open when the process ends; the client repeats it under one identifier. Once a reply comes for
     nobody, once no reply."""
