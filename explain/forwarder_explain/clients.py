@@ -47,18 +47,30 @@ class Clients:
         question = next((each for each in fitting or waiting if fitting or each.answer is None), None)
         if len(fitting) > 1:
             question = self.one_of(fitting, moment, octets, sender)
-        if question is None or fitting and question.answer is not None:  # no question, or a second answer
-            self.left_out += 1
-        if question is not None:
+        if question is None:
+            self.without_question(moment, client, octets)
+        else:
+            self.left_out += bool(fitting) and question.answer is not None  # which does not fit
             question.answer, question.answered, question.elsewhere = octets, moment, sender if fitting else None
         if fitting:
             self.close(question)
             self.tell.answered(question)
 
+    def without_question(self, moment, client, octets):
+        """Takes an answer without an open question: perhaps the second one to the client's last question."""
+        last = self.last.get(client)
+        if last is None or last.answer is None or octets[:2] != last.octets[:2] or not is_to(octets, last):
+            self.left_out += 1
+            return
+        again = copy.copy(last)
+        again.answer, again.answered, again.told = octets, moment, False
+        self.tell.answered_again(again)
+
     def one_of(self, fitting, moment, octets, sender):
-        """The question of an answer, of several equal ones: the youngest for which the answer is right. An older one
-        may have been lost, or waited as the service ended."""
-        fitting.sort(key=lambda each: (each.over is not None, -each.moment))
+        """The question of an answer, of several equal ones: the youngest for which the answer is right, and none from
+        before the service's end if there is another. An older one may have been lost."""
+        fitting = [each for each in fitting if each.over is None] or fitting
+        fitting.sort(key=lambda each: -each.moment)
         for question in fitting:
             trial = copy.copy(question)
             trial.answer, trial.answered, trial.elsewhere = octets, moment, sender

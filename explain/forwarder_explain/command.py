@@ -15,7 +15,6 @@ from .wording import moment_text, shown
 
 DIFFERENT, UNREADABLE = 1, 2
 AT_ONCE = 50  # packets that are read before they are explained
-SELDOM = 200_000  # objects between two searches of Python for cycles, of which there are few
 
 
 def note(path, text):
@@ -47,7 +46,7 @@ class Packets:
 
 
 def run(options, settings, files):
-    gc.set_threshold(SELDOM)
+    gc.disable()  # there are few cycles, and searches for them take long
     packets, found = Packets(files), None
     steps = packets.order.steps
 

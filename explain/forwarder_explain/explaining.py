@@ -47,7 +47,6 @@ class Explaining:
         question.answer = question.answer and b""
 
     # What comes.
-
     def take(self, packet):
         moment = packet.moment
         if self.clock.moved:
@@ -117,6 +116,14 @@ class Explaining:
             question.verdict = self.judge.judge(question)
         self.look_at(question, question.verdict)
 
+    def answered_again(self, question):
+        """Takes a second answer to a question, which `question` is a copy of."""
+        kind, why = (judge.OPEN, judge.LOSSY) if self.history.is_lossy else (judge.DIFFERENT, judge.AGAIN)
+        question.verdict = Verdict(kind, why)
+        if not self.is_live:
+            self.pending.append(question)
+        self.close(question)
+
     def look_at(self, question, verdict):
         """Takes the verdict on an answer, which may have to wait for later packets."""
         if not is_doubtful(verdict):
@@ -156,7 +163,6 @@ class Explaining:
             question.verdict = self.judge.judge(question)
 
     # The clock was set.
-
     def has_stepped(self, query):
         """Whether a late reply shows that the clock was set forward; then all is moved, and judged again."""
         octets, moment = query.late
@@ -210,7 +216,6 @@ class Explaining:
                 self.close(question)
 
     # Restarts.
-
     def refused(self, moment, shown):
         restarts = self.history.restarts
         if restarts and restarts[-1].begun is None:
@@ -233,7 +238,6 @@ class Explaining:
                 return
 
     # What is known.
-
     def pass_time(self, now, is_quiet=False):
         """Settles questions that have waited long, and for some packets: the clock may just have been set."""
         while self.due and self.due[0][0] < now:

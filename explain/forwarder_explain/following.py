@@ -55,7 +55,6 @@ class Follower:
             raise Ended
 
     # What comes.
-
     def take(self, packet):
         if packet[0] < self.back:
             return
@@ -108,7 +107,6 @@ class Follower:
         return self.run is not None and bool(self.run.explaining.traffic.sides.questions)
 
     # The end.
-
     def end(self):
         self.go_on(True)
         if not self.has_question():

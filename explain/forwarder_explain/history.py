@@ -58,7 +58,6 @@ class History:
         self.told.append(Restart(since - SECOND, max(until, since + SECOND), "told by --restarted"))
 
     # What came.
-
     def put(self, piece, reply, is_sure):
         self.enter(piece.slot(), Occurrence(piece, reply, is_sure), reply.moment)
         if piece.form != NAME_ERROR:
@@ -100,7 +99,6 @@ class History:
         return occurrence
 
     # What is known of a moment.
-
     def at(self, slot):
         return self.slots.get(slot, ())
 

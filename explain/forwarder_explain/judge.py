@@ -18,6 +18,7 @@ IN_PART = "the capture lacks a part of a reply"
 NO_PORT = "no packet of its servers' port is in the capture"
 NOT_SEEN = "not all of its tries are in the capture"
 NOT_TAKEN = "a reply came in time, and was not taken"
+AGAIN = "it is a second answer to one question"
 UNEQUAL = "an equal question got another answer at one moment"
 
 
@@ -66,9 +67,16 @@ class Failures:
             raise Different(why)
         return Verdict(OPEN, NOT_SEEN, 8)
 
-    @staticmethod
-    def has_too_many_aliases(question):
-        """Whether aliases lead back to a name, or are more than a question may have."""
+    def has_too_many_aliases(self, question):
+        """Whether aliases lead back to a name, or are more than a question may have; perhaps cached ones alone."""
+        key, kind, klass = question.asked.same
+        for _ in range(MOST_ALIASES + 1):
+            alias = kind != CNAME and self.history.alias(key, klass, question.moment)
+            if not alias or self.history.restart_between(alias.moment(), question.answered):
+                break
+            key = alias.rows[0].lower()
+        else:
+            return True
         wanted = [key[0] for key in question.wanted]
         replies = [each.reply for each in question.tries if each.reply]
         counts, last = {}, -1
@@ -238,7 +246,6 @@ class Judge:
         return None
 
     # Answers with content.
-
     def by_content(self, question, code, octets):
         asked = question.asked
         try:
@@ -407,7 +414,6 @@ class Judge:
             raise Different(UNEQUAL)
 
     # Answers that are cut.
-
     def cut(self, question, code):
         key, kind, klass = question.asked.same
         owner, rows, used, last, is_denied = question.asked.name, [], [], None, False

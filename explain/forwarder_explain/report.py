@@ -69,6 +69,8 @@ class Teller:
 
     def by_reason(self, question, verdict):
         reason, limits = verdict.reason, self.limits
+        if verdict.why == judge.AGAIN:
+            return "answered before"
         if reason in PLAIN:
             return PLAIN[reason]
         if reason == 5:
@@ -112,7 +114,9 @@ class Teller:
         return self.asked(question) if question.tries else NO_QUERY
 
     def asked(self, question):
-        return f"{'joined a query under way to' if question.joined else 'asked'} {self.tries(question)}"
+        tries = self.tries(question)
+        joined = f"joined a query under way {'' if tries.startswith('for ') else 'to '}"
+        return (joined if question.joined else "asked ") + tries
 
     @staticmethod
     def from_cache(question, used):

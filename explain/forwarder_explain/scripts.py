@@ -31,7 +31,6 @@ class Scripts:
         return self.numbers.setdefault(id(each), (len(self.numbers), each))[0]
 
     # What comes.
-
     def question(self, question):
         client = f"udp {shown((question.peer[0], question.peer[1] or LAST_PORT))}"
         if question.is_over_tcp():
@@ -66,7 +65,6 @@ class Scripts:
             self.different[self.number_of(question)] = said
 
     # The scripts.
-
     def names(self):
         found = {key for key, *_ in self.different.values()} or set(self.wanted)
         for _ in range(MOST_ALIASES + 1):

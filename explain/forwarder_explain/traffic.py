@@ -197,7 +197,6 @@ class Traffic:
             self.upstream.unreachable(packet, None)
 
     # Connections.
-
     def segment(self, packet):
         connection = self.connection_of(packet)
         if connection is None:

@@ -29,7 +29,6 @@ class Upstream:
         self.foreign, self.seen, self.record, self.sent = 0, 0, None, {}
 
     # Queries.
-
     def datagram(self, moment, source, target, octets):
         asked, query = asked_in(octets), None
         if asked is None:
@@ -108,7 +107,6 @@ class Upstream:
         self.open.pop(id(query), None)
 
     # Replies.
-
     def reply(self, moment, query, source, octets, is_cut):
         if is_cut and source == query.server and len(octets) >= HEADER:
             self.end(query, MISSING, moment)
@@ -216,7 +214,6 @@ class Upstream:
         self.end(query, how, moment)
 
     # Connections.
-
     def connect(self, connection, moment):
         """A connection to a server begins, perhaps after a cut reply: its question is known later, or never."""
         query = connection.query = Query(moment, "tcp", connection.server, connection.client)

@@ -1,6 +1,6 @@
 """Captures of aliases through the cache, of cut answers, of a failure next to an answer, and of wrong forms."""
 from making import DENIAL, asked, octets
-from office import FIRST, FORWARDER, ONE, OTHER, REPLY, SECOND, Scene
+from office import CORPORATE, FIRST, FORWARDER, ONE, OTHER, REPLY, SECOND, Scene
 from repository.packing import ANY, CNAME, NS, address, message, name, record
 
 WEB, WWW = asked("web.example.com"), asked("www.example.com")
@@ -25,6 +25,21 @@ def nine_aliases():
     scene.question(5000, ONE, 2, first)
     scene.replied(5000.2, 5010.2, FIRST, second, answers=links[1:])
     scene.answer(5011, ONE, 2, first, 0x8182)
+    return scene.pcap()
+
+
+def circle_over_two_routes():
+    """Aliases of two routes lead in a circle. A name is asked for again as its alias comes, before the alias is cached;
+    a question meanwhile finds nine aliases. The query is silent, and sent again."""
+    scene, web = Scene(), asked("web.corp.example")
+    to_web, to_www = (record(b"\xc0\x0c", CNAME, 300, name(each)) for each in ("web.corp.example", "www.example.com"))
+    scene.question(0, ONE, 1, WWW)
+    scene.replied(0.2, 10.2, FIRST, WWW, answers=[to_web])
+    scene.replied(10.4, 20.4, CORPORATE, web, answers=[to_www])
+    scene.query(20.6, CORPORATE, web)
+    scene.told(25, 25.2, OTHER, 2, WWW, 0x8182)
+    scene.replied(1020.6, 1030.6, CORPORATE, web, answers=[to_www])
+    scene.answer(1031, ONE, 1, WWW, 0x8182)
     return scene.pcap()
 
 

@@ -34,14 +34,9 @@ class Followed:
     """A run with --follow whose lines are read as they come."""
 
     def __init__(self, program, capture, *options):
-        self.run = subprocess.Popen(
-            [TOOL, "--program", program, "--follow", *options, "office.toml", capture],
-            cwd=CAPTURES,
-            env={**os.environ, "TZ": "UTC"},
-            stdin=subprocess.PIPE,
-            stdout=subprocess.PIPE,
-            stderr=subprocess.PIPE,
-        )
+        words = [TOOL, "--program", program, "--follow", *options, "office.toml", capture]
+        pipes = dict.fromkeys(("stdin", "stdout", "stderr"), subprocess.PIPE)
+        self.run = subprocess.Popen(words, cwd=CAPTURES, env={**os.environ, "TZ": "UTC"}, **pipes)
         self.came = queue.Queue()
         threading.Thread(target=self.read, daemon=True).start()
 
@@ -83,6 +78,7 @@ class Followed:
 
 
 def stored(name, ending):
+    """The lines stored next to a capture; nothing if there is no such file."""
     path = CAPTURES / f"{name}.{ending}"
     return path.read_text() if path.exists() else ""
 
@@ -118,8 +114,7 @@ def through_a_pipe(program):
 
 def in_a_folder(program):
     """Two names take turns, as in a ring: each file has some packets, each in two halves. Each line comes soon after
-    its answer. A file is removed, and a text is no capture.
-    """
+    its answer. A file is removed, and a text is no capture."""
     head, packets = packets_of(capture_of("answers"))
     wanted = stored("answers", "expected").splitlines(keepends=True)
     # How many lines are known after each group of packets: questions 1 to 9 take 4, 2, 4, 2, 4, 2, 2
@@ -203,11 +198,8 @@ def ended_by_a_signal(program):
     run.write(head + b"".join(packets[:5]))
     first = run.lines(1)
     printed, said, status = run.end(signal.SIGINT)
-    yield "open", (first, printed[0].partition(": ")[2], status), (
-        stored("answers", "expected").splitlines(keepends=True)[:1],
-        "no answer was captured\n",
-        0,
-    )
+    wanted = stored("answers", "expected").splitlines(keepends=True)[:1], "no answer was captured\n", 0
+    yield "open", (first, printed[0].partition(": ")[2], status), wanted
 
 
 class Ended(following.Follower):
@@ -392,11 +384,9 @@ def nothing_grows(program):
                 kept = explaining.traffic.clients.count + len(explaining.due) + len(explaining.sent)
                 largest[0] = max(largest[0], kept + len(explaining.held) + len(follower.order.waiting))
 
-        put = following.Follower.take
-        calls = iter(range(10**9))
-        with unittest.mock.patch.object(
-            following.Follower, "take", lambda own, packet: (put(own, packet), next(calls) % 500 or look(own))
-        ):
+        put, calls = following.Follower.take, iter(range(10**9))
+        take = lambda own, packet: (put(own, packet), next(calls) % 500 or look(own))  # noqa: E731
+        with unittest.mock.patch.object(following.Follower, "take", take):
             followed(program, settings, many.many(count, 4.0))
         most.append(largest[0])
     yield most, most[1] < 1.2 * most[0], True

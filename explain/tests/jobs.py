@@ -33,9 +33,7 @@ def explained(program, settings, name, octets, *words):
     """The status of a run over a capture, with standard output and standard error."""
     options = command.arguments(["--program", program, *words, "office.toml", name])
     with contextlib.redirect_stdout(io.StringIO()) as printed, contextlib.redirect_stderr(io.StringIO()) as said:
-        status = command.guarded(
-            options, lambda: command.run(options, settings, [io.BytesIO(octets)])
-        )
+        status = command.guarded(options, lambda: command.run(options, settings, [io.BytesIO(octets)]))
     return status, printed.getvalue(), said.getvalue()
 
 

@@ -1,8 +1,7 @@
 """Captures with packets left out: each single one, and pairs by a fixed seed.
 
 No answer may be different for such a loss, if the capture counts lost packets. A fault has to stay a fault without
-further packets, if the capture counts none.
-"""
+further packets, if the capture counts none."""
 import itertools
 import random
 import struct

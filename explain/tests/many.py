@@ -16,10 +16,8 @@ def many(count, each=1.0):
         # Names that are asked often, and ever more rare names.
         rank = (number >> 8) % 100
         which = (number >> 16) % 50 if rank < 80 else 50 + (number >> 12) % NAMES
-        question, client = (
-            asked(f"n{which}.example.com"),
-            f"10.0.{place % 5}.{1 + place % 200}:{1024 + place % OWN_PORTS}",
-        )
+        question = asked(f"n{which}.example.com")
+        client = f"10.0.{place % 5}.{1 + place % 200}:{1024 + place % OWN_PORTS}"
         identifier, numbers = place % 65536, (192, 0, 2, which % 256)
         accepted = known.get(which)
         if accepted is not None and at > accepted + 3 and at < accepted + 1000 * SECONDS - 3:

@@ -11,9 +11,7 @@ from repository.packing import ANY, CNAME, address, record
 
 HERE = pathlib.Path(__file__).resolve().parent
 CAPTURES = HERE / "captures"
-TAGS = set(
-    "html head meta title style body h1 h2 p b br a span table tr th td ol li pre svg text rect".split(" ")
-)
+TAGS = set("html head meta title style body h1 h2 p b br a span table tr th td ol li pre svg text rect".split(" "))
 VOID = {"meta", "br"}
 ATTRIBUTES = set(
     "lang charset http-equiv content name class id href style role width height viewbox x y text-anchor font-size "

@@ -1,4 +1,5 @@
 """Captures of a service that begins anew."""
+from lossy import over_tcp
 from making import asked
 from office import ACK, FIRST, FORWARDER, ONE, OTHER, RST, SECOND, SYN, Scene
 from repository.packing import address, framed
@@ -17,6 +18,43 @@ def restarted():
     scene.answer(9013, ONE, 3, WWW, answers=[address(300, 192, 0, 2, 80)])
     # Accepted at 9012 ms: 300 - 0.988 s are left.
     scene.told(10000, 10000.3, OTHER, 4, WWW, answers=[address(299, 192, 0, 2, 80)])
+    return scene.pcap()
+
+
+def cut_before_a_told_restart():
+    """A reply is cut as the service ends, and its name is then answered by the other server. The next connection is for
+    a later cut reply: it asks for no cached name."""
+    scene = Scene()
+    scene.question(0, ONE, 1, WWW)
+    scene.replied(0.2, 10.2, FIRST, WWW, 0x8780)
+    scene.question(200, ONE, 1, WWW)
+    scene.replied(200.2, 210.2, SECOND, WWW, answers=[address(300, 192, 0, 2, 80)])
+    scene.answer(211, ONE, 1, WWW, answers=[address(300, 192, 0, 2, 80)])
+    over_tcp(scene, 300, "text.example.com", [])
+    # Accepted at 210 ms: 300 - 1.790 s are left.
+    scene.told(2000, 2000.2, OTHER, 2, WWW, answers=[address(298, 192, 0, 2, 80)])
+    return scene.pcap()
+
+
+def failed_early_after_a_restart():
+    """A fault: a client repeats its question after a refusal of another, and SERVFAIL comes before the tries are over.
+    The question from before the restart could have failed then."""
+    scene = Scene()
+    scene.question(0, ONE, 1, WWW)
+    for at, server in ((0.2, FIRST), (1000.2, SECOND), (1800.2, FIRST)):
+        scene.query(at, server, WWW)
+    scene.question(1500, OTHER, 2, WWW)
+    scene.unreachable(1500.1, "10.0.0.53", OTHER, FORWARDER)
+    scene.question(1800, ONE, 1, WWW)
+    scene.answer(2000.5, ONE, 1, WWW, 0x8182)
+    return scene.pcap()
+
+
+def answered_twice():
+    """A fault: a question has a second answer, with another address."""
+    scene = Scene()
+    scene.fetched(0, ONE, 1, WWW, 300, (192, 0, 2, 80))
+    scene.answer(40, ONE, 1, WWW, answers=[address(300, 192, 0, 2, 66)])
     return scene.pcap()
 
 

@@ -40,8 +40,7 @@ class Told:
 def explained(explainer, configuration, capture, options=()):
     """Runs the explainer for its objects; seconds are of the clock or of the processor, if less.
 
-    The memory is the largest of a single process.
-    """
+    The memory is the largest of a single process."""
     words = [*explainer, "--json", *options, str(configuration), str(capture)]
     with tempfile.TemporaryFile("w+") as output, tempfile.TemporaryFile("w+") as errors:
         started = time.monotonic()

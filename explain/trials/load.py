@@ -1,12 +1,17 @@
 """A capture of 300,000 questions, made from a model of the service, and how it is explained."""
 import heapq
 import itertools
+import pathlib
 import random
 import socket
 import struct
+import sys
 
 import judging
 from world import configuration
+
+sys.path.append(str(pathlib.Path(__file__).resolve().parents[2] / "tools"))
+from repository import packing  # noqa: E402 (the path is known only now)
 
 QUESTIONS, GAP, TRY = 300000, 1000, 300000  # times in microseconds
 MOST_SECONDS, MOST_OCTETS = 30, 200 * 10**6
@@ -29,13 +34,9 @@ def datagram(source, target, octets):
 
 def message(number, flags, name, lifetime=None):
     """A question for an address, or its reply with one record."""
-    text = b"".join(bytes([len(label)]) + label.encode() for label in name.split("."))
-    head = struct.pack("!6H", number, flags, 1, lifetime is not None, 0, 0)
-    octets = head + text + b"\0\0\1\0\1"
-    if lifetime is not None:
-        address = 0xC6120000 + sum(name.encode()) * 7919 % 65536
-        octets += struct.pack("!HHHIHI", 0xC00C, 1, 1, lifetime, 4, address)
-    return octets
+    numbers = 198, 18, *divmod(sum(name.encode()) * 7919 % 65536, 256)
+    found = [] if lifetime is None else [packing.address(lifetime, *numbers)]
+    return packing.message(number, flags, packing.question(packing.name(name)), found)
 
 
 class Model:

@@ -1,8 +1,7 @@
 """Plants faults: each changes packets of a capture of a right service, so that one answer is wrong.
 
 The file `planted` has one fault a line. Its word names a function, called with the case, the
-question and the further words.
-"""
+question and the further words."""
 import json
 import pathlib
 import socket

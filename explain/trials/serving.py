@@ -117,8 +117,7 @@ def forged(reply, how):
 class NameServers(threading.Thread):
     """Servers at several addresses, by UDP and TCP at port 53, until `ended`.
 
-    `how` says of an address: serves, silent, or refuses (RCODE 5).
-    """
+    `how` says of an address: serves, silent, or refuses (RCODE 5)."""
 
     def __init__(self):
         super().__init__(daemon=True)

@@ -1,8 +1,7 @@
 """A machine with the service, and a network of clients and name servers: two network namespaces.
 
 The machine has 10.0.0.53 and 10.0.0.54, the network all other addresses. Nothing else runs in
-either, so a capture of the machine has the packets of the trial alone.
-"""
+either, so a capture of the machine has the packets of the trial alone."""
 import contextlib
 import ctypes
 import os

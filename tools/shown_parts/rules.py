@@ -48,6 +48,7 @@ RULES = [
     Rule(r"(sudo )?tcpdump .*-w [^-]\S+ .*", until=4),
     Rule(r"(sudo )?(tcpdump|forwarder-explain) (?s:.*)--follow (?s:.*)|"
          r"(sudo )?forwarder-explain --follow (?s:.*)", scene="captured", until=4),
+    Rule(r"sudo forwarder-explain --from 08:00 (?s:.*)", scene="morning"),
     Rule(r".*(/var/lib/forwarder-capture|seen\.pcap)(?s:.*)", scene="captured"),
     Rule(r"forwarder-import (?s:.*)", status=1),
     Rule(r"forwarder-advise --ask .*", status=1, scene="unwise"),

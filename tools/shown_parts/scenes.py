@@ -1,5 +1,7 @@
 """What has to be there before a page's first command, or before a single command."""
+import datetime
 import pathlib
+import struct
 import subprocess
 
 from .machine import COMPANY, OUTSIDE
@@ -49,6 +51,19 @@ def captured(_office):
         capture = "timeout -s INT 2.5 tcpdump -U -i any -w /tmp/seen.pcap 'port 53 or icmp'"
         shell(f"{capture} & sleep 1; {ASKED}; wait")
         shell(f"cp /tmp/seen.pcap {RING}/seen.pcap3; cp /tmp/seen.pcap seen.pcap")
+
+
+def morning(office):
+    """The ring has a capture from ten o'clock, too."""
+    captured(office)
+    octets = bytearray((RING / "seen.pcap3").read_bytes())
+    ten = int(datetime.datetime.now().replace(hour=10, minute=0, second=0).timestamp())
+    at, first = 24, struct.unpack_from("<I", octets, 24)[0]
+    while at + 16 <= len(octets):
+        seconds, _, size = struct.unpack_from("<3I", octets, at)
+        struct.pack_into("<I", octets, at, ten + seconds - first)
+        at += 16 + size
+    (RING / "seen.pcap4").write_bytes(octets)
 
 
 def company_down(office):
