@@ -1,3 +1,4 @@
 mod Neighbours
 mod Turns
 mod Services
+mod Commands

@@ -26,7 +26,7 @@ use Rattle.worked_turns.proofs.Neighbours.{HoldsButFor}
 abbrev server : Peer
 server = record { ip = 192 ∷ 0 ∷ 2 ∷ 1 ∷ []; port = 53 }
 
-abbrev config : Config
+abbrev pub config : Config
 config = record {
   listen = server;
   limits = default_limits;
@@ -45,20 +45,20 @@ took = record { input = ticks.input; answer = Some ticks.outcome; puts = [] }
 abbrev turns : List Turn
 turns = record { arrival = Some nothing; served = []; ticks = (took ∷ []) ∷ [] } ∷ []
 
-abbrev before : Running
+abbrev pub before : Running
 before = record { config = config; state = initial config }
 
-abbrev after : Running
+abbrev pub after : Running
 after = record { config = config; state = record (initial config) { moment = 1000 } }
 
 row : Row config before.state ticks.input ticks.outcome after.state
 row = record { octets = tt; happens = refl; more = refl }
 
 -- the wire reported nothing before, and then this turn
-abbrev silent : Journal
+abbrev pub silent : Journal
 silent = journal (Some silence) 0
 
-abbrev heard : Journal
+abbrev pub heard : Journal
 heard = journal (Some (report_in turns)) 0
 
 abbrev counts : Served
@@ -92,7 +92,7 @@ serves = record {
 -- ---- its line
 
 -- turns D lost 0, with this digit, and the end of the line
-abbrev line : ℕ → List ℕ
+abbrev pub line : ℕ → List ℕ
 line digit = 116 ∷ 117 ∷ 114 ∷ 110 ∷ 115 ∷ 32 ∷ digit ∷ 32 ∷ 108 ∷ 111 ∷ 115 ∷ 116 ∷ 32 ∷ 48 ∷ 10 ∷ []
 
 -- the whole line has the digits of both numbers
@@ -101,13 +101,13 @@ unfolding digits
 line_is = refl
 
 -- the digit of the turns, whatever was lost
-digit_is : (lost : ℕ) → (get_or (counted_text 1 lost ++ 10 ∷ []) 6 0 ≡ 49)
+pub digit_is : (lost : ℕ) → (get_or (counted_text 1 lost ++ 10 ∷ []) 6 0 ≡ 49)
     × (get_or (counted_text 2 lost ++ 10 ∷ []) 6 0 ≡ 50)
 unfolding digits
 digit_is lost = (refl, refl)
 
 -- after the letter A
-it_serves : ServesAndReports before silent 1 after heard (Some (65 ∷ [])) (Some (65 ∷ line 49))
+pub it_serves : ServesAndReports before silent 1 after heard (Some (65 ∷ [])) (Some (65 ∷ line 49))
 unfolding digits
 it_serves = record { counts = counts; serves = serves; reports = refl }
 
