@@ -54,16 +54,17 @@ def captured(_office):
 
 
 def morning(office):
-    """The ring has a capture from ten o'clock, too."""
+    """The ring's capture is from ten o'clock."""
     captured(office)
-    octets = bytearray((RING / "seen.pcap3").read_bytes())
+    capture = RING / "seen.pcap3"
+    octets = bytearray(capture.read_bytes())
     ten = int(datetime.datetime.now().replace(hour=10, minute=0, second=0).timestamp())
     at, first = 24, struct.unpack_from("<I", octets, 24)[0]
     while at + 16 <= len(octets):
         seconds, _, size = struct.unpack_from("<3I", octets, at)
         struct.pack_into("<I", octets, at, ten + seconds - first)
         at += 16 + size
-    (RING / "seen.pcap4").write_bytes(octets)
+    capture.write_bytes(octets)
 
 
 def company_down(office):
