@@ -121,16 +121,18 @@ def led_on_together():
 
 @script
 def large_replies():
-    """4,095 records in a set, over TCP and cut over UDP; 65,000 octets in a record, and none."""
+    """4,095 records in a set, over TCP and cut over UDP; 65,000 octets in a record, and none; a
+    reply of 65,535 octets, and one of 65,536."""
     made = Script()
     addresses = [record(A, struct.pack("!I", number), owner=b"\0") for number in range(4095)]
     asked = made.ask("", client="tcp 7")
     made.ask("", client="udp 10.0.0.7:1024")
     made.reply(asked, "", *addresses)
     made.ask("", client="tcp 8")
-    for kind, data in ((OPAQUE, bytes(65_000)), (OPAQUE + 1, b"")):
+    most = 65_535 - 12 - 16 - 12  # without the header, the question and the record's front
+    for kind, length in enumerate((65_000, 0, most, most + 1), OPAQUE):
         asked = made.ask(name_of(1), kind, client="tcp 9")
-        made.reply(asked, name_of(1), record(kind, data), kind=kind)
+        made.reply(asked, name_of(1), record(kind, bytes(length)), kind=kind)
         made.ask(name_of(1), kind, client="udp 10.0.0.7:1024")
     return made
 
@@ -150,11 +152,16 @@ def all_routes():
 
 @script
 def long_names():
-    """Names of 255 octets: a question, a suffix, the target of an alias, an SOA's names."""
+    """Names of 255 octets: a question, also with a pointer at its end, a suffix, the target of an
+    alias, an SOA's names."""
     made, target = Script((route(), route(LONG))), name(LONG.swapcase())
     asked = made.ask(LONG)
     made.reply(asked, LONG, ADDRESS)
     made.ask(LONG)
+    for text in (LONG, LONG.replace("b", "c")):
+        # The pointer leads to a zero octet of the header, the root.
+        octets = packing.message(7, 0x0100, question(name(text)[:-1] + b"\xc0\x06", A, IN))
+        made.add(f"client tcp 7 {octets.hex()}")
     asked = made.ask(name_of(1))
     made.reply(asked, name_of(1), record(CNAME, target))
     soa = name(LONG) + target + struct.pack("!5I", 1, 2, 3, 4, 600)
