@@ -1,29 +1,27 @@
 -- The message of an answer shows the answer's chain.
-use Rattle.std.proofs.Common.{◌≡◌, ℕ, ◌<◌, List, [], ◌∷◌, ◌++◌, length, Some, refl, sym, ap, ◌∙◌, subst, arith}
+use Rattle.std.proofs.Common.{◌≡◌, ℕ, List, [], ◌∷◌, ◌++◌, length, Some, refl, sym, ap, ◌∙◌, subst}
 use Rattle.std.proofs.Common.{false, append-nil, append_assoc}
 use Rattle.std.proofs.lemmas.List.{map-append}
 use Rattle.std.specs.Prelude.{map}
 use Rattle.std.specs.List.{flat_map, AllByRecursion}
 use Rattle.dns_message.specs.declared.reading.header.Header.{Header}
-use Rattle.dns_message.specs.Header.{header_in}
 use Rattle.dns_message.specs.Values.{Question, Record}
-use Rattle.dns_message.specs.Messages.{Spells}
 use Rattle.trust_rank.specs.Values.{Body, rows, no_data, denied}
 use Rattle.record_cache.specs.Values.{Held}
 use Rattle.answer_builder.specs.Values.{PieceWithTtl, Sections, asked_in}
 use Rattle.answer_builder.specs.Answers.{with_ttl, with_stale_ttl, with_stale_ttls, answers_of, rcode_of, soa_records}
 use Rattle.answer_builder.specs.Answers.{sections_with_ttls, sections_of, full_answer}
-use Rattle.step_history.specs.History.{Look, moment_at}
+use Rattle.step_history.specs.History.{Look}
 use Rattle.step_history.specs.Answers.{FollowsAliases, EndsChain}
-use Rattle.step_history.specs.Stale.{IsSet}
-use Rattle.step_history.specs.Replies.{stale_sections, denied_sections, FitsTransport}
-use Rattle.theorem_cache.proofs.CallerLemmas.{answers_are_spelled, stale_answers_are_spelled, local_answers_are_spelled}
-use Rattle.read_answers.specs.Read.{AreSecondsLeft, AreStaleSeconds, BeginWith, IsResponseTo}
-use Rattle.read_answers.specs.Read.{ShowsChain, ShowsStaleChain, ShowsDenial}
+use Rattle.step_history.specs.Stale.{IsSet, FollowsStale}
+use Rattle.read_answers.specs.Texts.{stale_sections, denied_sections}
+use Rattle.step_history.specs.Read.{AreSecondsLeft, AreStaleSeconds, BeginWith, IsResponseTo}
+use Rattle.step_history.specs.Read.{ShowsChain, ShowsStaleChain, ShowsDenial}
 use Rattle.read_answers.specs.Laws.{AnswersAreRead, StaleAnswersAreRead, LocalAnswersAreRead}
 use Rattle.read_answers.proofs.Records.{IsSetOf, sets_shown, left_shown, stale_shown, aliases_are_sets}
 use Rattle.read_answers.proofs.Records.{stale_aliases_are_sets, end_shown, sections_with, sections_are}
-use Rattle.read_answers.proofs.Cut.{whole_or_cut}
+use Rattle.read_answers.proofs.Texts.{sections_can, stale_can, denied_can}
+use Rattle.read_answers.proofs.Cut.{sized_text}
 
 -- ---- a message with these sections
 
@@ -42,11 +40,6 @@ responds h q s = record {
   additional = refl;
 }
 
-small_code : (b : Body) → rcode_of b < 16
-small_code (rows each) = omega arith
-small_code (no_data soa) = omega arith
-small_code (denied soa) = omega arith
-
 -- the records of the last piece alone
 alone : (x : PieceWithTtl) → flat_map answers_of (x ∷ []) ≡ answers_of x
 alone x = append-nil (answers_of x)
@@ -60,10 +53,10 @@ chain_is : (t : ℕ) (os : List Held) (end : Held) → chain_sections t os end �
 chain_is t os end = sym (ap sections_with_ttls (map-append (with_ttl t) os (end ∷ []))
     ∙ sections_are (map (with_ttl t) os) (with_ttl t end))
 
-chain_shown : (l : Look) (h : Header) (q last : Question) (os : List Held) (end : Held) (t : ℕ)
+sections_shown : (l : Look) (h : Header) (q last : Question) (os : List Held) (end : Held) (t : ℕ)
     → FollowsAliases l q os last → EndsChain last end.piece end.piece.body
     → ShowsChain h q os end t (full_answer (asked_in h (Some q)) (chain_sections t os end))
-chain_shown l h q last os end t follows ends = record {
+sections_shown l h q last os end t follows ends = record {
   response = responds h q (chain_sections t os end);
   rest = answers_of (with_ttl t end);
   begins = subst (λ (rs : List Record). BeginWith (AreSecondsLeft t) os
@@ -73,18 +66,17 @@ chain_shown l h q last os end t follows ends = record {
   ends = end_shown t end last end.piece.body refl ends;
 }
 
+pub chain_shown : (l : Look) (h : Header) (q last : Question) (os : List Held) (end : Held) (t : ℕ)
+    → FollowsAliases l q os last → EndsChain last end.piece end.piece.body
+    → ShowsChain h q os end t (full_answer (asked_in h (Some q)) (sections_of t (os ++ end ∷ [])))
+chain_shown l h q last os end t follows ends =
+    subst (λ (s : Sections). ShowsChain h q os end t (full_answer (asked_in h (Some q)) s)) (chain_is t os end)
+    (sections_shown l h q last os end t follows ends)
+
 pub answers_are_read : AnswersAreRead
-answers_are_read l client h q octets a asks told m spells =
-    let t : ℕ = moment_at l.now in
-    let s : Sections = sections_of t (a.aliases ++ a.end ∷ []) in
-    let is : chain_sections t a.aliases a.end ≡ s = chain_is t a.aliases a.end in
-    whole_or_cut client h q s (ShowsChain h q a.aliases a.end t)
-    (subst (λ (x : Sections). ShowsChain h q a.aliases a.end t (full_answer (asked_in h (Some q)) x)) is
-    (chain_shown l h q a.chain.last a.aliases a.end t a.chain.leads.follows a.chain.ends))
-    asks.opcode (subst (λ (x : Sections). x.rcode < 16) is (small_code a.end.piece.body)) m
-    (answers_are_spelled (asked_in h (Some q)) q t a.aliases a.end asks told client
-    (subst (λ (o : List ℕ). FitsTransport client o) a.text a.fits))
-    (subst (λ (o : List ℕ). Spells o m) a.text spells)
+answers_are_read l client a h q last t aliases end is asks can follows ends =
+    sized_text client a h q (sections_of t (aliases ++ end ∷ [])) (ShowsChain h q aliases end t) is
+    (chain_shown l h q last aliases end t follows ends) asks (sections_can t (aliases ++ end ∷ []) can)
 
 -- ---- answers with expired data
 
@@ -125,10 +117,10 @@ set_of o kind (rows each) is set kind_is = record { kind = kind; each = each; ki
 set_of o kind (no_data soa) is set kind_is = absurd set
 set_of o kind (denied soa) is set kind_is = absurd set
 
-stale_chain_shown : (h : Header) (q : Question) (held found : List Held) (end : Held) (t : ℕ)
+stale_sections_shown : (h : Header) (q : Question) (held found : List Held) (end : Held) (t : ℕ)
     → AllByRecursion IsSetOf held → AllByRecursion IsSetOf found → IsSetOf end → IsSet end.piece.body
     → ShowsStaleChain h q held found end t (full_answer (asked_in h (Some q)) (stale_chain t held found end))
-stale_chain_shown h q held found end t held_are found_are end_is set = record {
+stale_sections_shown h q held found end t held_are found_are end_is set = record {
   response = responds h q (stale_chain t held found end);
   more = flat_map answers_of (stale_pieces t found end);
   rest = answers_of (with_stale_ttl t end);
@@ -141,32 +133,26 @@ stale_chain_shown h q held found end t held_are found_are end_is set = record {
   rcode = (set_has_no_soa (with_stale_ttl t end).seconds end.piece.body set).1;
 }
 
+pub stale_chain_shown : (l : Look) (h : Header) (q wanted last : Question) (held found : List Held) (end : Held) (t : ℕ)
+    → FollowsAliases l q held wanted → FollowsStale l wanted found last → IsSet end.piece.body
+    → end.piece.slot.kind ≡ Some last.kind
+    → ShowsStaleChain h q held found end t (full_answer (asked_in h (Some q)) (stale_sections t held found end))
+stale_chain_shown l h q wanted last held found end t follows goes_on set kind =
+    subst (λ (s : Sections). ShowsStaleChain h q held found end t (full_answer (asked_in h (Some q)) s))
+    (stale_is t held found end)
+    (stale_sections_shown h q held found end t (aliases_are_sets l q wanted held follows)
+    (stale_aliases_are_sets l wanted last found goes_on) (set_of end last.kind end.piece.body refl set kind) set)
+
 pub stale_answers_are_read : StaleAnswersAreRead
-stale_answers_are_read l client request octets r asks told m spells =
-    let t : ℕ = moment_at l.now in
-    let h : Header = header_in request in
-    let q : Question = r.tries.question in
-    let held : List Held = r.tries.aliases in
-    let found : List Held = r.answers.found in
-    let end : Held = r.answers.end in
-    let s : Sections = stale_sections t held found end in
-    let is : stale_chain t held found end ≡ s = stale_is t held found end in
-    let set : IsSet end.piece.body = r.answers.chain.justified.is_set in
-    whole_or_cut client h q s (ShowsStaleChain h q held found end t)
-    (subst (λ (x : Sections). ShowsStaleChain h q held found end t (full_answer (asked_in h (Some q)) x)) is
-    (stale_chain_shown h q held found end t (aliases_are_sets l q r.tries.last held r.tries.leads.follows)
-    (stale_aliases_are_sets l r.tries.last r.answers.chain.last found r.answers.chain.follows)
-    (set_of end r.answers.chain.last.kind end.piece.body refl set r.answers.chain.slot.kind) set))
-    asks.opcode (subst (λ (x : Sections). x.rcode < 16) is (small_code end.piece.body)) m
-    (stale_answers_are_spelled (asked_in h (Some q)) q t held found end asks told client
-    (subst (λ (o : List ℕ). FitsTransport client o) r.answers.text r.answers.fits))
-    (subst (λ (o : List ℕ). Spells o m) r.answers.text spells)
+stale_answers_are_read l client a h q wanted last t held found end is asks can follows goes_on set kind =
+    sized_text client a h q (stale_sections t held found end) (ShowsStaleChain h q held found end t) is
+    (stale_chain_shown l h q wanted last held found end t follows goes_on set kind) asks (stale_can t held found end can)
 
 -- ---- denials by a route
 
-denial_shown : (h : Header) (q : Question) (os : List Held) (t : ℕ) → AllByRecursion IsSetOf os
+denial_sections_shown : (h : Header) (q : Question) (os : List Held) (t : ℕ) → AllByRecursion IsSetOf os
     → ShowsDenial h q os t (full_answer (asked_in h (Some q)) (denied_sections t os))
-denial_shown h q os t are = record {
+denial_sections_shown h q os t are = record {
   response = responds h q (denied_sections t os);
   aliases_are = subst (λ (xs : List PieceWithTtl). BeginWith (AreSecondsLeft t) os (flat_map answers_of xs) [])
       (append-nil (map (with_ttl t) os)) (sets_shown (AreSecondsLeft t) (with_ttl t) (left_shown t) os are []);
@@ -174,12 +160,11 @@ denial_shown h q os t are = record {
   rcode = refl;
 }
 
+pub denial_shown : (l : Look) (h : Header) (q last : Question) (os : List Held) (t : ℕ) → FollowsAliases l q os last
+    → ShowsDenial h q os t (full_answer (asked_in h (Some q)) (denied_sections t os))
+denial_shown l h q last os t follows = denial_sections_shown h q os t (aliases_are_sets l q last os follows)
+
 pub local_answers_are_read : LocalAnswersAreRead
-local_answers_are_read l client h q octets a asks told m spells =
-    let t : ℕ = moment_at l.now in
-    whole_or_cut client h q (denied_sections t a.aliases) (ShowsDenial h q a.aliases t)
-    (denial_shown h q a.aliases t (aliases_are_sets l q a.chain.last a.aliases a.chain.leads.follows))
-    asks.opcode (omega arith) m
-    (local_answers_are_spelled (asked_in h (Some q)) q t a.aliases asks told client
-    (subst (λ (o : List ℕ). FitsTransport client o) a.text a.fits))
-    (subst (λ (o : List ℕ). Spells o m) a.text spells)
+local_answers_are_read l client a h q last t aliases is asks can follows =
+    sized_text client a h q (denied_sections t aliases) (ShowsDenial h q aliases t) is
+    (denial_shown l h q last aliases t follows) asks (denied_can t aliases can)

@@ -15,8 +15,8 @@ use Rattle.answer_builder.specs.Answers.{with_stale_ttl, answers_of, authority_o
 use Rattle.step_history.specs.History.{Look}
 use Rattle.step_history.specs.Answers.{FollowsAliases, EndsChain}
 use Rattle.step_history.specs.Stale.{FollowsStale}
-use Rattle.read_answers.specs.Read.{AreSecondsLeft, AreStaleSeconds, AreRecordsOf, IsWholeSet, AreSoaOf, BeginWith}
-use Rattle.read_answers.specs.Read.{EndWith}
+use Rattle.step_history.specs.Read.{AreSecondsLeft, AreStaleSeconds, AreRecordsOf, IsWholeSet, AreSoaOf, BeginWith}
+use Rattle.step_history.specs.Read.{EndWith}
 
 -- ---- seconds
 

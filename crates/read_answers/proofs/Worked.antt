@@ -3,8 +3,8 @@ use Rattle.std.proofs.Common.{◌≡◌, ℕ, List, [], ◌∷◌, ◌++◌, get
 use Rattle.dns_message.specs.Values.{Record}
 use Rattle.trust_rank.specs.Values.{Body, rows, no_data, denied}
 use Rattle.record_cache.specs.Values.{Held}
-use Rattle.read_answers.specs.Read.{AreSecondsLeft, AreStaleSeconds, IsRecordOf, AreRecordsOf, IsWholeSet, AreSoaOf}
-use Rattle.read_answers.specs.Read.{BeginWith, EndWith}
+use Rattle.step_history.specs.Read.{AreSecondsLeft, AreStaleSeconds, IsRecordOf, AreRecordsOf, IsWholeSet, AreSoaOf}
+use Rattle.step_history.specs.Read.{BeginWith, EndWith}
 
 -- some are not none
 pub none_of : {X : Type 0} (x : X) (xs : List X) → x ∷ xs ≡ [] → ⊥

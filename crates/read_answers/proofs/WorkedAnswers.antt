@@ -10,8 +10,8 @@ use Rattle.trust_rank.specs.Values.{rows}
 use Rattle.record_cache.specs.Values.{Held}
 use Rattle.step_values.specs.declared.event.Client.{Client}
 use Rattle.step_values.specs.declared.event.Client.TheVariants.{Udp, Tcp}
-use Rattle.read_answers.specs.Read.{AreSecondsLeft, AreStaleSeconds, IsWholeSet, BeginWith, ShowsChain}
-use Rattle.read_answers.specs.Read.{ShowsStaleChain, ShowsDenial, ShowsQuestion, IsWholeOrCut, FitsIn}
+use Rattle.step_history.specs.Read.{AreSecondsLeft, AreStaleSeconds, IsWholeSet, BeginWith, ShowsChain}
+use Rattle.step_history.specs.Read.{ShowsStaleChain, ShowsDenial, ShowsQuestion, IsWholeOrCut, FitsIn}
 use Rattle.read_answers.proofs.Worked.{name, name_data, ip, held, alias, alias_record, soa, none_of, one_record}
 use Rattle.read_answers.proofs.Worked.{first_record}
 use Rattle.read_answers.proofs.WorkedQueries.{asked, asking, response, is_response}
@@ -252,9 +252,11 @@ cuts_from_513_on octets many = record {
   response = is_response true 3 [] [];
   answers = refl;
   authority = refl;
-  whole = large octets;
-  shows = refl;
-  long = let takes = large_takes octets in omega (arith, takes, many);
+  too_long = record {
+    whole = large octets;
+    shows = refl;
+    long = let takes = large_takes octets in omega (arith, takes, many);
+  };
   rcode = refl;
 }
 
@@ -262,7 +264,7 @@ cuts_at_512 : (octets : List ℕ) → length octets ≡ 479 → Cuts client octe
 cuts_at_512 octets many h =
     let takes = large_takes octets in
     let long : 512 < length (written (large octets)) =
-    subst (λ (m : Message). 512 < length (written m)) h.shows h.long in
+    subst (λ (m : Message). 512 < length (written m)) h.too_long.shows h.too_long.long in
     omega (arith, takes, many, long)
 
 cuts_over_tcp : (octets : List ℕ) → Cuts (Tcp 3) octets (response true 3 [] []) → ⊥
@@ -279,11 +281,11 @@ cuts_with_authority octets h = none_of soa [] h.authority
 
 cuts_with_another_code : (octets : List ℕ) → Cuts client octets (response true 0 [] []) → ⊥
 cuts_with_another_code octets h =
-    let code : h.whole.header.rcode ≡ 3 = ap (λ (m : Message). m.header.rcode) h.shows in
+    let code : h.too_long.whole.header.rcode ≡ 3 = ap (λ (m : Message). m.header.rcode) h.too_long.shows in
     omega (arith, code, h.rcode)
 
 cuts_for_nothing : ShowsQuestion client asking (asked 1) (λ m. ⊥) (response true 3 [] []) → ⊥
-cuts_for_nothing h = h.shows
+cuts_for_nothing h = h.too_long.shows
 
 -- ---- whole, or cut
 

@@ -1,5 +1,5 @@
 -- Worked queries, failures and responses: for each conjunct a message, and a failing neighbour.
-use Rattle.std.proofs.Common.{◌≡◌, ℕ, Bool, true, false, List, [], ◌∷◌, length, Some, None, Ok, refl, sym, ap, ◌∙◌}
+use Rattle.std.proofs.Common.{◌≡◌, ℕ, Bool, true, false, List, [], ◌∷◌, ◌++◌, length, Some, None, Ok, refl, sym, ap, ◌∙◌}
 use Rattle.std.proofs.Common.{arith}
 use Rattle.std.proofs.lemmas.Bool.{true≢false, false≢true}
 use Rattle.dns_message.specs.declared.reading.header.Header.{Header}
@@ -7,6 +7,7 @@ use Rattle.dns_message.specs.Header.{header_of}
 use Rattle.dns_message.specs.Names.{step as name_step, walk_in, name_within}
 use Rattle.dns_message.specs.Records.{octets_end, question_at, counted}
 use Rattle.dns_message.specs.Messages.{message_at, message_of, first_question}
+use Rattle.dns_message.specs.Writing.{◌▹◌, each, name_text, written}
 use Rattle.dns_message.specs.Values.{Question, Record, Message}
 use Rattle.dns_message.proofs.CallerLemmas.{message_read_is_spelled, one_message_is_spelled}
 use Rattle.outstanding.specs.Draws.{ask_message}
@@ -14,7 +15,7 @@ use Rattle.step_values.specs.declared.action.Why.{Why}
 use Rattle.step_values.specs.declared.action.Why.TheVariants.{BadFormat, BadOpcode, NotServed, NoRoute, Exhausted}
 use Rattle.step_values.specs.declared.action.Why.TheVariants.{Deadline}
 use Rattle.step_history.specs.History.{Reads}
-use Rattle.read_answers.specs.Read.{IsResponseTo, AreReadAs, IsCodeOf, Repeats, ShowsFailure, IsQueryFor}
+use Rattle.step_history.specs.Read.{IsResponseTo, AreReadAs, IsCodeOf, Repeats, ShowsFailure, IsQueryFor}
 use Rattle.read_answers.proofs.Asks.{query_shown}
 use Rattle.read_answers.proofs.Worked.{name, soa, none_of}
 
@@ -267,12 +268,30 @@ request_is_read : message_of request ≡ Ok query
 unfolding message_at header_of counted question_at octets_end name_within walk_in name_step
 request_is_read = refl
 
+query_takes : length (written query) ≡ 21
+unfolding written ◌▹◌ each name_text
+query_takes = refl
+
 request_asks : AreReadAs request (IsQueryFor 7 (asked 1))
 request_asks = record {
   message = query;
   spells = message_read_is_spelled request query request_is_read;
+  size = sym query_takes;
   shows = is_query;
 }
+
+-- an octet more than the message has
+request_and_more_is_read : message_of (request ++ 0 ∷ []) ≡ Ok query
+unfolding message_at header_of counted question_at octets_end name_within walk_in name_step
+request_and_more_is_read = refl
+
+request_and_more : AreReadAs (request ++ 0 ∷ []) (IsQueryFor 7 (asked 1)) → ⊥
+request_and_more h =
+    let is : query ≡ h.message = one_message_is_spelled (request ++ 0 ∷ []) query h.message
+    (message_read_is_spelled (request ++ 0 ∷ []) query request_and_more_is_read) h.spells in
+    let size : 22 ≡ length (written h.message) = h.size in
+    let own : length (written query) ≡ length (written h.message) = ap (λ (m : Message). length (written m)) is in
+    omega (arith, size, own, query_takes)
 
 request_with_another_id : AreReadAs request (IsQueryFor 8 (asked 1)) → ⊥
 request_with_another_id h =

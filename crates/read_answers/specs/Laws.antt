@@ -1,67 +1,79 @@
--- Replies and asks are read as their claims say.
-use Rattle.std.specs.Prelude.{ℕ, ◌<◌, List, [], ◌∷◌, ◌++◌, Some}
+-- Octets for clients and servers, as the table writes them, are read as their claims say. Question
+-- and pieces can be written: names are names, numbers fit their fields, record data has its shapes.
+use Rattle.std.specs.Prelude.{◌≡◌, ℕ, ◌<◌, ◌≤◌, List, [], ◌∷◌, ◌++◌, length, Some, None}
 use Rattle.std.specs.List.{AllByRecursion}
-use Rattle.dns_name.specs.Labels.{IsName}
+use Rattle.plain_values.specs.Octets.{AreOctets}
 use Rattle.dns_message.specs.declared.reading.header.Header.{Header}
 use Rattle.dns_message.specs.Header.{header_in}
-use Rattle.dns_message.specs.Values.{Question, Message}
-use Rattle.dns_message.specs.Messages.{Spells}
+use Rattle.dns_message.specs.Values.{Question}
 use Rattle.dns_message.specs.Written.{IsQuestion}
-use Rattle.suffix_routes.specs.Values.{Config}
-use Rattle.answer_builder.specs.Values.{asked_in}
+use Rattle.dns_message.specs.Writing.{written}
+use Rattle.record_cache.specs.Values.{Held}
+use Rattle.answer_builder.specs.Values.{Asked, asked_in}
+use Rattle.outstanding.specs.Draws.{ask_message}
 use Rattle.step_values.specs.declared.event.Client.{Client}
 use Rattle.step_values.specs.declared.action.Why.{Why}
-use Rattle.step_values.specs.Values.{SentAsk, Step}
-use Rattle.step_history.specs.History.{Look, moment_at, Reads}
-use Rattle.step_history.specs.Answers.{Answers}
-use Rattle.step_history.specs.Local.{LocalAnswers}
-use Rattle.step_history.specs.Causes.{Cause}
-use Rattle.step_history.specs.Sound.{RightStaleAnswer, IsErrorResponse, RightReply}
-use Rattle.step_history.specs.Asked.{AsksRight}
-use Rattle.theorem_cache.specs.Kept.{CanBeWrittenAt, CanBeRepeated}
-use Rattle.read_answers.specs.Read.{ShowsChain, ShowsStaleChain, ShowsDenial, IsWholeOrCut, FitsIn, ShowsFailure}
-use Rattle.read_answers.specs.Read.{AreReadAs, IsQueryFor}
+use Rattle.step_history.specs.History.{Look, Reads}
+use Rattle.step_history.specs.Answers.{FollowsAliases, EndsChain}
+use Rattle.step_history.specs.Stale.{IsSet, FollowsStale}
+use Rattle.step_history.specs.Read.{ShowsChain, ShowsStaleChain, ShowsDenial, IsWholeOrCut, ShowsFailure, AreReadAs}
+use Rattle.step_history.specs.Read.{IsQueryFor}
+use Rattle.read_answers.specs.Texts.{answer_text, cut_text, full_text, short_text, stale_sections, denied_sections}
+use Rattle.read_answers.specs.Texts.{sized_for, FitsTransport, failure_text, FailsAsking, FailsUnasked}
+use Rattle.read_answers.specs.Texts.{CanBeWrittenAt, CanBeRepeated, SpellsAnswer, IsTextFor}
 
--- The question and the pieces of a right answer can be written: names are names, numbers fit their
--- fields, record data has its shapes. Then the answer is read as its chain, whole, or cut.
+-- The text of a chain is read as the chain, whole or cut.
 abbrev pub AnswersAreRead : Type 0
-AnswersAreRead = (l : Look) (client : Client) (h : Header) (q : Question) (octets : List ℕ)
-    (a : Answers l client h q octets) → CanBeRepeated (asked_in h (Some q)) q
-    → AllByRecursion (CanBeWrittenAt (moment_at l.now)) (a.aliases ++ a.end ∷ []) → (m : Message) → Spells octets m
-    → IsWholeOrCut client h q (ShowsChain h q a.aliases a.end (moment_at l.now)) m
+AnswersAreRead = (l : Look) (client : Client) (a : Asked) (h : Header) (q last : Question) (t : ℕ) (aliases : List Held)
+    (end : Held) → a ≡ asked_in h (Some q) → CanBeRepeated a q
+    → AllByRecursion (CanBeWrittenAt t) (aliases ++ end ∷ []) → FollowsAliases l q aliases last
+    → EndsChain last end.piece end.piece.body
+    → FitsTransport client (sized_for client (answer_text a aliases end t) (cut_text a aliases end t))
+    → IsTextFor client (IsWholeOrCut client h q (ShowsChain h q aliases end t))
+    (sized_for client (answer_text a aliases end t) (cut_text a aliases end t))
 
--- So is a right answer with expired data (RFC 8767).
+-- So is the text of a chain with expired data (RFC 8767).
 abbrev pub StaleAnswersAreRead : Type 0
-StaleAnswersAreRead = (l : Look) (client : Client) (request octets : List ℕ)
-    (r : RightStaleAnswer l client request octets)
-    → CanBeRepeated (asked_in (header_in request) (Some r.tries.question)) r.tries.question
-    → AllByRecursion (CanBeWrittenAt (moment_at l.now)) (r.tries.aliases ++ (r.answers.found ++ r.answers.end ∷ []))
-    → (m : Message) → Spells octets m
-    → IsWholeOrCut client (header_in request) r.tries.question (ShowsStaleChain (header_in request) r.tries.question
-    r.tries.aliases r.answers.found r.answers.end (moment_at l.now)) m
+StaleAnswersAreRead = (l : Look) (client : Client) (a : Asked) (h : Header) (q wanted last : Question) (t : ℕ)
+    (held found : List Held) (end : Held) → a ≡ asked_in h (Some q) → CanBeRepeated a q
+    → AllByRecursion (CanBeWrittenAt t) (held ++ (found ++ end ∷ [])) → FollowsAliases l q held wanted
+    → FollowsStale l wanted found last → IsSet end.piece.body → end.piece.slot.kind ≡ Some last.kind
+    → FitsTransport client (sized_for client (full_text a (stale_sections t held found end))
+    (short_text a (stale_sections t held found end)))
+    → IsTextFor client (IsWholeOrCut client h q (ShowsStaleChain h q held found end t))
+    (sized_for client (full_text a (stale_sections t held found end)) (short_text a (stale_sections t held found end)))
 
--- So is a right denial by a route, with its aliases and no SOA.
+-- So is the text of a denial by a route, with its aliases and no SOA.
 abbrev pub LocalAnswersAreRead : Type 0
-LocalAnswersAreRead = (l : Look) (client : Client) (h : Header) (q : Question) (octets : List ℕ)
-    (a : LocalAnswers l client h q octets) → CanBeRepeated (asked_in h (Some q)) q
-    → AllByRecursion (CanBeWrittenAt (moment_at l.now)) a.aliases → (m : Message) → Spells octets m
-    → IsWholeOrCut client h q (ShowsDenial h q a.aliases (moment_at l.now)) m
+LocalAnswersAreRead = (l : Look) (client : Client) (a : Asked) (h : Header) (q last : Question) (t : ℕ)
+    (aliases : List Held) → a ≡ asked_in h (Some q) → CanBeRepeated a q → AllByRecursion (CanBeWrittenAt t) aliases
+    → FollowsAliases l q aliases last
+    → FitsTransport client (sized_for client (full_text a (denied_sections t aliases))
+    (short_text a (denied_sections t aliases)))
+    → IsTextFor client (IsWholeOrCut client h q (ShowsDenial h q aliases t))
+    (sized_for client (full_text a (denied_sections t aliases)) (short_text a (denied_sections t aliases)))
 
--- A right failure is read as a failure for its reason, if the request's identifier fits its field,
--- and its question, if any, can be written.
+-- The text of a failure is read as a failure of its request, with the request's question.
 abbrev pub FailuresAreRead : Type 0
-FailuresAreRead = (l : Look) (client : Client) (request octets : List ℕ) (waiting : ℕ) (why : Why)
-    → IsErrorResponse request why octets → Cause l client request waiting why → (header_in request).id < 65536
-    → ((q : Question) → Reads request q → IsQuestion q) → AreReadAs octets (ShowsFailure request why)
+FailuresAreRead = (client : Client) (request : List ℕ) (why : Why) (q : Question) → AreOctets request
+    → 12 ≤ length request → Reads request q → IsQuestion q → FailsAsking why
+    → IsTextFor client (ShowsFailure request why) (failure_text (asked_in (header_in request) (Some q)) why)
 
--- A right ask is read as a query for its question, with the drawn identifier, if the question can
--- be written.
+-- For a bad format or opcode there is no question.
+abbrev pub UnaskedFailuresAreRead : Type 0
+UnaskedFailuresAreRead = (client : Client) (request : List ℕ) (why : Why) → AreOctets request → 12 ≤ length request
+    → FailsUnasked why
+    → IsTextFor client (ShowsFailure request why) (failure_text (asked_in (header_in request) None) why)
+
+-- The text of an ask is read as a query for its question, with its identifier.
 abbrev pub AsksAreRead : Type 0
-AsksAreRead = (c : Config) (s : Step) (past : List Step) (a : SentAsk) (r : AsksRight c s past a)
-    → IsQuestion r.question → AreReadAs a.octets (IsQueryFor r.id r.question)
+AsksAreRead = (id : ℕ) (q : Question) → IsQuestion q → id < 65536
+    → AreReadAs (written (ask_message id q)) (IsQueryFor id q)
 
--- A right reply fits its transport, if the question's name is a name.
-abbrev pub RepliesFit : Type 0
-RepliesFit = (l : Look) (client : Client) (request octets : List ℕ) (waiting : ℕ) (why : Why)
-    → RightReply l client request waiting why octets → ((q : Question) → Reads request q → IsName q.name)
-    → FitsIn client octets
+-- An answer's octets, if they fit the transport, are read as the answer, or as the answer
+-- truncated.
+abbrev pub AnswersAreSpelled : Type 0
+AnswersAreSpelled = (a : Asked) (q : Question) (t : ℕ) (aliases : List Held) (end : Held) → CanBeRepeated a q
+    → AllByRecursion (CanBeWrittenAt t) (aliases ++ end ∷ []) → (client : Client)
+    → FitsTransport client (sized_for client (answer_text a aliases end t) (cut_text a aliases end t))
+    → SpellsAnswer (sized_for client (answer_text a aliases end t) (cut_text a aliases end t)) a (aliases ++ end ∷ []) t

@@ -1,5 +1,6 @@
--- Lemmas for the proofs of crates above: moments, the pieces carried since, the table's counterparts
--- of accepted replies and of aliases, and tries.
+-- Lemmas for the proofs of crates above: octets, moments, the pieces carried since, the table's
+-- counterparts of accepted replies and of aliases, and tries.
+pub use Rattle.step_history.proofs.Octets.{all_small, are_octets}
 pub use Rattle.step_history.proofs.Moments.{moment_small, moment_later}
 pub use Rattle.step_history.proofs.Since.{then_carried-append, carried_since}
 pub use Rattle.step_history.proofs.Slots.{alias_to, target_is}

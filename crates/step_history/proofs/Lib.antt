@@ -1,3 +1,4 @@
+pub mod Octets
 pub mod Moments
 pub mod Since
 pub mod Slots

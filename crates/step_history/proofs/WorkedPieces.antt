@@ -8,20 +8,15 @@ use Rattle.suffix_routes.proofs.RouteLaws.{one_route}
 use Rattle.dns_message.specs.Values.{Question}
 use Rattle.dns_message.specs.Data.{name_of_rdata}
 use Rattle.dns_message.specs.Names.{step as name_step, walk_in, name_within}
-use Rattle.dns_message.specs.Writing.{◌▹◌, each, name_text, data_text, with_length, written}
-use Rattle.dns_message.specs.Shapes.{shape_of}
 use Rattle.trust_rank.specs.Values.{rows, denied, Piece, found, ends_no_data, ends_denied, elsewhere, lame}
 use Rattle.cache_laws.specs.Serving.{IsServedBy}
 use Rattle.cache_laws.proofs.CallerLemmas.{replaces_exactly, keeps_place}
 use Rattle.record_cache.specs.Values.{Held}
 use Rattle.record_cache.specs.Ageing.{end_of, seconds_left}
 use Rattle.record_cache.specs.Laws.{Among}
-use Rattle.step_values.specs.declared.action.Why.TheVariants.{ChainLong}
 use Rattle.step_history.specs.History.{moment_at, Look}
 use Rattle.step_history.specs.Carried.{then_carried, NotReplaced, Justified}
 use Rattle.step_history.specs.Answers.{IsOf, IsAliasTo, EndsChain}
-use Rattle.step_history.specs.Replies.{answer_text, failure_text}
-use Rattle.answer_builder.specs.Values.{asked_in}
 
 -- ---- names below e, and pieces of them
 
@@ -151,21 +146,3 @@ two_records name h = let body : rows ((1 ∷ 98 ∷ 0 ∷ []) ∷ (1 ∷ 99 ∷ 
 
 denial_leads_nowhere : (name : List (List ℕ)) → IsAliasTo (name_error a) name → ⊥
 denial_leads_nowhere name h = let body : denied None ≡ rows (h.datum ∷ []) = h.body in absurd cc
-
--- ---- texts
-
-abbrev text : ℕ → List ℕ
-text ttl = 18 ∷ 53 ∷ 129 ∷ 128 ∷ 0 ∷ 1 ∷ 0 ∷ 1 ∷ 0 ∷ 0 ∷ 0 ∷ 0 ∷ 1 ∷ 97 ∷ 1 ∷ 101 ∷ 0 ∷ 0 ∷ 1 ∷ 0 ∷ 1 ∷ 192 ∷ 12 ∷ 0 ∷ 1 ∷ 0 ∷ 1 ∷ 0 ∷ 0 ∷ 1 ∷ ttl ∷ 0 ∷ 4 ∷ 198 ∷ 51 ∷ 100 ∷ 5 ∷ []
-
-abbrev request : Rattle.dns_message.specs.declared.reading.header.Header.Header
-request = record { id = 4661; qr = false; opcode = 0; aa = false; tc = false; rd = true; ra = false; z = 0; rcode = 0; counts = 1 ∷ 0 ∷ 0 ∷ 0 ∷ [] }
-
--- the answer with the seconds that are left
-aged : answer_text (asked_in request (Some (address a))) [] (at 1020 (set a 300 3)) 11520 ≡ text 33
-unfolding written ◌▹◌ each name_text data_text with_length shape_of
-aged = refl
-
--- a failure repeats the question, with its response code
-failure : failure_text (asked_in request (Some (address a))) ChainLong ≡ 18 ∷ 53 ∷ 129 ∷ 130 ∷ 0 ∷ 1 ∷ 0 ∷ 0 ∷ 0 ∷ 0 ∷ 0 ∷ 0 ∷ 1 ∷ 97 ∷ 1 ∷ 101 ∷ 0 ∷ 0 ∷ 1 ∷ 0 ∷ 1 ∷ []
-unfolding written ◌▹◌ each name_text
-failure = refl

@@ -1,5 +1,5 @@
 -- Answers with expired sets and denials by the configuration, computed: until when a set may be
--- sent, which pieces may, the texts, and which names are denied.
+-- sent, which pieces may, and which names are denied.
 use Rattle.std.proofs.Common.{◌≡◌, ℕ, ◌+◌, ◌*◌, ◌<◌, List, [], ◌∷◌, length, zero, suc, Some, None, true, false, refl, sym, ap, ◌∙◌, subst, arith}
 use Rattle.std.proofs.lemmas.Bool.{false≢true}
 use Rattle.dns_name.specs.Labels.{IsUnder}
@@ -10,18 +10,12 @@ use Rattle.suffix_routes.specs.Routes.{route_of, IsRouteOf}
 use Rattle.suffix_routes.proofs.RouteLaws.{one_route}
 use Rattle.cache_laws.specs.Serving.{IsServedBy, IsDenied}
 use Rattle.cache_laws.proofs.CallerLemmas.{denies_names_exactly}
-use Rattle.dns_message.specs.declared.reading.header.Header.{Header}
-use Rattle.std.specs.Prelude.{map}
-use Rattle.dns_message.specs.Values.{Question, Record}
-use Rattle.dns_message.specs.Writing.{◌▹◌, each, name_text, data_text, with_length, written}
-use Rattle.dns_message.specs.Shapes.{shape_of}
+use Rattle.dns_message.specs.Values.{Question}
 use Rattle.trust_rank.specs.Values.{rows, no_data, denied, Body}
 use Rattle.record_cache.specs.Values.{Held}
 use Rattle.record_cache.specs.Ageing.{end_of}
 use Rattle.step_history.specs.History.{moment_at, Look}
 use Rattle.step_history.specs.Stale.{JustifiedStale, StaleChain}
-use Rattle.step_history.specs.Replies.{full_text, stale_sections, denied_sections}
-use Rattle.answer_builder.specs.Values.{asked_in}
 
 -- ---- names below e, and pieces that came at 1020
 
@@ -72,42 +66,6 @@ never_new l name o j none = subst (λ (os : List Held). Rattle.record_cache.spec
 -- after eight aliases that were held there is room for a set, and for no alias
 no_ninth : (l : Look) (q : Question) (held : List Held) (o end : Held) → Rattle.std.specs.Prelude.length held ≡ 8 → StaleChain l held q (o ∷ []) end → ⊥
 no_ninth l q held o end eight chain = let few = chain.few in omega (arith, few, eight)
-
--- ---- texts
-
-abbrev request : Header
-request = record { id = 4661; qr = false; opcode = 0; aa = false; tc = false; rd = true; ra = false; z = 0; rcode = 0; counts = 1 ∷ 0 ∷ 0 ∷ 0 ∷ [] }
-
-abbrev address : ℕ → Question
-address letter = record { name = below letter; kind = 1; class = 1 }
-
-abbrev text : ℕ → ℕ → List ℕ
-text high low = 18 ∷ 53 ∷ 129 ∷ 128 ∷ 0 ∷ 1 ∷ 0 ∷ 1 ∷ 0 ∷ 0 ∷ 0 ∷ 0 ∷ 1 ∷ 97 ∷ 1 ∷ 101 ∷ 0 ∷ 0 ∷ 1 ∷ 0 ∷ 1 ∷ 192 ∷ 12 ∷ 0 ∷ 1 ∷ 0 ∷ 1 ∷ 0 ∷ 0 ∷ high ∷ low ∷ 0 ∷ 4 ∷ 198 ∷ 51 ∷ 100 ∷ 5 ∷ []
-
--- an expired set gets 30 seconds (RFC 8767 4), a living one the seconds that are left of it
-ended : full_text (asked_in request (Some (address 97))) (stale_sections 302520 [] [] (set 300)) ≡ text 0 30
-unfolding written ◌▹◌ each name_text data_text with_length shape_of
-ended = refl
-
-alive : full_text (asked_in request (Some (address 97))) (stale_sections 11520 [] [] (set 300)) ≡ text 1 33
-unfolding written ◌▹◌ each name_text data_text with_length shape_of
-alive = refl
-
--- an alias that was held has no seconds left once it expired; one that was found expired has 30
-abbrev seconds_of : List Record → List ℕ
-seconds_of records = map (λ r. r.ttl) records
-
-held_before : seconds_of (stale_sections 302520 (alias ∷ []) [] (set 300)).answers ≡ 0 ∷ 30 ∷ []
-held_before = refl
-
-found_stale : seconds_of (stale_sections 302520 [] (alias ∷ []) (set 300)).answers ≡ 30 ∷ 30 ∷ []
-found_stale = refl
-
--- a denial by the configuration is a name error, with the aliases alone
-denial : full_text (asked_in request (Some (address 97))) (denied_sections 11520 [])
-    ≡ 18 ∷ 53 ∷ 129 ∷ 131 ∷ 0 ∷ 1 ∷ 0 ∷ 0 ∷ 0 ∷ 0 ∷ 0 ∷ 0 ∷ 1 ∷ 97 ∷ 1 ∷ 101 ∷ 0 ∷ 0 ∷ 1 ∷ 0 ∷ 1 ∷ []
-unfolding written ◌▹◌ each name_text
-denial = refl
 
 -- ---- which names
 

@@ -3,8 +3,7 @@ use Rattle.std.specs.Prelude.{◌≡◌, ◌≢◌, ℕ, ◌≤◌, List, [], �
 use Rattle.dns_name.specs.Labels.{IsUnder}
 use Rattle.dns_message.specs.Data.{name_of_rdata}
 use Rattle.dns_message.specs.declared.reading.header.Header.{Header}
-use Rattle.dns_message.specs.Values.{Question, Message}
-use Rattle.dns_message.specs.Messages.{Spells}
+use Rattle.dns_message.specs.Values.{Question}
 use Rattle.trust_rank.specs.Values.{Body, rows, no_data, denied, Piece}
 use Rattle.record_cache.specs.Values.{Held}
 use Rattle.cache_laws.specs.Replacing.{AreOfOneSlot}
@@ -12,8 +11,7 @@ use Rattle.step_values.specs.declared.event.Client.{Client}
 use Rattle.step_history.specs.History.{Look, moment_at}
 use Rattle.step_history.specs.Carried.{Justified}
 use Rattle.step_history.specs.Questions.{for_name}
-use Rattle.step_history.specs.Replies.{answer_text, cut_text, sized_for, FitsTransport}
-use Rattle.answer_builder.specs.Values.{asked_in}
+use Rattle.step_history.specs.Read.{ShowsChain, IsWholeOrCut, AreReadAs, FitsIn}
 
 -- the piece has this name, without letter case, and this class and type
 abbrev pub IsOf : Piece → List (List ℕ) → ℕ → Option ℕ → Type 0
@@ -51,13 +49,10 @@ pub record Chain (l : Look) (q : Question) (aliases : List Held) (o : Held) : Ty
   pub justified : Justified l last.name o
   pub ends : EndsChain last o.piece o.piece.body
 
--- the octets answer q from such a chain, and can be read
+-- such a chain is read in the octets, whole or cut
 pub record Answers (l : Look) (client : Client) (h : Header) (q : Question) (octets : List ℕ) : Type 0 where
   pub aliases : List Held
   pub end : Held
   pub chain : Chain l q aliases end
-  pub text : octets ≡ sized_for client (answer_text (asked_in h (Some q)) aliases end (moment_at l.now))
-      (cut_text (asked_in h (Some q)) aliases end (moment_at l.now))
-  pub fits : FitsTransport client octets
-  pub message : Message
-  pub spells : Spells octets message
+  pub reads : AreReadAs octets (IsWholeOrCut client h q (ShowsChain h q aliases end (moment_at l.now)))
+  pub fits : FitsIn client octets

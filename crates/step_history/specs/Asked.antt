@@ -3,7 +3,6 @@ use Rattle.std.specs.Prelude.{◌≡◌, ℕ, ◌≤◌, false, List, [], ◌∷
 use Rattle.std.specs.List.{AllByRecursion}
 use Rattle.dns_message.specs.Values.{Question}
 use Rattle.dns_message.specs.Questions.{same_question}
-use Rattle.dns_message.specs.Writing.{written}
 use Rattle.suffix_routes.specs.declared.peer.Peer.{Peer}
 use Rattle.suffix_routes.specs.Values.{Config, Route}
 use Rattle.cache_laws.specs.Serving.{IsServedBy}
@@ -13,7 +12,8 @@ use Rattle.outstanding.specs.Lists.{same_path}
 use Rattle.step_values.specs.Values.{Action, SentAsk, ask_in, Step}
 use Rattle.step_history.specs.History.{ShownAsk, listed, closes_path, tcp_asks, Reads}
 use Rattle.step_history.specs.Draws.{drawn}
-use Rattle.outstanding.specs.Draws.{ask_message, drawn_by_tcp}
+use Rattle.outstanding.specs.Draws.{drawn_by_tcp}
+use Rattle.step_history.specs.Read.{AreReadAs, IsQueryFor}
 
 -- their paths and their questions differ
 pub record DiffersFrom (a b : ShownAsk) : Type 0 where
@@ -39,12 +39,12 @@ abbrev pub IsDrawn : Step → List Step → ℕ → Path → Type 0
 IsDrawn s past id (Udp port) = drawn s.input.words (listed past) s.outcome.actions ≡ Some (id, port)
 IsDrawn s past id (Tcp conn) = drawn_by_tcp s.input.words (tcp_asks past) ≡ Some (id, conn)
 
--- `ask_message` alone, to a server of the name's route, with the drawn identifier and path (RFC
--- 5452 9.2)
+-- a query for its question alone, to a server of the name's route, with the drawn identifier and
+-- path (RFC 5452 9.2)
 pub record AsksRight (c : Config) (s : Step) (past : List Step) (a : SentAsk) : Type 0 where
   pub id : ℕ
   pub question : Question
-  pub text : a.octets ≡ written (ask_message id question)
+  pub query : AreReadAs a.octets (IsQueryFor id question)
   pub reads : Reads a.octets question
   pub server : IsServerFor c question a.server
   pub drawn_so : IsDrawn s past id a.path

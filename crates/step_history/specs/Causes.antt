@@ -22,8 +22,7 @@ use Rattle.step_history.specs.Answers.{FollowsAliases, Leads, Chain}
 use Rattle.step_history.specs.Questions.{IsUnserved}
 use Rattle.step_history.specs.Stale.{StaleChain}
 use Rattle.step_history.specs.Local.{ChainToLocal}
-use Rattle.step_history.specs.Replies.{answer_text, full_text, stale_sections, denied_sections}
-use Rattle.answer_builder.specs.Values.{asked_in}
+use Rattle.step_history.specs.Read.{ShowsChain, ShowsStaleChain, ShowsDenial, IsLongerThan}
 use Rattle.step_history.specs.Draws.{drawn}
 
 -- the actions of the newest step
@@ -200,7 +199,7 @@ pub record AnswerIsTooLarge (l : Look) (octets : List ℕ) : Type 0 where
   pub end : Held
   pub reads : Reads octets question
   pub chain : Chain l question aliases end
-  pub large : 65535 < length (answer_text (asked_in (header_in octets) (Some question)) aliases end (moment_at l.now))
+  pub large : IsLongerThan 65535 (ShowsChain (header_in octets) question aliases end (moment_at l.now))
 
 -- all tries failed, there is a window, and the full answer with expired data exceeds 65,535 octets
 -- (RFC 8767)
@@ -210,8 +209,8 @@ pub record StaleAnswerIsTooLarge (l : Look) (octets : List ℕ) : Type 0 where
   pub found : List Held
   pub end : Held
   pub chain : StaleChain l tries.aliases tries.last found end
-  pub large : 65535 < length (full_text (asked_in (header_in octets) (Some tries.question))
-      (stale_sections (moment_at l.now) tries.aliases found end))
+  pub large : IsLongerThan 65535 (ShowsStaleChain (header_in octets) tries.question tries.aliases found end
+      (moment_at l.now))
 
 -- the denial with the aliases to a denied name exceeds 65,535 octets
 pub record LocalAnswerIsTooLarge (l : Look) (octets : List ℕ) : Type 0 where
@@ -219,8 +218,7 @@ pub record LocalAnswerIsTooLarge (l : Look) (octets : List ℕ) : Type 0 where
   pub reads : Reads octets question
   pub aliases : List Held
   pub chain : ChainToLocal l question aliases
-  pub large : 65535 < length (full_text (asked_in (header_in octets) (Some question))
-      (denied_sections (moment_at l.now) aliases))
+  pub large : IsLongerThan 65535 (ShowsDenial (header_in octets) question aliases (moment_at l.now))
 
 -- the history shows this reason; `waiting` counts the era's questions without a reply before this
 -- question

@@ -3,6 +3,7 @@
 use Rattle.std.specs.Prelude.{◌≡◌, ◌≢◌, ℕ, ◌+◌, ◌^◌, ◌<◌, ◌≤◌, Bool, true, false, if◌then◌else◌, not, min, max, List, []}
 use Rattle.std.specs.Prelude.{◌∷◌, ◌++◌, length, filter, slice_index, Option, Some, None, ◌⊎◌}
 use Rattle.std.specs.List.{find, list_any}
+use Rattle.plain_values.specs.Octets.{AreOctets}
 use Rattle.dns_message.specs.Values.{Question, Message}
 use Rattle.dns_message.specs.Messages.{Spells}
 use Rattle.suffix_routes.specs.declared.peer.Peer.{Peer}
@@ -129,6 +130,7 @@ Delivers e path from octets = delivery_in e ≡ Some (record { path = path; from
 pub record Matches (c : Config) (s : Step) (past : List Step) (ask : ShownAsk) (octets : List ℕ)
     (asked : Question) : Type 0 where
   pub delivered : Delivers s.input.event ask.path ask.server octets
+  pub octets_are : AreOctets octets
   pub is_listed : on_path ask.path (listed past) ≡ Some ask
   pub is_live : moment_at (s ∷ past) < ask.moment + c.limits.ask_ms
   pub long_enough : 12 ≤ length octets

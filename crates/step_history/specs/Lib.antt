@@ -1,7 +1,7 @@
 pub mod History
 pub mod Questions
 pub mod Carried
-pub mod Replies
+pub mod Read
 pub mod Answers
 pub mod Stale
 pub mod Local

@@ -2,12 +2,13 @@
 use Rattle.std.specs.Prelude.{◌≡◌, ℕ, ◌≤◌, Bool, true, false, if◌then◌else◌, ◌==◌, ◌&&◌, not, List, [], ◌∷◌, ◌++◌}
 use Rattle.std.specs.Prelude.{length, Option, Some, None, ◌⊎◌}
 use Rattle.std.specs.List.{list_any, concat}
+use Rattle.plain_values.specs.Octets.{AreOctets}
 use Rattle.dns_message.specs.Values.{Question, Message}
 use Rattle.dns_message.specs.Messages.{Spells}
 use Rattle.suffix_routes.specs.Values.{Config}
 use Rattle.step_values.specs.declared.event.Client.{Client}
 use Rattle.step_values.specs.declared.action.Why.{Why}
-use Rattle.step_values.specs.declared.action.Why.TheVariants.{Answered, BadFormat, BadOpcode, Stale, LocalDenied}
+use Rattle.step_values.specs.declared.action.Why.TheVariants.{Answered, Stale, LocalDenied}
 use Rattle.step_values.specs.Values.{Request, request_in, Action, SentReply, reply_in_action, Step}
 use Rattle.dns_message.specs.Questions.{same_question}
 use Rattle.dns_message.specs.Header.{header_in}
@@ -15,8 +16,7 @@ use Rattle.step_history.specs.History.{is_restart, InEra, moment_at, Look, Nothi
 use Rattle.step_history.specs.History.{takes_question}
 use Rattle.step_history.specs.Answers.{Answers}
 use Rattle.step_history.specs.Questions.{IsUnserved}
-use Rattle.step_history.specs.Replies.{failure_text}
-use Rattle.answer_builder.specs.Values.{asked_in}
+use Rattle.step_history.specs.Read.{AreReadAs, ShowsFailure}
 use Rattle.step_history.specs.Stale.{StaleAnswers}
 use Rattle.step_history.specs.Local.{LocalAnswers}
 use Rattle.step_history.specs.Causes.{AllTriesFailed, Cause}
@@ -34,13 +34,6 @@ unanswered (s ∷ past) owners =
     then []
     else unanswered past owners ++ (if takes_question s.input.event && not (among (length past) owners)
     then length past ∷ [] else [])
-
--- the text of a failure, with the client's question, except for `BadFormat` and `BadOpcode`
-abbrev pub IsErrorResponse : List ℕ → Why → List ℕ → Type 0
-IsErrorResponse request BadFormat octets = octets ≡ failure_text (asked_in (header_in request) None) BadFormat
-IsErrorResponse request BadOpcode octets = octets ≡ failure_text (asked_in (header_in request) None) BadOpcode
-IsErrorResponse request why octets = (q : Question) × Reads request q
-    × (octets ≡ failure_text (asked_in (header_in request) (Some q)) why)
 
 -- opcode 0, a served type and class, and answering octets
 pub record RightAnswer (l : Look) (client : Client) (request octets : List ℕ) : Type 0 where
@@ -67,12 +60,13 @@ pub record RightLocalAnswer (l : Look) (client : Client) (request octets : List 
   pub served : IsUnserved question → ⊥
   pub answers : LocalAnswers l client (header_in request) question octets
 
--- the right kind of answer for the reason, otherwise an error response with its `Cause`
+-- the right kind of answer for the reason, otherwise a failure with its `Cause`
 abbrev pub RightReply : Look → Client → List ℕ → ℕ → Why → List ℕ → Type 0
 RightReply l client request waiting Answered octets = RightAnswer l client request octets
 RightReply l client request waiting Stale octets = RightStaleAnswer l client request octets
 RightReply l client request waiting LocalDenied octets = RightLocalAnswer l client request octets
-RightReply l client request waiting why octets = IsErrorResponse request why octets × Cause l client request waiting why
+RightReply l client request waiting why octets = AreReadAs octets (ShowsFailure request why)
+    × Cause l client request waiting why
 
 -- step i of the era brought a message of the reply's client, for which the reply is right
 pub record Owns (c : Config) (now : List Step) (owners : List ℕ) (i : ℕ) (r : SentReply) : Type 0 where
@@ -81,6 +75,7 @@ pub record Owns (c : Config) (now : List Step) (owners : List ℕ) (i : ℕ) (r 
   pub in_era : InEra (asked ∷ before) now
   pub number : i ≡ length before
   pub request : List ℕ
+  pub octets_are : AreOctets request
   pub sent : Sends asked.input.event r.client request
   pub taken : takes_question asked.input.event ≡ true
   pub right : RightReply (record { config = c; asked = asked; before = before; now = now }) r.client request

@@ -1,8 +1,7 @@
 -- Answers with expired data, once all tries failed: RFC 8767 4 and 5.
 use Rattle.std.specs.Prelude.{◌≡◌, ◌≢◌, ℕ, ◌+◌, ◌*◌, ◌<◌, ◌≤◌, List, [], ◌∷◌, ◌++◌, length, Some}
 use Rattle.dns_message.specs.declared.reading.header.Header.{Header}
-use Rattle.dns_message.specs.Values.{Question, Message}
-use Rattle.dns_message.specs.Messages.{Spells}
+use Rattle.dns_message.specs.Values.{Question}
 use Rattle.trust_rank.specs.Values.{Body, rows, no_data, denied}
 use Rattle.record_cache.specs.Values.{Held}
 use Rattle.record_cache.specs.Laws.{Among}
@@ -12,8 +11,7 @@ use Rattle.step_history.specs.History.{before_newest, Look, moment_at}
 use Rattle.step_history.specs.Carried.{CarriedInEra, NotReplaced}
 use Rattle.step_history.specs.Answers.{IsOf, IsAliasTo}
 use Rattle.step_history.specs.Questions.{for_name}
-use Rattle.step_history.specs.Replies.{full_text, short_text, stale_sections, sized_for, FitsTransport}
-use Rattle.answer_builder.specs.Values.{asked_in}
+use Rattle.step_history.specs.Read.{ShowsStaleChain, IsWholeOrCut, AreReadAs, FitsIn}
 
 -- a record set, no denial
 abbrev pub IsSet : Body → Type 0
@@ -51,16 +49,12 @@ pub record StaleChain (l : Look) (held : List Held) (q : Question) (found : List
   pub justified : JustifiedStale l last.name o
   pub slot : IsOf o.piece last.name last.class (Some last.kind)
 
--- the octets answer q with expired data, and can be read; the chain goes on from `asked`, at the
--- end of `held`
+-- an answer to q with expired data is read in the octets, whole or cut; the chain goes on from
+-- `asked`, at the end of `held`
 pub record StaleAnswers (l : Look) (client : Client) (h : Header) (q : Question) (held : List Held) (asked : Question)
     (octets : List ℕ) : Type 0 where
   pub found : List Held
   pub end : Held
   pub chain : StaleChain l held asked found end
-  pub text : octets ≡ sized_for client (full_text (asked_in h (Some q))
-      (stale_sections (moment_at l.now) held found end))
-      (short_text (asked_in h (Some q)) (stale_sections (moment_at l.now) held found end))
-  pub fits : FitsTransport client octets
-  pub message : Message
-  pub spells : Spells octets message
+  pub reads : AreReadAs octets (IsWholeOrCut client h q (ShowsStaleChain h q held found end (moment_at l.now)))
+  pub fits : FitsIn client octets

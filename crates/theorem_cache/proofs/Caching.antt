@@ -12,19 +12,20 @@ use Rattle.record_cache.specs.Entries.{AreHeld}
 use Rattle.step_values.specs.Values.{Step}
 use Rattle.step_history.specs.History.{moment_at}
 use Rattle.step_history.specs.Carried.{then_carried}
-use Rattle.step_history.specs.Replies.{answer_text, cut_text, sized_for}
+use Rattle.read_answers.specs.Texts.{answer_text, cut_text, sized_for}
 use Rattle.answer_builder.specs.Values.{asked_in}
 use Rattle.step_history.specs.Sound.{SameSections, SameAsEarlierFromCache}
 use Rattle.step_history.proofs.CallerLemmas.{moment_later}
 use Rattle.alias_chains.specs.LookingUp.{ends, LookUp, promoted_all}
 use Rattle.alias_chains.specs.Offering.{put_all, unkept_of}
-use Rattle.theorem_cache.specs.Kept.{CanBeWrittenAt, CanBeKept, IsKept, SpellsAnswer, looked, IsStillFound, AreStillFound}
+use Rattle.read_answers.specs.Texts.{CanBeWrittenAt, SpellsAnswer}
+use Rattle.theorem_cache.specs.Kept.{CanBeKept, IsKept, looked, IsStillFound, AreStillFound}
 use Rattle.step_table.proofs.CallerLemmas.{All-weaker}
 use Rattle.theorem_cache.specs.Laws.{QuietStepsKeep, PromotionsKeep, OffersKeep, AnswersFromCacheAgree, PromotionsFindTheSame}
 use Rattle.theorem_cache.proofs.LookingUp.{AreAlike, look_ups_alike, same_look_ups, promotions_keep}
 use Rattle.theorem_cache.proofs.Keeping.{promotions_leave, put_leaves}
 use Rattle.theorem_cache.proofs.Offers.{offers_keep}
-use Rattle.theorem_cache.proofs.Texts.{same_sections}
+use Rattle.read_answers.proofs.CallerLemmas.{same_sections}
 
 -- ---- entries at a later moment
 

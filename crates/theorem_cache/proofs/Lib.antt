@@ -1,14 +1,13 @@
 pub mod Slots
-pub mod Short
 pub mod Justifying
 pub mod Walking
 pub mod Carrying
 pub mod LookingUp
 pub mod Offers
 pub mod Keeping
-pub mod Texts
 pub mod Caching
 pub mod Hits
 pub mod StaleLookUps
 mod Worked
 pub mod CallerLemmas
+pub use Rattle.read_answers.proofs as ReadAnswers

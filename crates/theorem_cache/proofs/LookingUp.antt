@@ -34,7 +34,7 @@ use Rattle.step_history.proofs.CallerLemmas.{alias_to}
 use Rattle.step_history.proofs.CacheLaws.CallerLemmas.{one_slot}
 use Rattle.dns_message.specs.Questions.{asked_at}
 use Rattle.alias_chains.specs.LookingUp.{LookUp, look_up_on, look_up_after, one_too_many, through, look_up, promoted_all}
-use Rattle.theorem_cache.specs.Kept.{CanBeWrittenAt}
+use Rattle.read_answers.specs.Texts.{CanBeWrittenAt}
 use Rattle.theorem_cache.specs.Chains.{IsRightEnd, EndsRight, IsSized}
 use Rattle.theorem_cache.proofs.Slots.{slot_turned}
 use Rattle.step_table.proofs.CallerLemmas.{All-append}

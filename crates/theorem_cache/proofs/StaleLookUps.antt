@@ -28,7 +28,8 @@ use Rattle.step_history.specs.Stale.{IsSet, JustifiedStale}
 use Rattle.step_history.proofs.CallerLemmas.{moment_later, alias_to}
 use Rattle.step_history.proofs.CacheLaws.CallerLemmas.{one_slot, serves_exactly}
 use Rattle.alias_chains.specs.StaleLookUps.{stale_led, stale_followed, look_up_stale}
-use Rattle.theorem_cache.specs.Kept.{CanBeWrittenAt, IsKept, IsCached}
+use Rattle.read_answers.specs.Texts.{CanBeWrittenAt}
+use Rattle.theorem_cache.specs.Kept.{IsKept, IsCached}
 use Rattle.theorem_cache.specs.Chains.{look_from, IsRightStale}
 use Rattle.theorem_cache.specs.Laws.{StaleLookUpsAreRight}
 use Rattle.theorem_cache.proofs.Slots.{slot_turned}

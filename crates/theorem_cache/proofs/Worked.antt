@@ -27,9 +27,10 @@ use Rattle.step_history.specs.Answers.{FollowsAliases}
 use Rattle.alias_chains.specs.LookingUp.{ends, too_long, missed}
 use Rattle.alias_chains.specs.Offering.{held_at}
 use Rattle.step_table.proofs.Played.{example, a, b, address, name_data, client, config, asked}
-use Rattle.theorem_cache.specs.Kept.{IsKept, SpellsAnswer, IsStillFound, AreStillFound}
+use Rattle.read_answers.specs.Texts.{SpellsAnswer}
+use Rattle.theorem_cache.specs.Kept.{IsKept, IsStillFound, AreStillFound}
 use Rattle.theorem_cache.specs.Chains.{GoesOn, IsSized, LeadToEnd, LeadOn}
-use Rattle.theorem_cache.proofs.Short.{question_short}
+use Rattle.read_answers.proofs.CallerLemmas.{question_short}
 
 -- ---- pieces of names below e
 

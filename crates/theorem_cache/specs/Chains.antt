@@ -13,7 +13,7 @@ use Rattle.dns_message.specs.Questions.{asked_at}
 use Rattle.step_history.specs.Stale.{JustifiedStale, FollowsStale}
 use Rattle.alias_chains.specs.LookingUp.{LookUpEnd, ends, too_long, missed, LookUp}
 use Rattle.alias_chains.specs.Offering.{held_at}
-use Rattle.theorem_cache.specs.Kept.{CanBeWrittenAt}
+use Rattle.read_answers.specs.Texts.{CanBeWrittenAt}
 
 -- the `Look` of this step and history
 abbrev pub look_from : Config → Step → List Step → List Step → Look

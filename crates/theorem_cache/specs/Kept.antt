@@ -1,10 +1,8 @@
 -- How a history explains the cache and its answers.
-use Rattle.std.specs.Prelude.{◌≡◌, ℕ, ◌<◌, ◌≤◌, false, List, [], ◌∷◌, ◌++◌, Some, ◌⊎◌}
+use Rattle.std.specs.Prelude.{◌≡◌, ℕ, ◌≤◌, false, List, [], ◌∷◌, ◌++◌, Some}
 use Rattle.std.specs.List.{AllByRecursion}
 use Rattle.dns_message.specs.declared.reading.header.Header.{Header}
 use Rattle.dns_message.specs.Values.{Question}
-use Rattle.dns_message.specs.Messages.{Spells}
-use Rattle.dns_message.specs.Written.{IsQuestion}
 use Rattle.suffix_routes.specs.Values.{Config}
 use Rattle.trust_rank.specs.Values.{Piece}
 use Rattle.trust_rank.specs.Formed.{IsPiece}
@@ -12,14 +10,13 @@ use Rattle.trust_rank.specs.Writable.{IsWritable}
 use Rattle.trust_rank.specs.Walks.{most_aliases}
 use Rattle.record_cache.specs.Values.{Held, Cache}
 use Rattle.record_cache.specs.Entries.{AreHeld}
-use Rattle.answer_builder.specs.Values.{Asked, Sections, asked_in}
-use Rattle.answer_builder.specs.Answers.{sections_of, full_answer, cut_answer}
+use Rattle.answer_builder.specs.Values.{asked_in}
 use Rattle.step_values.specs.declared.event.Client.{Client}
 use Rattle.step_values.specs.Values.{Step}
 use Rattle.suffix_routes.specs.Serving.{serving_route_of}
 use Rattle.step_history.specs.History.{is_restart, moment_at, NothingAccepted}
 use Rattle.step_history.specs.Carried.{CarriedInEra, NotReplaced}
-use Rattle.step_history.specs.Replies.{answer_text, cut_text, sized_for}
+use Rattle.read_answers.specs.Texts.{answer_text, cut_text, sized_for, SpellsAnswer}
 use Rattle.step_history.specs.Sound.{FromCache}
 use Rattle.alias_chains.specs.LookingUp.{LookUp, ends, look_up}
 use Rattle.step_table.specs.Progress.{IsOnRoute}
@@ -35,12 +32,6 @@ pub record IsKept (c : Config) (carried : List Held) (moment : ℕ) (h : Held) :
   pub not_replaced : NotReplaced h carried
   pub writable : IsWritable h.piece
 
--- the entry is well formed, writable, and came at t or before
-pub record CanBeWrittenAt (t : ℕ) (h : Held) : Type 0 where
-  pub formed : IsPiece h.piece
-  pub writable : IsWritable h.piece
-  pub earlier : h.accepted ≤ t
-
 -- the piece is well formed, writable, and on its name's route
 pub record CanBeKept (c : Config) (p : Piece) : Type 0 where
   pub formed : IsPiece p
@@ -48,21 +39,6 @@ pub record CanBeKept (c : Config) (p : Piece) : Type 0 where
   pub writable : IsWritable p
 
 -- ---- answers
-
--- an answer can repeat q
-pub record CanBeRepeated (a : Asked) (q : Question) : Type 0 where
-  pub question : a.question ≡ Some q
-  pub is_question : IsQuestion q
-  pub id : a.id < 65536
-  pub opcode : a.opcode < 16
-
--- the octets are read as the answer with these sections, or as the answer truncated
-abbrev pub SpellsSections : List ℕ → Asked → Sections → Type 0
-SpellsSections octets a s = Spells octets (full_answer a s) ⊎ Spells octets (cut_answer a s)
-
--- the octets are read so with the sections of this chain
-abbrev pub SpellsAnswer : List ℕ → Asked → List Held → ℕ → Type 0
-SpellsAnswer octets a chain t = SpellsSections octets a (sections_of t chain)
 
 -- the look-up of a question in these entries
 abbrev pub looked : Config → ℕ → List Held → Question → LookUp

@@ -9,20 +9,17 @@ use Rattle.trust_rank.specs.declared.slot.Slot.{Slot}
 use Rattle.trust_rank.specs.Values.{Piece, elsewhere}
 use Rattle.trust_rank.specs.Walks.{walk_of, most_aliases, is_lame, has_last}
 use Rattle.record_cache.specs.Values.{Held, Cache}
-use Rattle.answer_builder.specs.Values.{Asked}
-use Rattle.step_values.specs.declared.event.Client.{Client}
 use Rattle.step_values.specs.Values.{Step}
 use Rattle.suffix_routes.specs.Serving.{serving_route_of}
 use Rattle.step_history.specs.History.{is_restart, moment_at, InEra, Carries, NothingAccepted}
 use Rattle.step_history.specs.Carried.{CarriedInEra}
 use Rattle.step_history.specs.Answers.{FollowsAliases, Leads}
-use Rattle.step_history.specs.Replies.{answer_text, cut_text, full_text, short_text, stale_sections, denied_sections}
-use Rattle.step_history.specs.Replies.{sized_for, FitsTransport}
 use Rattle.step_history.specs.Sound.{FromCache, SameAsEarlierFromCache}
 use Rattle.alias_chains.specs.LookingUp.{look_up, promoted_all}
 use Rattle.alias_chains.specs.StaleLookUps.{look_up_stale}
 use Rattle.alias_chains.specs.Offering.{put_all}
-use Rattle.theorem_cache.specs.Kept.{CanBeKept, CanBeWrittenAt, CanBeRepeated, SpellsSections, SpellsAnswer, looked}
+use Rattle.read_answers.specs.Texts.{CanBeWrittenAt}
+use Rattle.theorem_cache.specs.Kept.{CanBeKept, looked}
 use Rattle.theorem_cache.specs.Kept.{IsStillFound, IsCached}
 use Rattle.theorem_cache.specs.Chains.{look_from, GoesOn, IsRight, IsRightStale, LeadToEnd, LeadOn}
 
@@ -104,32 +101,6 @@ StaleLookUpsAreRight = (c : Config) (asked s : Step) (before past : List Step) (
     → IsRightStale (look_from c asked before (s ∷ past)) n q most chain
 
 -- ---- answers
-
--- An answer's octets, if they fit the transport, are read as the answer, or as the answer
--- truncated.
-abbrev pub AnswersAreSpelled : Type 0
-AnswersAreSpelled = (a : Asked) (q : Question) (t : ℕ) (aliases : List Held) (end : Held) → CanBeRepeated a q
-    → AllByRecursion (CanBeWrittenAt t) (aliases ++ end ∷ []) → (client : Client)
-    → FitsTransport client (sized_for client (answer_text a aliases end t) (cut_text a aliases end t))
-    → SpellsAnswer (sized_for client (answer_text a aliases end t) (cut_text a aliases end t)) a (aliases ++ end ∷ []) t
-
--- The octets of an answer with expired data are read so, too (RFC 8767 4).
-abbrev pub StaleAnswersAreSpelled : Type 0
-StaleAnswersAreSpelled = (a : Asked) (q : Question) (t : ℕ) (held stale : List Held) (end : Held) → CanBeRepeated a q
-    → AllByRecursion (CanBeWrittenAt t) (held ++ (stale ++ end ∷ [])) → (client : Client)
-    → FitsTransport client (sized_for client (full_text a (stale_sections t held stale end))
-    (short_text a (stale_sections t held stale end)))
-    → SpellsSections (sized_for client (full_text a (stale_sections t held stale end))
-    (short_text a (stale_sections t held stale end))) a (stale_sections t held stale end)
-
--- The octets of a denial by the configuration are read so, too.
-abbrev pub LocalAnswersAreSpelled : Type 0
-LocalAnswersAreSpelled = (a : Asked) (q : Question) (t : ℕ) (aliases : List Held) → CanBeRepeated a q
-    → AllByRecursion (CanBeWrittenAt t) aliases → (client : Client)
-    → FitsTransport client (sized_for client (full_text a (denied_sections t aliases))
-    (short_text a (denied_sections t aliases)))
-    → SpellsSections (sized_for client (full_text a (denied_sections t aliases))
-    (short_text a (denied_sections t aliases))) a (denied_sections t aliases)
 
 -- Equal questions at one moment, with nothing accepted in between, get equal sections from cache.
 abbrev pub AnswersFromCacheAgree : Type 0

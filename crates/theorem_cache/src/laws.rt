@@ -1,12 +1,10 @@
 //! Laws about cache entries and look-ups, over plain values: no code is mentioned.
 
 ghost use Rattle.theorem_cache.specs.Laws.{AcceptedPiecesAnswer, AcceptedPiecesCanBeKept, AcceptedPiecesLeadOn};
-ghost use Rattle.theorem_cache.specs.Laws.{AnswersAreSpelled, AnswersFromCacheAgree, LeadsStayLeads};
-ghost use Rattle.theorem_cache.specs.Laws.{LocalAnswersAreSpelled};
+ghost use Rattle.theorem_cache.specs.Laws.{AnswersFromCacheAgree, LeadsStayLeads};
 ghost use Rattle.theorem_cache.specs.Laws.{LookUpsAreRight, StaleLookUpsAreRight, LookUpsThatGoOnAreRight};
 ghost use Rattle.theorem_cache.specs.Laws.{OffersKeep};
 ghost use Rattle.theorem_cache.specs.Laws.{PromotionsFindTheSame, PromotionsKeep, QuietStepsKeep};
-ghost use Rattle.theorem_cache.specs.Laws.{StaleAnswersAreSpelled};
 
 /// A cache explained by a history stays explained: after a step without an accepted reply, if each
 /// of its answers from cache is found now; after a promotion; and after the offers of an accepted
@@ -45,15 +43,6 @@ pub fn stale_look_ups_are_right()
 pub fn answers_from_cache_agree()
     ensures agree { AnswersFromCacheAgree }
     ensures found { PromotionsFindTheSame }
-{}
-
-/// The octets for a client from a chain are read as the answer, or as the answer truncated to the
-/// question. The octets of an answer with expired data, and of a denial by the configuration, are
-/// read so, too.
-pub fn answers_are_spelled()
-    ensures living { AnswersAreSpelled }
-    ensures stale { StaleAnswersAreSpelled }
-    ensures local { LocalAnswersAreSpelled }
 {}
 
 /// The aliases of a waiting question still lead on after each step of the era.

@@ -5,6 +5,6 @@
 mod laws;
 
 pub use laws::{
-    accepted_pieces_serve, answers_are_spelled, answers_from_cache_agree, look_ups_are_right,
-    stale_look_ups_are_right, what_is_kept_stays_explained, what_leads_still_leads,
+    accepted_pieces_serve, answers_from_cache_agree, look_ups_are_right, stale_look_ups_are_right,
+    what_is_kept_stays_explained, what_leads_still_leads,
 };

@@ -17,7 +17,7 @@ use Rattle.suffix_routes.specs.Serving.{serving_route_of}
 use Rattle.step_history.specs.History.{is_restart, moment_at, Look, Carries}
 use Rattle.step_history.specs.Carried.{CarriedInEra}
 use Rattle.step_history.specs.Answers.{FollowsAliases, Leads, Chain}
-use Rattle.step_history.specs.Replies.{failure_text}
+use Rattle.theorem_cache.specs.ReadAnswers.Texts.{failure_text}
 use Rattle.step_history.proofs.CallerLemmas.{moment_later}
 use Rattle.outstanding.specs.Values.{Ask}
 use Rattle.waiting_questions.specs.Values.{Waiting}
@@ -26,7 +26,8 @@ use Rattle.step_table.specs.AliasChains.LookingUp.{ends, LookUp}
 use Rattle.step_table.specs.Replies.{last_of, before_last, ends_at, unless_many, looked_by}
 use Rattle.step_table.specs.Clients.{fate_of}
 use Rattle.step_table.specs.AliasChains.Offering.{held_at}
-use Rattle.theorem_cache.specs.Kept.{CanBeKept, CanBeWrittenAt}
+use Rattle.theorem_cache.specs.ReadAnswers.Texts.{CanBeWrittenAt}
+use Rattle.theorem_cache.specs.Kept.{CanBeKept}
 use Rattle.theorem_cache.specs.Chains.{look_from, LeadToEnd}
 use Rattle.theorem_sound.specs.Explains.{Comes, Waits}
 use Rattle.theorem_cache.proofs.CallerLemmas.{told_later, follows_append, follows_first, leads_stay_leads, accepted_pieces_answer}
@@ -78,7 +79,7 @@ owns_too_many c n now y i comes held last follows f =
     let nine : 9 ≤ length held = leb-false (length held) 8 f in
     let first = follows_first (look_from c comes.asked comes.before now) 9 comes.question last held follows in
     owns c now y.client y.asked i comes ChainLong (failure_text y.asked ChainLong) (λ waiting. (
-      failure_told now y.client y.asked i comes ChainLong,
+      failure_told now y.client y.asked i comes ChainLong tt,
       record { question = comes.question; reads = comes.reads; aliases = take 9 held; last = first.0; many = take_whole 9 held nine; follows = first.1 },
     ))
 

@@ -4,20 +4,21 @@ use Rattle.std.specs.Prelude.{nat_le, not, ◌&&◌, Result, Ok, Err}
 use Rattle.std.specs.List.{AllByRecursion}
 use Rattle.std.proofs.lemmas.Bool.{cond_both, leb-true, leb-false, and_parts}
 use Rattle.dns_message.specs.Header.{header_in}
+use Rattle.dns_message.specs.declared.reading.header.Header.{Header}
 use Rattle.dns_message.specs.Values.{Question, Message}
-use Rattle.dns_message.specs.Messages.{Spells}
 use Rattle.dns_message.proofs.CallerLemmas.{number_at_place_is_small}
 use Rattle.suffix_routes.specs.Values.{Config}
 use Rattle.record_cache.specs.Values.{Held}
 use Rattle.answer_builder.specs.declared.fault.Fault.{Fault}
 use Rattle.answer_builder.specs.declared.fault.Fault.TheVariants as fault
-use Rattle.answer_builder.specs.Values.{Asked, Sections, asked_in}
+use Rattle.answer_builder.specs.Values.{Asked, Sections}
 use Rattle.answer_builder.specs.Answers.{sections_of}
 use Rattle.answer_builder.specs.Transports.{over_udp, text_of, answer_of, local_answer_of}
 use Rattle.step_values.specs.declared.event.Client.{Client}
 use Rattle.step_values.specs.declared.event.Client.TheVariants.{Udp, Tcp}
 use Rattle.step_values.specs.declared.action.Why.{Why}
 use Rattle.step_values.specs.declared.action.Why.TheVariants.{Answered, NoRoute, ChainLong, TooLarge, Stale, LocalDenied}
+use Rattle.step_values.specs.Requests.{is_taken}
 use Rattle.step_values.specs.Values.{Action, send_reply, Step}
 use Rattle.suffix_routes.specs.Serving.{serving_route_of, is_local}
 use Rattle.step_history.proofs.CacheLaws.CallerLemmas.{denies_names_exactly, none_serves_exactly}
@@ -25,19 +26,21 @@ use Rattle.step_history.specs.History.{is_restart, is_taken_request, listed, mom
 use Rattle.step_history.specs.Answers.{FollowsAliases, Leads, Chain}
 use Rattle.step_history.specs.Stale.{StaleChain}
 use Rattle.step_history.specs.Local.{ChainToLocal}
-use Rattle.step_history.specs.Replies.{answer_text, cut_text, full_text, short_text, stale_sections, denied_sections, sized_for, FitsTransport, failure_text}
+use Rattle.step_history.specs.Read.{ShowsChain, ShowsStaleChain, ShowsDenial, IsWholeOrCut, IsLongerThan, ShowsFailure, AreReadAs}
+use Rattle.theorem_cache.specs.ReadAnswers.Texts.{answer_text, cut_text, full_text, short_text, stale_sections, denied_sections, sized_for, FitsTransport, failure_text, FailsAsking, IsTextFor}
 use Rattle.step_history.specs.Causes.{AllTriesFailed, Cause, TriesFailed, NoneAsks}
 use Rattle.step_history.specs.Sound.{unanswered, RightReply}
 use Rattle.waiting_questions.specs.Values.{Waiting}
 use Rattle.step_table.specs.Steps.{transport_of, gives_up, sends, answered, answered_stale, denied_locally}
 use Rattle.step_table.specs.AliasChains.LookingUp.{LookUpEnd, ends, too_long, missed, LookUp}
 use Rattle.step_table.specs.Clients.{without_server, fate_missed, fate_at}
-use Rattle.theorem_cache.specs.Kept.{CanBeWrittenAt, CanBeRepeated, SpellsSections, SpellsAnswer}
+use Rattle.theorem_cache.specs.ReadAnswers.Texts.{CanBeWrittenAt, CanBeRepeated, SpellsAnswer}
 use Rattle.theorem_cache.specs.Chains.{look_from, EndsRight, IsSized, IsRightStale}
 use Rattle.theorem_sound.specs.Explains.{Comes, Waits}
 use Rattle.theorem_sound.proofs.Served.{served_is}
 use Rattle.theorem_sound.proofs.AskText.{read_well}
-use Rattle.theorem_cache.proofs.CallerLemmas.{answers_are_spelled, stale_answers_are_spelled, local_answers_are_spelled}
+use Rattle.theorem_cache.proofs.ReadAnswers.CallerLemmas.{answers_are_spelled, answers_are_read, stale_answers_are_read, local_answers_are_read, failures_are_read}
+use Rattle.theorem_cache.proofs.ReadAnswers.CallerLemmas.{chain_shown, stale_chain_shown, denial_shown, is_longer}
 use Rattle.step_table.proofs.CallerLemmas.{All-append}
 use Rattle.theorem_sound.proofs.Fates.{Fated}
 use Rattle.theorem_sound.proofs.Actions.{OwnsReply}
@@ -62,11 +65,13 @@ comes_later s past client a i run k = record {
 }
 
 -- the message has a whole header
+pub taken_long : (request : List ℕ) → is_taken request ≡ true → 12 ≤ length request
+taken_long request taken =
+    let outer = and_parts (nat_le 12 (length request) && nat_le (length request) 65535) (not (header_in request).qr) taken in
+    leb-true 12 (length request) (and_parts (nat_le 12 (length request)) (nat_le (length request) 65535) outer.0).0
+
 long_enough : (now : List Step) (client : Client) (a : Asked) (i : ℕ) (k : Comes now client a i) → 12 ≤ length k.request
-long_enough now client a i k =
-    let taken : (nat_le 12 (length k.request) && nat_le (length k.request) 65535 && not (header_in k.request).qr) ≡ true = ap is_taken_request (sym k.sent) ∙ k.taken in
-    let outer = and_parts (nat_le 12 (length k.request) && nat_le (length k.request) 65535) (not (header_in k.request).qr) taken in
-    leb-true 12 (length k.request) (and_parts (nat_le 12 (length k.request)) (nat_le (length k.request) 65535) outer.0).0
+long_enough now client a i k = taken_long k.request (ap is_taken_request (sym k.sent) ∙ k.taken)
 
 pub repeated : (now : List Step) (client : Client) (a : Asked) (i : ℕ) (k : Comes now client a i) → CanBeRepeated a k.question
 repeated now client a i k = record {
@@ -86,14 +91,17 @@ owns c now client a i k why octets right = λ owners. record {
   in_era = k.in_era;
   number = k.number;
   request = k.request;
+  octets_are = k.octets;
   sent = k.sent;
   taken = k.taken;
   right = right (length (unanswered k.before owners));
 }
 
 -- the text of a failure
-pub failure_told : (now : List Step) (client : Client) (a : Asked) (i : ℕ) (k : Comes now client a i) (why : Why) → (q : Question) × Reads k.request q × (failure_text a why ≡ failure_text (asked_in (header_in k.request) (Some q)) why)
-failure_told now client a i k why = (k.question, k.reads, ap (λ (x : Asked). failure_text x why) k.asked_is)
+pub failure_told : (now : List Step) (client : Client) (a : Asked) (i : ℕ) (k : Comes now client a i) (why : Why) → FailsAsking why → AreReadAs (failure_text a why) (ShowsFailure k.request why)
+failure_told now client a i k why fails =
+    subst (λ (x : Asked). AreReadAs (failure_text x why) (ShowsFailure k.request why)) (sym k.asked_is)
+    (failures_are_read client k.request why k.question k.octets (long_enough now client a i k) k.reads (read_well k.request k.question k.octets k.reads) fails).reads
 
 -- an answer with these sections is sent for this reason, or is too large to send
 sized_owned : (c : Config) (now : List Step) (x : Waiting) (i : ℕ) (k : Comes now x.client x.asked i) (why : Why) (s : Sections)
@@ -112,13 +120,9 @@ sized_owned c now x i k why s right large = by x.client refl
         cond_both (nat_le (length full) 65535) (Ok full) (Err fault.TooLarge) (λ (r : Result (List ℕ) Fault). OwnsReply c now i (sends why x r))
         (λ t. owns c now x.client x.asked i k why full (right (Tcp conn) same (leb-true (length full) 65535 t)))
         (λ f. owns c now x.client x.asked i k TooLarge (failure_text x.asked TooLarge) (λ waiting. (
-          failure_told now x.client x.asked i k TooLarge,
+          failure_told now x.client x.asked i k TooLarge tt,
           subst (λ (z : Client). Cause (look_from c k.asked k.before now) z k.request waiting TooLarge) (sym same) (large conn (leb-false (length full) 65535 f) waiting),
         )))
-
-some_told : (octets : List ℕ) (a : Asked) (s : Sections) → SpellsSections octets a s → (m : Message) × Spells octets m
-some_told octets a s (inl full) = (_, full)
-some_told octets a s (inr cut) = (_, cut)
 
 -- a chain is answered, or is too large to be
 pub answer_owned : (c : Config) (n : ℕ) (now : List Step) (x : Waiting) (i : ℕ) (k : Comes now x.client x.asked i) → n ≡ moment_at now → (aliases : List Held) (end : Held)
@@ -131,26 +135,21 @@ answer_owned c n now x i k is aliases end chain can_write = sized_owned c now x 
     cut : List ℕ
     cut = cut_text x.asked aliases end n
 
-    text_is : (cl : Client) → sized_for cl full cut ≡ sized_for cl (answer_text (asked_in (header_in k.request) (Some k.question)) aliases end (moment_at now)) (cut_text (asked_in (header_in k.request) (Some k.question)) aliases end (moment_at now))
-    text_is cl = λ j. sized_for cl (answer_text (k.asked_is j) aliases end (is j)) (cut_text (k.asked_is j) aliases end (is j))
+    h : Header
+    h = header_in k.request
 
     right : (cl : Client) → x.client ≡ cl → FitsTransport cl (sized_for cl full cut) → (waiting : ℕ) → RightReply (look_from c k.asked k.before now) x.client k.request waiting Answered (sized_for cl full cut)
     right cl same fits waiting =
-        let spelled = some_told (sized_for cl full cut) x.asked (sections_of n (aliases ++ end ∷ [])) (answers_are_spelled x.asked k.question n aliases end (repeated now x.client x.asked i k) can_write cl fits) in
+        let text : IsTextFor x.client (IsWholeOrCut x.client h k.question (ShowsChain h k.question aliases end (moment_at now))) (sized_for cl full cut) =
+        subst (λ (z : Client). IsTextFor z (IsWholeOrCut z h k.question (ShowsChain h k.question aliases end (moment_at now))) (sized_for cl full cut)) (sym same)
+        (subst (λ (t : ℕ). IsTextFor cl (IsWholeOrCut cl h k.question (ShowsChain h k.question aliases end t)) (sized_for cl full cut)) is
+        (answers_are_read (look_from c k.asked k.before now) cl x.asked h k.question chain.last n aliases end k.asked_is (repeated now x.client x.asked i k) can_write chain.leads.follows chain.ends fits)) in
         record {
           opcode = k.opcode;
           question = k.question;
           reads = k.reads;
           served = served_is k.question k.served;
-          answers = record {
-            aliases = aliases;
-            end = end;
-            chain = chain;
-            text = subst (λ (z : Client). sized_for cl full cut ≡ sized_for z (answer_text (asked_in (header_in k.request) (Some k.question)) aliases end (moment_at now)) (cut_text (asked_in (header_in k.request) (Some k.question)) aliases end (moment_at now))) (sym same) (text_is cl);
-            fits = subst (λ (z : Client). FitsTransport z (sized_for cl full cut)) (sym same) fits;
-            message = spelled.0;
-            spells = spelled.1;
-          };
+          answers = record { aliases = aliases; end = end; chain = chain; reads = text.reads; fits = text.fits };
         }
 
     large : (conn : ℕ) → 65535 < length full → (waiting : ℕ) → Cause (look_from c k.asked k.before now) (Tcp conn) k.request waiting TooLarge
@@ -160,7 +159,9 @@ answer_owned c n now x i k is aliases end chain can_write = sized_owned c now x 
       end = end;
       reads = k.reads;
       chain = chain;
-      large = subst (λ (o : List ℕ). 65535 < length o) (λ j. answer_text (k.asked_is j) aliases end (is j)) many;
+      large = subst (λ (t : ℕ). IsLongerThan 65535 (ShowsChain h k.question aliases end t)) is
+          (is_longer x.asked h k.question (sections_of n (aliases ++ end ∷ [])) (ShowsChain h k.question aliases end n) k.asked_is
+          (chain_shown (look_from c k.asked k.before now) h k.question chain.last aliases end n chain.leads.follows chain.ends) many);
     })
 
 -- after all tries failed, the found expired data is sent, or is too large to send
@@ -201,29 +202,24 @@ stale_owned c n now x i k is leads failed none window can_write most found room 
     cut : List ℕ
     cut = short_text x.asked (stale_sections n x.held past end)
 
-    own : Asked
-    own = asked_in (header_in k.request) (Some k.question)
+    h : Header
+    h = header_in k.request
 
-    text_is : (cl : Client) → sized_for cl full cut ≡ sized_for cl (full_text own (stale_sections (moment_at now) x.held past end)) (short_text own (stale_sections (moment_at now) x.held past end))
-    text_is cl = λ j. sized_for cl (full_text (k.asked_is j) (stale_sections (is j) x.held past end)) (short_text (k.asked_is j) (stale_sections (is j) x.held past end))
+    Shows : ℕ → Message → Type 0
+    Shows t = ShowsStaleChain h k.question x.held past end t
 
     right : (cl : Client) → x.client ≡ cl → FitsTransport cl (sized_for cl full cut) → (waiting : ℕ) → RightReply look x.client k.request waiting Stale (sized_for cl full cut)
     right cl same fits waiting =
-        let spelled = some_told (sized_for cl full cut) x.asked (stale_sections n x.held past end) (stale_answers_are_spelled x.asked k.question n x.held past end (repeated now x.client x.asked i k) all_told cl fits) in
+        let text : IsTextFor x.client (IsWholeOrCut x.client h k.question (Shows (moment_at now))) (sized_for cl full cut) =
+        subst (λ (z : Client). IsTextFor z (IsWholeOrCut z h k.question (Shows (moment_at now))) (sized_for cl full cut)) (sym same)
+        (subst (λ (t : ℕ). IsTextFor cl (IsWholeOrCut cl h k.question (Shows t)) (sized_for cl full cut)) is
+        (stale_answers_are_read look cl x.asked h k.question x.wanted right_past.last n x.held past end k.asked_is (repeated now x.client x.asked i k) all_told leads.follows right_past.follows right_past.justified.is_set right_past.slot.kind fits)) in
         record {
           opcode = k.opcode;
           tries = tries;
           served = served_is k.question k.served;
           window = window;
-          answers = record {
-            found = past;
-            end = end;
-            chain = chain;
-            text = subst (λ (z : Client). sized_for cl full cut ≡ sized_for z (full_text own (stale_sections (moment_at now) x.held past end)) (short_text own (stale_sections (moment_at now) x.held past end))) (sym same) (text_is cl);
-            fits = subst (λ (z : Client). FitsTransport z (sized_for cl full cut)) (sym same) fits;
-            message = spelled.0;
-            spells = spelled.1;
-          };
+          answers = record { found = past; end = end; chain = chain; reads = text.reads; fits = text.fits };
         }
 
     large : (conn : ℕ) → 65535 < length full → (waiting : ℕ) → Cause look (Tcp conn) k.request waiting TooLarge
@@ -233,7 +229,9 @@ stale_owned c n now x i k is leads failed none window can_write most found room 
       found = past;
       end = end;
       chain = chain;
-      large = subst (λ (o : List ℕ). 65535 < length o) (λ j. full_text (k.asked_is j) (stale_sections (is j) x.held past end)) many;
+      large = subst (λ (t : ℕ). IsLongerThan 65535 (Shows t)) is
+          (is_longer x.asked h k.question (stale_sections n x.held past end) (Shows n) k.asked_is
+          (stale_chain_shown look h k.question x.wanted right_past.last x.held past end n leads.follows right_past.follows right_past.justified.is_set right_past.slot.kind) many);
     }))
 
 -- aliases to a denied name are sent, or are too large to send
@@ -250,28 +248,21 @@ local_owned c n now x i k is aliases chain can_write = sized_owned c now x i k L
     cut : List ℕ
     cut = short_text x.asked (denied_sections n aliases)
 
-    own : Asked
-    own = asked_in (header_in k.request) (Some k.question)
-
-    text_is : (cl : Client) → sized_for cl full cut ≡ sized_for cl (full_text own (denied_sections (moment_at now) aliases)) (short_text own (denied_sections (moment_at now) aliases))
-    text_is cl = λ j. sized_for cl (full_text (k.asked_is j) (denied_sections (is j) aliases)) (short_text (k.asked_is j) (denied_sections (is j) aliases))
+    h : Header
+    h = header_in k.request
 
     right : (cl : Client) → x.client ≡ cl → FitsTransport cl (sized_for cl full cut) → (waiting : ℕ) → RightReply look x.client k.request waiting LocalDenied (sized_for cl full cut)
     right cl same fits waiting =
-        let spelled = some_told (sized_for cl full cut) x.asked (denied_sections n aliases) (local_answers_are_spelled x.asked k.question n aliases (repeated now x.client x.asked i k) can_write cl fits) in
+        let text : IsTextFor x.client (IsWholeOrCut x.client h k.question (ShowsDenial h k.question aliases (moment_at now))) (sized_for cl full cut) =
+        subst (λ (z : Client). IsTextFor z (IsWholeOrCut z h k.question (ShowsDenial h k.question aliases (moment_at now))) (sized_for cl full cut)) (sym same)
+        (subst (λ (t : ℕ). IsTextFor cl (IsWholeOrCut cl h k.question (ShowsDenial h k.question aliases t)) (sized_for cl full cut)) is
+        (local_answers_are_read look cl x.asked h k.question chain.last n aliases k.asked_is (repeated now x.client x.asked i k) can_write chain.leads.follows fits)) in
         record {
           opcode = k.opcode;
           question = k.question;
           reads = k.reads;
           served = served_is k.question k.served;
-          answers = record {
-            aliases = aliases;
-            chain = chain;
-            text = subst (λ (z : Client). sized_for cl full cut ≡ sized_for z (full_text own (denied_sections (moment_at now) aliases)) (short_text own (denied_sections (moment_at now) aliases))) (sym same) (text_is cl);
-            fits = subst (λ (z : Client). FitsTransport z (sized_for cl full cut)) (sym same) fits;
-            message = spelled.0;
-            spells = spelled.1;
-          };
+          answers = record { aliases = aliases; chain = chain; reads = text.reads; fits = text.fits };
         }
 
     large : (conn : ℕ) → 65535 < length full → (waiting : ℕ) → Cause look (Tcp conn) k.request waiting TooLarge
@@ -280,7 +271,9 @@ local_owned c n now x i k is aliases chain can_write = sized_owned c now x i k L
       reads = k.reads;
       aliases = aliases;
       chain = chain;
-      large = subst (λ (o : List ℕ). 65535 < length o) (λ j. full_text (k.asked_is j) (denied_sections (is j) aliases)) many;
+      large = subst (λ (t : ℕ). IsLongerThan 65535 (ShowsDenial h k.question aliases t)) is
+          (is_longer x.asked h k.question (denied_sections n aliases) (ShowsDenial h k.question aliases n) k.asked_is
+          (denial_shown look h k.question chain.last aliases n chain.leads.follows) many);
     }))
 
 -- a name without a serving route, after aliases or not, is denied by the configuration or has no
@@ -292,7 +285,7 @@ without_server_owned c n now x i k is aliases last leads none at_once can_write 
     cond_both (is_local c last.name) (denied_locally n x aliases) (gives_up NoRoute x) (OwnsReply c now i)
     (λ denied. local_owned c n now x i k is aliases (record { last = last; leads = leads; denied = denies_names_exactly.only c last.name denied; at_once = at_once }) can_write)
     (λ served. owns c now x.client x.asked i k NoRoute (failure_text x.asked NoRoute) (λ waiting. (
-      failure_told now x.client x.asked i k NoRoute,
+      failure_told now x.client x.asked i k NoRoute tt,
       record {
         opcode = k.opcode;
         question = k.question;
@@ -317,9 +310,10 @@ without_server_fails c n x aliases name client octets why =
     (λ _. sends_other LocalDenied x (local_answer_of x.asked aliases n (transport_of x.client)) client octets why (λ e. cc))
     (λ _ e success. let same : NoRoute ≡ why = cc in let bad : NoRoute ≡ Answered = same ∙ success in absurd (cc))
 
--- the octets sent for a chain
+-- the octets sent for a chain fit the transport
 pub record IsTold (n : ℕ) (client : Client) (a : Asked) (aliases : List Held) (end : Held) (octets : List ℕ) : Type 0 where
   pub text : octets ≡ sized_for client (answer_text a aliases end n) (cut_text a aliases end n)
+  pub fits : FitsTransport client (sized_for client (answer_text a aliases end n) (cut_text a aliases end n))
   pub spells : SpellsAnswer octets a (aliases ++ end ∷ []) n
 
 -- a successful reply has its chain's octets
@@ -336,6 +330,7 @@ answered_told n now x i k aliases end can_write client octets why is success = b
     sent : (cl : Client) → sized_for cl full cut ≡ octets → FitsTransport cl (sized_for cl full cut) → IsTold n cl x.asked aliases end octets
     sent cl same fits = record {
       text = sym same;
+      fits = fits;
       spells = subst (λ (o : List ℕ). SpellsAnswer o x.asked (aliases ++ end ∷ []) n) same (answers_are_spelled x.asked k.question n aliases end (repeated now x.client x.asked i k) can_write cl fits);
     }
 
@@ -358,7 +353,7 @@ pub fate_is_right : (c : Config) (n : ℕ) (now : List Step) (x : Waiting) (i : 
 fate_is_right c n now x i l (ends e) k is taken can_write follows right size at_once =
     answer_owned c n now x i k is l.held e (record { last = l.wanted; leads = record { few = size; follows = follows }; justified = right.1; ends = right.2 }) (All-append (CanBeWrittenAt n) l.held (e ∷ []) can_write (right.0, tt))
 fate_is_right c n now x i l too_long k is taken can_write follows right size at_once =
-    owns c now x.client x.asked i k ChainLong (failure_text x.asked ChainLong) (λ waiting. (failure_told now x.client x.asked i k ChainLong, record { question = k.question; reads = k.reads; aliases = l.held; last = l.wanted; many = size; follows = follows }))
+    owns c now x.client x.asked i k ChainLong (failure_text x.asked ChainLong) (λ waiting. (failure_told now x.client x.asked i k ChainLong tt, record { question = k.question; reads = k.reads; aliases = l.held; last = l.wanted; many = size; follows = follows }))
 fate_is_right c n now x i l missed k is taken can_write follows right size at_once = by (serving_route_of c l.wanted.name) refl
   where
     leads : Leads (look_from c k.asked k.before now) k.question l.held l.wanted

@@ -5,16 +5,16 @@ use Rattle.std.proofs.lemmas.Bool.{cond-true, cond-false, eq-eqb}
 use Rattle.dns_message.specs.declared.reading.header.Header.{Header}
 use Rattle.dns_message.specs.Header.{header_in}
 use Rattle.dns_message.specs.declared.names.fault.Fault.{Fault}
-use Rattle.dns_message.specs.Values.{Question, Message}
+use Rattle.dns_message.specs.Values.{Question}
 use Rattle.dns_message.specs.Messages.{Spells, first_question}
 use Rattle.dns_message.specs.Writing.{written}
 use Rattle.dns_message.specs.Written.{IsQuestion}
-use Rattle.dns_message.proofs.CallerLemmas.{first_question_read_stands, standing_first_question_is_read, standing_question_is_question, written_message_is_spelled}
+use Rattle.dns_message.proofs.CallerLemmas.{first_question_read_stands, standing_first_question_is_read, standing_question_is_question}
 use Rattle.plain_values.specs.Octets.{AreOctets}
 use Rattle.dns_message.specs.Questions.{question_read}
 use Rattle.step_history.specs.History.{Reads}
 use Rattle.outstanding.specs.Draws.{ask_message}
-use Rattle.theorem_cache.proofs.CallerLemmas.{alone_short}
+use Rattle.theorem_cache.proofs.ReadAnswers.CallerLemmas.{ask_spelled}
 use Rattle.step_table.proofs.CallerLemmas.{header_there}
 
 read_is : (octets : List ℕ) (q : Question) → Reads octets q → first_question octets ≡ Ok q
@@ -39,18 +39,8 @@ pub ask_reads : (id : ℕ) (q : Question) → IsQuestion q → id < 2 ^ 16
     → Reads (written (ask_message id q)) q × ((header_in (written (ask_message id q))).id ≡ id)
 ask_reads id q question small = (reads_back, ap (λ (h : Header). h.id) there.0)
   where
-    m : Message
-    m = ask_message id q
-
     spelled : Spells (written (ask_message id q)) (ask_message id q)
-    spelled = written_message_is_spelled (ask_message id q) (record {
-      id = small;
-      bits = record { opcode = omega arith; z = omega arith; rcode = omega arith };
-      questions = (question, tt);
-      answers = tt;
-      authority = tt;
-      additional = tt;
-    }) refl (record { answers = tt; authority = tt; additional = tt }) (alone_short (ask_message id q).header q question.name)
+    spelled = ask_spelled id q question small
 
     there : (header_in (written (ask_message id q)) ≡ (ask_message id q).header) × (12 ≤ length (written (ask_message id q)))
     there = header_there (written (ask_message id q)) (ask_message id q).header spelled.header

@@ -21,7 +21,8 @@ use Rattle.step_table.specs.State.{State}
 use Rattle.waiting_questions.specs.Values.{Waiting}
 use Rattle.step_table.specs.Steps.{Fate, gets, waits, replies, still_waiting, closing, without_ask, asks, asks_by, ask_list, tcp_count, initial}
 use Rattle.step_table.specs.Row.{is_due_at}
-use Rattle.theorem_cache.specs.Kept.{CanBeWrittenAt, IsCached}
+use Rattle.theorem_cache.specs.ReadAnswers.Texts.{CanBeWrittenAt}
+use Rattle.theorem_cache.specs.Kept.{IsCached}
 use Rattle.theorem_sound.specs.Explains.{shown, Waits, Tried, Explains}
 use Rattle.step_table.specs.Progress.{IsBelow, ArePreferred}
 use Rattle.theorem_cache.specs.Chains.{GoesOn}

@@ -25,7 +25,9 @@ use Rattle.step_history.specs.History.{moment_at, listed, Reads, NothingAccepted
 use Rattle.step_history.specs.Causes.{NoneAsks}
 use Rattle.step_values.specs.Requests.{is_taken}
 use Rattle.step_history.specs.Draws.{drawn}
-use Rattle.step_history.specs.Replies.{failure_text}
+use Rattle.step_history.specs.Read.{AreReadAs, ShowsFailure}
+use Rattle.theorem_cache.specs.ReadAnswers.Texts.{failure_text, FailsAsking, FailsUnasked}
+use Rattle.theorem_cache.proofs.ReadAnswers.CallerLemmas.{failures_are_read, unasked_failures_are_read}
 use Rattle.answer_builder.specs.Values.{asked_in}
 use Rattle.step_history.specs.Answers.{Chain, Leads}
 use Rattle.step_history.specs.Sound.{unanswered, RightReply, Replies, FromCache, SameAsEarlierFromCache}
@@ -37,13 +39,14 @@ use Rattle.step_table.specs.AliasChains.LookingUp.{LookUpEnd, ends, too_long, mi
 use Rattle.step_table.specs.Row.{is_due_at}
 use Rattle.step_table.specs.Clients.{waits_with, taken_now, without_server, fate_missed, fate_at, row_of_opening, row_of_inquiry, row_of_waiting, row_of_fate, row_of_route, row_of_question, row_of_request}
 use Rattle.record_cache.specs.Values.{Held, Cache}
-use Rattle.theorem_cache.specs.Kept.{CanBeWrittenAt, looked, IsStillFound, IsCached}
+use Rattle.theorem_cache.specs.ReadAnswers.Texts.{CanBeWrittenAt}
+use Rattle.theorem_cache.specs.Kept.{looked, IsStillFound, IsCached}
 use Rattle.theorem_cache.specs.Chains.{look_from, IsRightEnd, EndsRight, IsSized, IsRight}
 use Rattle.theorem_sound.specs.Explains.{shown, Comes, Waits, Explains}
 use Rattle.step_table.specs.Progress.{IsBelow}
 use Rattle.theorem_cache.proofs.CallerLemmas.{quiet_steps_keep, promotions_keep_cached, look_ups_are_right, answers_from_cache_agree, promotions_find_the_same}
 use Rattle.step_table.proofs.CallerLemmas.{All-append, still_earlier, IsAskBy, ask_by-some, ask_by-none, udp-some, udp-none, preferred_peer, IsFresh, drawn_fresh, free_now, none_same}
-use Rattle.theorem_sound.proofs.Answering.{IsTold, answered_told, answer_owned, without_server_owned, without_server_fails}
+use Rattle.theorem_sound.proofs.Answering.{taken_long, IsTold, answered_told, answer_owned, without_server_owned, without_server_fails}
 use Rattle.theorem_sound.proofs.Actions.{OwnsReply, asks_answer_none}
 use Rattle.theorem_sound.proofs.Redirecting.{question_led}
 use Rattle.theorem_sound.proofs.Served.{unserved_is}
@@ -87,7 +90,7 @@ module _ (c : Config) (past : List Step) (w : List (List ℕ)) (s : State) (x : 
   refused cache was text why takes failure right more_is = (
     length past ∷ [],
     at_once_explained c past w s x input unkept more n client text why cache (record s { cache = cache; moment = n }) refl (refl, moment) takes (no_delivery (send_reply client text why ∷ []))
-        (record { asked = step (send_reply client text why ∷ []); before = past; in_era = inl refl; number = refl; request = request; sent = refl; taken = takes; right = right })
+        (record { asked = step (send_reply client text why ∷ []); before = past; in_era = inl refl; number = refl; request = request; octets_are = are_octets; sent = refl; taken = takes; right = right })
         (λ q octets f. absurd (never octets f.1)) (cached (send_reply client text why ∷ []) cache was (λ q octets f. absurd (never octets f.1))) more_is,
   )
     where
@@ -117,6 +120,18 @@ module _ (c : Config) (past : List Step) (w : List (List ℕ)) (s : State) (x : 
       by (close_udp port) is = absurd (owned (close_udp port) is)
       by (close_tcp conn) is = absurd (owned (close_tcp conn) is)
 
+  -- the texts of failures, as read
+  long : is_taken request ≡ true → 12 ≤ length request
+  long takes = taken_long request takes
+
+  unasked : (why : Why) → is_taken request ≡ true → FailsUnasked why
+      → AreReadAs (failure_text (asked_in (header_in request) None) why) (ShowsFailure request why)
+  unasked why takes fails = (unasked_failures_are_read client request why are_octets (long takes) fails).reads
+
+  asking : is_taken request ≡ true → (q : Question) → one_question request ≡ Some q → (why : Why) → FailsAsking why
+      → AreReadAs (failure_text (asked_in (header_in request) (Some q)) why) (ShowsFailure request why)
+  asking takes q reads why fails = (failures_are_read client request why q are_octets (long takes) reads (read_well request q are_octets reads) fails).reads
+
   asks_number : length (listed past) ≡ length s.asks
   asks_number = sym (ap length x.asks) ∙ length-map s.asks shown
 
@@ -145,9 +160,9 @@ module _ (c : Config) (past : List Step) (w : List (List ℕ)) (s : State) (x : 
       served = served;
     }
 
-    -- the question repeated by a failure
-    can_write : (why : Why) → (z : Question) × Reads request z × (failure_text y.asked why ≡ failure_text (asked_in (header_in request) (Some z)) why)
-    can_write why = (q, reads, refl)
+    -- a failure that repeats the question
+    fails_so : (why : Why) → FailsAsking why → AreReadAs (failure_text y.asked why) (ShowsFailure request why)
+    fails_so = asking takes q reads
 
     all_below_one : AllByRecursion (λ a. IsBelow (s.tcp_asks + 0) a.path) s.asks
     all_below_one = all_below s.tcp_asks 0 s.asks x.connections
@@ -193,7 +208,7 @@ module _ (c : Config) (past : List Step) (w : List (List ℕ)) (s : State) (x : 
 
       opened : length s.waiting + 1 ≤ c.limits.questions → length s.asks + 1 ≤ c.limits.inquiries → of_question l.wanted s.asks ≡ None
           → (r : Option Ask) → first_ask (start c n words s) l.wanted route ≡ r → P (row_of_opening n z (record s { cache = used }) r)
-      opened room room_asked new None none = refused used used_is _ NoPort takes (λ e. cc) (can_write NoPort, inl no_draw)
+      opened room room_asked new None none = refused used used_is _ NoPort takes (λ e. cc) (fails_so NoPort tt, inl no_draw)
         where
           peer : (p : Peer) × (peer_at c route (preferred_on s route) ≡ Some p)
           peer = preferred_peer c l.wanted route s.preferred on x.preferred
@@ -279,7 +294,7 @@ module _ (c : Config) (past : List Step) (w : List (List ℕ)) (s : State) (x : 
       inquired room None new =
           cond_both (nat_le c.limits.inquiries (length s.asks)) _ _ P
           (λ t. refused used used_is _ InquiriesFull takes (λ e. cc) (
-            can_write InquiriesFull,
+            fails_so InquiriesFull tt,
             record {
               at_once = refl;
               full = asks_number ∙ is_full c.limits.inquiries (length s.asks) t x.asks_are.few;
@@ -298,7 +313,7 @@ module _ (c : Config) (past : List Step) (w : List (List ℕ)) (s : State) (x : 
       waited : P (row_of_waiting (start c n words (record s { cache = used })) z)
       waited =
           cond_both (nat_le c.limits.questions (length s.waiting)) _ _ P
-          (λ t. refused used used_is _ QuestionsFull takes (λ e. cc) (can_write QuestionsFull, (refl, sym waiting_number ∙ is_full c.limits.questions (length s.waiting) t x.few)))
+          (λ t. refused used used_is _ QuestionsFull takes (λ e. cc) (fails_so QuestionsFull tt, (refl, sym waiting_number ∙ is_full c.limits.questions (length s.waiting) t x.few)))
           (λ f. inquired (has_room c.limits.questions (length s.waiting) f) (of_question l.wanted s.asks) refl)
 
     -- a question answered by the cache
@@ -373,7 +388,7 @@ module _ (c : Config) (past : List Step) (w : List (List ℕ)) (s : State) (x : 
 
     too_long_row : l.met ≡ too_long → P (reply_step n (gives_up ChainLong y) (record s { cache = used }))
     too_long_row met = refused used used_is _ ChainLong takes (λ e. cc) (
-      can_write ChainLong,
+      fails_so ChainLong tt,
       record {
         question = q;
         reads = reads;
@@ -396,10 +411,10 @@ module _ (c : Config) (past : List Step) (w : List (List ℕ)) (s : State) (x : 
     routed (Some route) on = looked_up l.met refl
 
   asked : is_taken request ≡ true → (header_in request).opcode ≡ 0 → (r : Option Question) → one_question request ≡ r → P (row_of_question (start c n words s) client (header_in request) r)
-  asked takes opcode None none = refused s.cache x.cache _ BadFormat takes (λ e. cc) (refl, (refl, opcode, λ q reads. let e : None ≡ Some q = sym none ∙ reads in absurd (cc)))
+  asked takes opcode None none = refused s.cache x.cache _ BadFormat takes (λ e. cc) (unasked BadFormat takes tt, (refl, opcode, λ q reads. let e : None ≡ Some q = sym none ∙ reads in absurd (cc)))
   asked takes opcode (Some q) reads =
       cond_both (is_unserved q) _ _ P
-      (λ t. refused s.cache x.cache _ NotServed takes (λ e. cc) ((q, reads, refl), record { at_once = refl; opcode = opcode; question = q; reads = reads; unserved = unserved_is q t }))
+      (λ t. refused s.cache x.cache _ NotServed takes (λ e. cc) (asking takes q reads NotServed tt, record { at_once = refl; opcode = opcode; question = q; reads = reads; unserved = unserved_is q t }))
       (λ f. routed takes opcode q reads f (serving_route_of c q.name) refl)
 
   pub client_explained : P (row_of_request (start c n words s) client request)
@@ -407,5 +422,5 @@ module _ (c : Config) (past : List Step) (w : List (List ℕ)) (s : State) (x : 
       cond_both (is_taken request) _ _ P
       (λ t. cond_both ((header_in request).opcode == 0) _ _ P
       (λ z. asked t (eqb-true (header_in request).opcode 0 z) (one_question request) refl)
-      (λ z. refused s.cache x.cache _ BadOpcode t (λ e. cc) (refl, (refl, eqb-false (header_in request).opcode 0 z))))
+      (λ z. refused s.cache x.cache _ BadOpcode t (λ e. cc) (unasked BadOpcode t tt, (refl, eqb-false (header_in request).opcode 0 z))))
       (λ f more_is. ([], idle_explained c past w s x input unkept more n (record s { moment = n }) refl (refl, moment) f (no_delivery []) more_is))

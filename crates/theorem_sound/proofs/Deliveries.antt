@@ -35,7 +35,7 @@ use Rattle.step_history.specs.History.{moment_at, ShownAsk, listed, on_path, Mat
 use Rattle.step_history.specs.Causes.{NoneAsks, AcceptsFor}
 use Rattle.step_history.specs.Draws.{drawn}
 use Rattle.step_history.specs.Asked.{IsDrawn}
-use Rattle.step_history.specs.Replies.{failure_text}
+use Rattle.theorem_cache.specs.ReadAnswers.Texts.{failure_text}
 use Rattle.step_history.proofs.CallerLemmas.{moment_small, accepted_fine, accepted_pieces, accepted_end, walk_accepted, walk_accepted-asked, walk_accepted-end}
 use Rattle.step_history.proofs.CacheLaws.CallerLemmas.{serves_exactly}
 use Rattle.step_table.specs.State.{State, start}
@@ -220,6 +220,7 @@ module _ (c : Config) (past : List Step) (w : List (List ℕ)) (s : State) (x : 
         let facts = match_facts a from octets matched in
         record {
           delivered = λ i. Some (record { path = sym path_is i; from = facts.server i; octets = octets });
+          octets_are = are_octets;
           is_listed = shown_on;
           is_live = subst (λ (t : ℕ). t < timeout_of c a) (moment_now actions) (ltb-true n (timeout_of c a) live);
           long_enough = facts.long_enough;
@@ -388,7 +389,7 @@ module _ (c : Config) (past : List Step) (w : List (List ℕ)) (s : State) (x : 
             one : (v : Fate) (i : ℕ) → Fated (OwnsReply c (told_by (unless_no_port fate a.question) None ∷ past)) (Waits c (told_by (unless_no_port fate a.question) None ∷ past)) v i
                 → Fated (OwnsReply c (told_by (unless_no_port fate a.question) None ∷ past)) (Waits c (told_by (unless_no_port fate a.question) None ∷ past)) (without_port v) i
             one (gets reply) i h = h
-            one (waits y) i h = owns c (told_by (unless_no_port fate a.question) None ∷ past) y.client y.asked i h.comes NoPort (failure_text y.asked NoPort) (λ k. (failure_told (told_by (unless_no_port fate a.question) None ∷ past) y.client y.asked i h.comes NoPort, inl no_draw))
+            one (waits y) i h = owns c (told_by (unless_no_port fate a.question) None ∷ past) y.client y.asked i h.comes NoPort (failure_text y.asked NoPort) (λ k. (failure_told (told_by (unless_no_port fate a.question) None ∷ past) y.client y.asked i h.comes NoPort tt, inl no_draw))
 
             each : (y : Waiting) (i : ℕ) → Waits c past y i → Fated (OwnsReply c (told_by (unless_no_port fate a.question) None ∷ past)) (Waits c (told_by (unless_no_port fate a.question) None ∷ past)) (unless_no_port fate a.question y) i
             each y i was = cond_both (waits_for a.question y) (without_port (fate y)) (waits y) (λ v. Fated (OwnsReply c (told_by (unless_no_port fate a.question) None ∷ past)) (Waits c (told_by (unless_no_port fate a.question) None ∷ past)) v i)

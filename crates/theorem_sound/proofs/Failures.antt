@@ -29,7 +29,7 @@ use Rattle.step_history.specs.Draws.{drawn}
 use Rattle.step_history.specs.Causes.{ClosesAsk, NoneAsks, MayFail, FailsAsk, TriesFailed}
 use Rattle.step_history.specs.Asked.{IsDrawn}
 use Rattle.step_history.specs.Sound.{RightReply, FromCache, AsksIn}
-use Rattle.step_history.specs.Replies.{failure_text}
+use Rattle.theorem_cache.specs.ReadAnswers.Texts.{failure_text}
 use Rattle.step_table.specs.State.{State, start}
 use Rattle.waiting_questions.specs.Values.{Waiting, waits_for}
 use Rattle.step_table.specs.Attempts.{peer_at, over_udp, over_tcp, freed_by, plan_of, next_ask}
@@ -37,7 +37,8 @@ use Rattle.step_table.specs.Steps.{Done, Fate, gets, waits, gives_up, transport_
 use Rattle.step_table.specs.AliasChains.StaleLookUps.{look_up_stale}
 use Rattle.step_table.specs.Row.{is_due_at}
 use Rattle.step_table.specs.Failures.{with_stale_ttl, found_stale, runs_out, row_of_attempt, row_of_next, row_of_failure}
-use Rattle.theorem_cache.specs.Kept.{CanBeWrittenAt, IsCached}
+use Rattle.theorem_cache.specs.ReadAnswers.Texts.{CanBeWrittenAt}
+use Rattle.theorem_cache.specs.Kept.{IsCached}
 use Rattle.theorem_cache.specs.Chains.{GoesOn, look_from}
 use Rattle.theorem_cache.proofs.CallerLemmas.{leads_stay_leads, stale_look_ups_are_right, told_later, quiet_steps_keep}
 use Rattle.step_table.proofs.CallerLemmas.{All-weaker, All-append, All-filter, still_earlier, IsAskBy, ask_by-some, ask_by-none, udp-some, udp-none, tcp-some, tcp-none, peer_within, peer_there, ask_on-is, drawn_fresh, free_then, none_above, drawn_numbered, drawn_last, without_shorter, none_same}
@@ -263,7 +264,7 @@ module _ (c : Config) (past : List Step) (w : List (List ℕ)) (s : State) (x : 
           where
             by : (r : Option (List Held)) → found_stale c n s.cache.entries y ≡ r → OwnsReply c now_of i (with_stale_ttl n y r)
             by None is = owns c now_of y.client y.asked i comes Exhausted (failure_text y.asked Exhausted) (λ k. (
-              failure_told past y.client y.asked i was.comes Exhausted,
+              failure_told past y.client y.asked i was.comes Exhausted tt,
               record { question = was.comes.question; reads = was.comes.reads; aliases = y.held; last = y.wanted; leads = leads; failed = failed; none_left = none },
             ))
             by (Some found) is = found_owned found is
@@ -279,7 +280,7 @@ module _ (c : Config) (past : List Step) (w : List (List ℕ)) (s : State) (x : 
       no_path_row : (actions_by (map (fails NoPort a.question) s.waiting) None ≡ actions_by (map (fails NoPort a.question) s.waiting) None)
           → ((drawn words (listed past) (actions_by (map (fails NoPort a.question) s.waiting) None) ≡ None) ⊎ (tcp_asks past ≡ 2 ^ 64 - 1)) → P (closing_step n a (fails NoPort a.question) None s)
       no_path_row same none = closed_row (fails NoPort a.question) None s.preferred s.cache 0 (fails_speak NoPort a.question s.waiting)
-          (can_write NoPort (actions_by (map (fails NoPort a.question) s.waiting) None) (λ y i was t k. (failure_told past y.client y.asked i was.comes NoPort, none)))
+          (can_write NoPort (actions_by (map (fails NoPort a.question) s.waiting) None) (λ y i was t k. (failure_told past y.client y.asked i was.comes NoPort tt, none)))
           tt tt tt tt tt x.preferred (cached_now (actions_by (map (fails NoPort a.question) s.waiting) None))
 
       -- the next ask goes out

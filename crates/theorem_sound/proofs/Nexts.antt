@@ -25,6 +25,7 @@ use Rattle.step_table.specs.Attempts.{peer_at}
 use Rattle.step_table.specs.Steps.{ask_list}
 use Rattle.theorem_sound.specs.Explains.{Tried}
 use Rattle.step_table.specs.Progress.{IsBelow}
+use Rattle.theorem_cache.proofs.ReadAnswers.CallerLemmas.{asks_are_read}
 use Rattle.theorem_sound.proofs.AskText.{ask_reads}
 use Rattle.theorem_sound.proofs.Attempts.{serves}
 use Rattle.theorem_sound.proofs.Actions.{IsRightNext}
@@ -62,7 +63,7 @@ next_right c s past now q a next drawn =
     record {
       id = a.id;
       question = a.question;
-      text = refl;
+      query = asks_are_read a.id a.question tried.question next.small;
       reads = tried.reads;
       server = serves c a.question a.route a.server a.peer tried.on_route tried.server;
       drawn_so = drawn;

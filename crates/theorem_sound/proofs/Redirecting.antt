@@ -28,7 +28,8 @@ use Rattle.step_table.specs.AliasChains.LookingUp.{LookUpEnd, ends, too_long, mi
 use Rattle.step_table.specs.Replies.{looked_by, unless_open, to_be_asked, without_port, unless_no_port}
 use Rattle.step_table.specs.Clients.{fate_missed, fate_at, fate_of}
 use Rattle.step_table.specs.AliasChains.Offering.{held_at}
-use Rattle.theorem_cache.specs.Kept.{CanBeKept, CanBeWrittenAt, IsCached}
+use Rattle.theorem_cache.specs.ReadAnswers.Texts.{CanBeWrittenAt}
+use Rattle.theorem_cache.specs.Kept.{CanBeKept, IsCached}
 use Rattle.theorem_cache.specs.Chains.{look_from, GoesOn, IsRight, LeadOn}
 use Rattle.theorem_cache.proofs.CallerLemmas.{told_later, follows_append, leads_stay_leads, accepted_pieces_lead_on, look_ups_that_go_on_are_right, still_held}
 use Rattle.step_table.proofs.CallerLemmas.{All-append, All-weaker, All-first}

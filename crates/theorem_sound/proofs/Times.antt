@@ -13,7 +13,7 @@ use Rattle.retry_failover.specs.declared.Failure.TheVariants as failure
 use Rattle.step_values.specs.declared.action.Why.TheVariants.{Deadline}
 use Rattle.step_values.specs.Values.{path_failed, tick, Action, Step}
 use Rattle.step_history.specs.History.{moment_at, NothingAccepted}
-use Rattle.step_history.specs.Replies.{failure_text}
+use Rattle.theorem_cache.specs.ReadAnswers.Texts.{failure_text}
 use Rattle.step_table.specs.State.{State, start}
 use Rattle.waiting_questions.specs.Values.{Waiting, waits_for}
 use Rattle.step_table.specs.Steps.{Done, Fate, gets, waits, gives_up, asks, closing, replies, without_ask}
@@ -105,7 +105,7 @@ module _ (c : Config) (past : List Step) (w : List (List ℕ)) (s : State) (x : 
 
     owned : (o : Option Ask) (i : ℕ) → Waits c past y i → OwnsReply c (step (actions o) ∷ past) i (gives_up Deadline y)
     owned o i was = owns c (step (actions o) ∷ past) y.client y.asked i (comes_later (step (actions o)) past y.client y.asked i refl was.comes) Deadline (failure_text y.asked Deadline) (λ waiting. (
-      failure_told past y.client y.asked i was.comes Deadline,
+      failure_told past y.client y.asked i was.comes Deadline tt,
       record { passed = refl; late = let from : y.taken ≡ moment_at (was.comes.asked ∷ was.comes.before) = was.moment in let is : n ≡ moment_at (step (actions o) ∷ past) = moment_now (actions o) in omega (arith, late, from, is) },
     ))
 

@@ -1,9 +1,7 @@
 -- A state and the history that explains it, computed: a forwarder in which as many questions wait
 -- as may, its ask, and whom it owes an answer.
-use Rattle.std.proofs.Common.{◌≡◌, ℕ, ◌<◌, ◌≤◌, List, [], ◌∷◌, Bool, true, false, refl, sym, ap, ◌∙◌, inl, inr, arith, Option, Some, None}
-use Rattle.std.specs.Prelude.{◌&&◌, nat_le}
-use Rattle.std.proofs.lemmas.Bool.{leb-true, true≢false}
-use Rattle.std.proofs.lemmas.List.Elements.{All-nil, All-cons}
+use Rattle.std.proofs.Common.{◌≡◌, ℕ, ◌≤◌, List, [], ◌∷◌, true, false, refl, sym, ap, ◌∙◌, inl, inr, arith, Option, Some, None}
+use Rattle.std.proofs.lemmas.Bool.{true≢false}
 use Rattle.dns_name.specs.Labels.{IsLabel, IsName}
 use Rattle.dns_message.specs.Names.{step as name_step, walk_in, name_within}
 use Rattle.dns_message.specs.Records.{octets_end, question_at}
@@ -19,6 +17,8 @@ use Rattle.outstanding.specs.Values.{Ask}
 use Rattle.answer_builder.specs.Values.{Asked}
 use Rattle.step_values.specs.Values.{Delivered, Request, request_in, from_client, tick, ask_udp, close_udp, Step}
 use Rattle.step_history.proofs.CacheLaws.CallerLemmas.{serves_exactly}
+use Rattle.step_history.proofs.CallerLemmas.{are_octets}
+use Rattle.theorem_cache.proofs.ReadAnswers.CallerLemmas.{asks_are_read}
 use Rattle.step_history.specs.History.{InEra, NothingAccepted}
 use Rattle.step_history.specs.Asked.{AsksRight, AsksWell}
 use Rattle.step_history.specs.Sound.{Replies}
@@ -95,20 +95,6 @@ unfolding written ◌▹◌ each name_text
 shows = refl
 
 -- ---- both steps are rows
-
-abbrev all_small : List ℕ → Bool
-all_small [] = true
-all_small (x ∷ xs) = nat_le x 255 && all_small xs
-
-are_octets : (xs : List ℕ) → all_small xs ≡ true → AreOctets xs
-are_octets [] all = All-nil (λ x. x < 256)
-are_octets (x ∷ xs) all = by (nat_le x 255) refl all (are_octets xs)
-  where
-    by : (v : Bool) → nat_le x 255 ≡ v → (v && all_small xs) ≡ true → (all_small xs ≡ true → AreOctets xs)
-        → AreOctets (x ∷ xs)
-    by true le rest onward =
-        All-cons (λ y. y < 256) x xs (let small = leb-true x 255 le in omega (arith, small)) (onward rest)
-    by false le rest onward = absurd (true≢false (sym rest))
 
 octets_of_request : AreOctets (text 7 1)
 octets_of_request = are_octets (text 7 1) refl
@@ -223,7 +209,7 @@ unfolding written ◌▹◌ each name_text first_question question_at octets_end
 right_ask = record {
   id = 8;
   question = address a;
-  text = refl;
+  query = asks_are_read 8 (address a) (record { name = name_of_a; kind = omega arith; class = omega arith }) (omega arith);
   reads = refl;
   server = record {
     route = 0;

@@ -24,7 +24,8 @@ use Rattle.step_table.specs.Attempts.{peer_at}
 use Rattle.outstanding.specs.Values.{Ask}
 use Rattle.outstanding.specs.Lists.{AreListed}
 use Rattle.step_history.specs.Asked.{AsksWell}
-use Rattle.theorem_cache.specs.Kept.{CanBeWrittenAt, IsCached}
+use Rattle.theorem_cache.specs.ReadAnswers.Texts.{CanBeWrittenAt}
+use Rattle.theorem_cache.specs.Kept.{IsCached}
 use Rattle.theorem_cache.specs.Chains.{look_from}
 use Rattle.step_table.specs.Progress.{ArePreferred, IsBelow}
 

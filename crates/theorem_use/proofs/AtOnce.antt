@@ -18,7 +18,9 @@ use Rattle.step_values.specs.Values.{from_client, Request, Action, send_reply, S
 use Rattle.suffix_routes.specs.Serving.{serving_route_of}
 use Rattle.step_history.specs.History.{InEra, Sends, moment_at, NothingAccepted}
 use Rattle.step_values.specs.Requests.{is_taken}
-use Rattle.step_history.specs.Replies.{failure_text, answer_text, cut_text, sized_for}
+use Rattle.theorem_sound.specs.TheoremCache.ReadAnswers.Texts.{failure_text}
+use Rattle.theorem_sound.proofs.TheoremCache.ReadAnswers.CallerLemmas.{answers_are_read}
+use Rattle.theorem_use.specs.Touched.{IsReadFrom}
 use Rattle.step_history.specs.Answers.{Chain}
 use Rattle.step_history.specs.Sound.{unanswered, RightReply, Owns, Replies, FromCache, SameAsEarlierFromCache}
 use Rattle.step_table.specs.State.{State, start}
@@ -27,13 +29,14 @@ use Rattle.alias_chains.specs.LookingUp.{LookUpEnd, ends, too_long, missed, Look
 use Rattle.step_table.specs.Steps.{Done, with_promoted, reply_step, answered, sends, transport_of}
 use Rattle.step_table.specs.Row.{is_due_at}
 use Rattle.step_table.specs.Clients.{fate_at, taken_now, row_of_fate, row_of_route, row_of_question, row_of_request}
-use Rattle.theorem_sound.specs.TheoremCache.Kept.{CanBeWrittenAt, looked, IsStillFound, IsCached}
+use Rattle.theorem_sound.specs.TheoremCache.ReadAnswers.Texts.{CanBeWrittenAt}
+use Rattle.theorem_sound.specs.TheoremCache.Kept.{looked, IsStillFound, IsCached}
 use Rattle.theorem_sound.specs.TheoremCache.Chains.{look_from, IsRightEnd, EndsRight, IsSized, IsRight}
 use Rattle.theorem_sound.proofs.TheoremCache.CallerLemmas.{quiet_steps_keep, promotions_keep_cached, look_ups_are_right, answers_from_cache_agree, promotions_find_the_same}
 use Rattle.step_table.proofs.CallerLemmas.{All-append}
 use Rattle.theorem_sound.specs.Explains.{Comes, Explains}
 use Rattle.theorem_sound.proofs.Actions.{OwnsReply}
-use Rattle.theorem_sound.proofs.Answering.{IsTold, answered_told, answer_owned}
+use Rattle.theorem_sound.proofs.Answering.{repeated, IsTold, answered_told, answer_owned}
 use Rattle.theorem_sound.proofs.Cases.{step_of, at_once_explained}
 
 -- ---- replies owned by the newest step's own question
@@ -300,18 +303,30 @@ module _ (c : Config) (past : List Step) (w : List (List ℕ)) (s : State) (x : 
             more_is;
       }
 
-    -- an answer is written from the aliases and the end of the look-up
+    -- the octets of the look-up's aliases and end are read from these
+    read_so : (octets : List ℕ) → IsTold n client y.asked l.held h.end octets
+        → IsReadFrom n client request h.question (l.held ++ h.end ∷ []) octets
+    read_so octets told = subst (IsReadFrom n client request h.question (l.held ++ h.end ∷ [])) (sym told.text) (record {
+      aliases = l.held;
+      end = h.end;
+      are = refl;
+      reads = (answers_are_read (look_from c (step []) past (step [] ∷ past)) client y.asked (header_in request)
+          h.question l.wanted n l.held h.end refl (repeated (step [] ∷ past) client y.asked (length past) (comes []))
+          (can_be_written_at []) (right []).follows (right_end []).2 told.fits).reads;
+    })
+
+    -- an answer is read from the aliases and the end of the look-up
     pub hit_text : (octets : List ℕ) → Replies (answered n y l.held h.end ∷ []) octets
-        → octets ≡ sized_for client (answer_text y.asked l.held h.end n) (cut_text y.asked l.held h.end n)
+        → IsReadFrom n client request h.question (l.held ++ h.end ∷ []) octets
     hit_text octets replies = by (answer_of y.asked (l.held ++ h.end ∷ []) n (transport_of client)) refl replies
       where
         by : (r : Result (List ℕ) Fault) → answer_of y.asked (l.held ++ h.end ∷ []) n (transport_of client) ≡ r
             → Replies (sends Answered y r ∷ []) octets
-            → octets ≡ sized_for client (answer_text y.asked l.held h.end n) (cut_text y.asked l.held h.end n)
+            → IsReadFrom n client request h.question (l.held ++ h.end ∷ []) octets
         by (Ok text) told (inl (success, same)) =
             let told_so : IsTold n client y.asked l.held h.end text =
             answered_told n (step [] ∷ past) y (length past) (comes []) l.held h.end (can_be_written_at []) client text Answered (ap (sends Answered y) told) refl in
-            sym same ∙ told_so.text
+            read_so octets (subst (IsTold n client y.asked l.held h.end) same told_so)
         by (Ok text) told (inr never) = absurd never
         by (Err fault) told (inl (success, same)) = absurd cc
         by (Err fault) told (inr never) = absurd never

@@ -15,14 +15,11 @@ use Rattle.trust_rank.specs.Walks.{most_aliases}
 use Rattle.record_cache.specs.Values.{Held}
 use Rattle.record_cache.specs.Ageing.{end_of}
 use Rattle.record_cache.specs.Laws.{Among}
-use Rattle.answer_builder.specs.Values.{asked_in}
-use Rattle.answer_builder.specs.Answers.{sections_of}
 use Rattle.step_values.specs.declared.event.Client.{Client}
 use Rattle.step_values.specs.Values.{Event, from_client, Request, Action, Step}
 use Rattle.step_values.specs.Requests.{is_taken}
 use Rattle.step_history.specs.History.{moment_at, Carries}
 use Rattle.step_history.specs.Carried.{NotReplaced}
-use Rattle.step_history.specs.Replies.{full_text, short_text, sized_for}
 use Rattle.step_history.specs.Sound.{Replies}
 use Rattle.step_table.specs.State.{State, start}
 use Rattle.step_table.specs.Steps.{Done, with_promoted, reply_step, answered}
@@ -34,7 +31,7 @@ use Rattle.step_history.proofs.CacheLaws.CallerLemmas.{serves_exactly}
 use Rattle.theorem_sound.proofs.CallerLemmas.{served_is, served_so}
 use Rattle.theorem_sound.specs.Explains.{Explains}
 use Rattle.theorem_use.specs.Use.{AsksToLookUp}
-use Rattle.theorem_use.specs.Touched.{Touched, carried_in, TouchedInEra, LeadsAlong, AnswersNothing}
+use Rattle.theorem_use.specs.Touched.{Touched, carried_in, TouchedInEra, LeadsAlong, AnswersNothing, IsReadFrom}
 use Rattle.theorem_use.specs.Recent.{IsReady, IsAnsweredByRecent}
 use Rattle.theorem_use.specs.Mirrors.{KeepsRecent, HasRecent}
 use Rattle.theorem_use.proofs.Recent.{told, keeps_before, KeepsAfter, UsesThese, quiet_after}
@@ -88,10 +85,9 @@ module _ (c : Config) (past : List Step) (w : List (List ℕ)) (s : State) (x : 
     quiet_keeps : (Fits : List Slot → Type 0) (quiet : IsQuiet Fits n s.cache d) → KeepsAfter c past w s x was now words unkept more t d quiet.used
     quiet_keeps Fits quiet = quiet_after c past w s x was now words unkept more Fits event d refl quiet no_reply
 
-    -- these octets are the answer from these pieces
+    -- these octets are read as the answer from these pieces
     abbrev IsText : Question → ℕ → List Held → List ℕ → Type 0
-    IsText q m pieces text = text ≡ sized_for client (full_text (asked_in (header_in octets) (Some q)) (sections_of m pieces))
-        (short_text (asked_in (header_in octets) (Some q)) (sections_of m pieces))
+    IsText q m pieces text = IsReadFrom m client octets q pieces text
 
     -- if the look-up ended, the pieces are the look-up's
     abbrev AreAll : Question → List Held → Type 0
@@ -111,7 +107,7 @@ module _ (c : Config) (past : List Step) (w : List (List ℕ)) (s : State) (x : 
         few = few;
         are = k.used_is ∙ led.used;
       };
-      text = λ text replies. subst (λ (m : ℕ). IsText k.question m led.pieces text) moment_now (says led.pieces led.whole text replies);
+      reads = λ text replies. subst (λ (m : ℕ). IsText k.question m led.pieces text) moment_now (says led.pieces led.whole text replies);
     })
       where
         stay : (e : Held) → Among e s.cache.entries → NotReplaced e (carried_in ts)

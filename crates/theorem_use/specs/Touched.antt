@@ -10,14 +10,12 @@ use Rattle.suffix_routes.specs.Values.{Config}
 use Rattle.trust_rank.specs.declared.slot.Slot.{Slot}
 use Rattle.trust_rank.specs.Values.{Piece, elsewhere}
 use Rattle.record_cache.specs.Values.{Held}
-use Rattle.answer_builder.specs.Values.{asked_in}
-use Rattle.answer_builder.specs.Answers.{sections_of}
 use Rattle.step_values.specs.declared.event.Client.{Client}
 use Rattle.step_values.specs.Values.{Step}
 use Rattle.step_history.specs.History.{is_restart, moment_at, Accepts, Carries, NothingAccepted}
 use Rattle.step_history.specs.Carried.{then_carried, NotReplaced}
 use Rattle.step_history.specs.Answers.{IsOf, IsAliasTo, EndsChain}
-use Rattle.step_history.specs.Replies.{full_text, short_text, sized_for}
+use Rattle.step_history.specs.Read.{ShowsChain, IsWholeOrCut, AreReadAs}
 use Rattle.step_history.specs.Sound.{Replies, FromCache}
 use Rattle.theorem_use.specs.Use.{AsksToLookUp}
 
@@ -77,17 +75,25 @@ pub record LooksAlong (Misses : Type 0) (n : ℕ) (ts : List Touched) (q : Quest
 abbrev pub AnswersNothing : Step → Type 0
 AnswersNothing s = (q : Question) (octets : List ℕ) → FromCache s q octets → ⊥
 
--- The step's question was looked up among the pieces carried before. An answer from cache is
--- written from the pieces along which this look-up led.
+-- the octets are read as the answer from these pieces
+pub record IsReadFrom (moment : ℕ) (client : Client) (request : List ℕ) (q : Question) (pieces : List Held)
+    (octets : List ℕ)
+    : Type 0 where
+  pub aliases : List Held
+  pub end : Held
+  pub are : pieces ≡ aliases ++ end ∷ []
+  pub reads : AreReadAs octets
+      (IsWholeOrCut client (header_in request) q (ShowsChain (header_in request) q aliases end moment))
+
+-- The step's question was looked up among the pieces carried before. An answer from cache is read
+-- from the pieces along which this look-up led.
 pub record LooksUp (c : Config) (s : Step) (past : List Step) (ts : List Touched) (slots : List Slot) : Type 0 where
   pub client : Client
   pub question : Question
   pub asks : AsksToLookUp c s client question
   pub along : LooksAlong (AnswersNothing s) (moment_at (s ∷ past)) ts question slots
-  pub text : (octets : List ℕ) → Replies s.outcome.actions octets
-      → octets ≡ sized_for client (full_text (asked_in (header_in asks.octets) (Some question))
-      (sections_of (moment_at (s ∷ past)) along.pieces))
-      (short_text (asked_in (header_in asks.octets) (Some question)) (sections_of (moment_at (s ∷ past)) along.pieces))
+  pub reads : (octets : List ℕ) → Replies s.outcome.actions octets
+      → IsReadFrom (moment_at (s ∷ past)) client asks.octets question along.pieces octets
 
 -- The step accepted a reply whose aliases lead to an unanswered name. Each look-up was one of this
 -- name, for the asked type and class, among the pieces carried before.

@@ -23,6 +23,7 @@ use Rattle.step_history.specs.History.{Look, ShownAsk, Matches, Accepts, Carries
 use Rattle.step_history.specs.Carried.{CarriedInEra, Justified}
 use Rattle.step_history.specs.Answers.{Chain, Answers}
 use Rattle.step_table.proofs.Played.{a, address, server, config}
+use Rattle.theorem_use.proofs.TheoremSound.TheoremCache.ReadAnswers.CallerLemmas.{chain_shown}
 use Rattle.worked_claims.proofs.Texts.{question_text, client, step_of}
 use Rattle.worked_claims.proofs.Silent.{nothing_heard}
 use Rattle.worked_claims.proofs.ReplyTo.{ReachesAsk, matches_ask, AcceptsTo, accepted_to}
@@ -105,7 +106,7 @@ pub reply_matches : (c : Config) (s : Step) (past : List Step) → ReachesAsk c 
     → Matches c s past ask reply_text (address a)
 unfolding first_question question_at octets_end name_within walk_in name_step
 reply_matches c s past reaches = matches_ask c s past ask reply_text (address a) reaches
-    (omega arith, omega arith, refl, refl, refl, refl, refl, refl)
+    (omega arith, omega arith, refl, refl, refl, refl, refl, refl, refl)
 
 pub reply_accepted : (tries stale_s : ℕ) (s : Step) (past : List Step)
     → ReachesAsk (with_limits tries stale_s) s past ask reply_text
@@ -174,8 +175,12 @@ answers = record {
   aliases = [];
   end = held;
   chain = chain;
-  text = refl;
-  fits = tt;
-  message = said;
-  spells = message_read_is_spelled client_text said answer_is_read;
+  reads = record {
+    message = said;
+    spells = message_read_is_spelled client_text said answer_is_read;
+    size = refl;
+    shows = inl (chain_shown seen (header_in (question_text 7 1)) (address a) chain.last [] held 1020
+        chain.leads.follows chain.ends);
+  };
+  fits = omega arith;
 }

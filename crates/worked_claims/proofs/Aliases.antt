@@ -78,7 +78,7 @@ carries tries stale_s = record {
   servers = [];
   accepts = walk_accepted (with_limits tries stale_s) redirected (asked ∷ []) ask (address a) 0 reply_text says (tt, tt)
       (matches_ask (with_limits tries stale_s) redirected (asked ∷ []) ask reply_text (address a)
-      (refl, refl, omega arith) (omega arith, omega arith, refl, refl, refl, refl, refl, refl))
+      (refl, refl, omega arith) (omega arith, omega arith, refl, refl, refl, refl, refl, refl, refl))
       (message_read_is_spelled reply_text says reply_is_read) refl (inl refl) refl refl;
   are = refl;
 }

@@ -1,8 +1,10 @@
 -- Asks listed together, and the content of an ask, computed: different paths and questions, no more
 -- than the limit, the identifier and port of the step's own word, and a server of the name's route.
-use Rattle.std.proofs.Common.{◌≡◌, ℕ, ◌≤◌, ◌%◌, true, false, List, [], ◌∷◌, get_or, Option, Some, None}
+use Rattle.std.proofs.Common.{◌≡◌, ℕ, ◌≤◌, true, false, List, [], ◌∷◌, Option, Some, None}
 use Rattle.std.proofs.Common.{refl, sym, ap, arith}
 use Rattle.std.proofs.lemmas.Bool.{true≢false}
+use Rattle.dns_message.specs.declared.reading.header.Header.{Header}
+use Rattle.dns_message.specs.Header.{header_of}
 use Rattle.dns_message.specs.Names.{step as name_step, walk_in, name_within}
 use Rattle.dns_message.specs.Records.{octets_end, question_at}
 use Rattle.dns_message.specs.Messages.{first_question}
@@ -20,6 +22,7 @@ use Rattle.step_history.specs.Asked.{AreApart, IsDrawn, AsksRight, AsksWell}
 use Rattle.step_history.specs.Draws.{is_busy}
 use Rattle.step_table.proofs.Played.{address, server, config}
 use Rattle.worked_claims.proofs.Texts.{client, step_of}
+use Rattle.worked_claims.proofs.Shown.{shows_query}
 
 -- ---- two asks side by side
 
@@ -112,7 +115,7 @@ unfolding written ◌▹◌ each name_text first_question question_at octets_end
 first_is_right inquiries = record {
   id = 8;
   question = named 97;
-  text = refl;
+  query = shows_query 8 97 (omega arith);
   reads = refl;
   server = record { route = 0; group = _; place = 0; route_is = serves_exactly.only (open_at_most inquiries) (named 97).name 0 refl; there = refl; server = refl };
   drawn_so = refl;
@@ -125,7 +128,7 @@ unfolding written ◌▹◌ each name_text first_question question_at octets_end
 second_is_right inquiries = record {
   id = 16;
   question = named 98;
-  text = refl;
+  query = shows_query 16 98 (omega arith);
   reads = refl;
   server = record { route = 0; group = _; place = 0; route_is = serves_exactly.only (open_at_most inquiries) (named 98).name 0 refl; there = refl; server = refl };
   drawn_so = refl;
@@ -170,11 +173,15 @@ port_in (Some d) = d.1
 -- the text has another identifier than the word
 an_identifier_of_another_word : AsksRight config first []
     (record { path = Udp 1032; server = server; octets = at_name 9 97 }) → ⊥
-unfolding written ◌▹◌ each name_text
+unfolding header_of
 an_identifier_of_another_word h =
     let drawn : 8 ≡ h.id = ap number_in h.drawn_so in
-    let low : 9 ≡ h.id % 256 = ap (λ (octets : List ℕ). get_or octets 1 0) h.text in
-    omega (arith, drawn, low)
+    let read : 9 ≡ h.query.message.header.id = ap id_in h.query.spells.header in
+    omega (arith, drawn, read, h.query.shows.id_is)
+  where
+    id_in : Option Header → ℕ
+    id_in None = 0
+    id_in (Some header) = header.id
 
 -- the ask goes out from a port different from the word's
 a_port_of_another_word : AsksRight config first [] (record { path = Udp 1033; server = server; octets = at_name 8 97 })

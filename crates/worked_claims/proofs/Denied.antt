@@ -20,6 +20,7 @@ use Rattle.step_history.specs.Sound.{RightReply, RightLocalAnswer}
 use Rattle.step_table.proofs.Played.{a, address, config}
 use Rattle.theorem_use.proofs.TheoremSound.Served.{served_is}
 use Rattle.step_history.specs.Questions.{IsUnserved}
+use Rattle.theorem_use.proofs.TheoremSound.TheoremCache.ReadAnswers.CallerLemmas.{denial_shown}
 use Rattle.worked_claims.proofs.Texts.{question_text, status_text, with_flags, client, step_of}
 use Rattle.worked_claims.proofs.Reasons.{denies_a}
 use Rattle.worked_claims.proofs.Silent.{nothing_followed}
@@ -57,10 +58,13 @@ unfolding written ◌▹◌ each name_text
 answers = record {
   aliases = [];
   chain = chain;
-  text = refl;
-  fits = tt;
-  message = said;
-  spells = message_read_is_spelled denial said is_read;
+  reads = record {
+    message = said;
+    spells = message_read_is_spelled denial said is_read;
+    size = refl;
+    shows = inl (denial_shown at_once (header_in (question_text 7 1)) (address a) (address a) [] 1000 refl);
+  };
+  fits = omega arith;
 }
 
 a_denial_at_once : RightReply at_once client (question_text 7 1) 0 LocalDenied denial

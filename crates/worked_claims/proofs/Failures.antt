@@ -6,8 +6,9 @@ use Rattle.dns_message.specs.Names.{step as name_step, walk_in, name_within}
 use Rattle.dns_message.specs.Records.{octets_end, question_at}
 use Rattle.dns_message.specs.Messages.{first_question}
 use Rattle.dns_message.specs.Questions.{one_question, same_question}
+use Rattle.dns_message.specs.declared.reading.header.Header.{Header}
 use Rattle.dns_message.specs.Header.{header_in}
-use Rattle.dns_message.specs.Values.{Question}
+use Rattle.dns_message.specs.Values.{Question, Record, Message}
 use Rattle.dns_message.specs.Writing.{◌▹◌, each, name_text, data_text, with_length, written}
 use Rattle.dns_message.specs.Shapes.{shape_of}
 use Rattle.suffix_routes.specs.declared.peer.Peer.{Peer}
@@ -21,8 +22,12 @@ use Rattle.step_values.specs.declared.action.Why.TheVariants.{Exhausted, Deadlin
 use Rattle.step_values.specs.Values.{Event, from_client, delivery, tick, ask_udp, close_udp, Step}
 use Rattle.step_history.specs.History.{Look, ShownAsk, moment_at}
 use Rattle.step_history.specs.Answers.{Chain}
-use Rattle.step_history.specs.Replies.{answer_text, full_text, stale_sections}
+use Rattle.step_history.specs.Read.{AreSecondsLeft, AreStaleSeconds, AreRecordsOf, IsWholeSet, IsResponseTo, ShowsChain}
+use Rattle.step_history.specs.Read.{ShowsStaleChain, IsLongerThan}
 use Rattle.answer_builder.specs.Values.{asked_in}
+use Rattle.answer_builder.specs.Answers.{sections_of, full_answer}
+use Rattle.theorem_use.specs.TheoremSound.TheoremCache.ReadAnswers.Texts.{stale_sections}
+use Rattle.theorem_use.proofs.TheoremSound.TheoremCache.ReadAnswers.CallerLemmas.{chain_shown, stale_chain_shown}
 use Rattle.step_history.specs.Stale.{StaleChain}
 use Rattle.step_history.specs.Causes.{Cause, AllTriesFailed, ClosesAsk, LastFailed, MayFail, FailedSoFar, AnswerIsTooLarge}
 use Rattle.step_history.specs.Causes.{StaleAnswerIsTooLarge}
@@ -163,16 +168,70 @@ of_1000 = record (address a) { kind = 1000 }
 abbrev pub text_of_1000 : List ℕ
 text_of_1000 = 0 ∷ 7 ∷ 1 ∷ 0 ∷ 0 ∷ 1 ∷ 0 ∷ 0 ∷ 0 ∷ 0 ∷ 0 ∷ 0 ∷ 1 ∷ 97 ∷ 1 ∷ 101 ∷ 0 ∷ 3 ∷ 232 ∷ 0 ∷ 1 ∷ []
 
-abbrev pub answer_of : List ℕ → ℕ → List ℕ
-answer_of octets t = answer_text (asked_in (header_in text_of_1000) (Some of_1000)) [] (large octets) t
+-- the answer's record, with this TTL
+abbrev record_of_1000 : List ℕ → ℕ → Record
+record_of_1000 octets ttl = record { owner = a; kind = 1000; class = 1; ttl = ttl; rdata = octets }
 
-pub answer_takes : (octets : List ℕ) (t : ℕ) → length (answer_of octets t) ≡ 33 + length octets
+-- a message with this header, the question and the record
+abbrev message_of_1000 : Header → List ℕ → ℕ → Message
+message_of_1000 h octets ttl = record {
+  header = h;
+  questions = of_1000 ∷ [];
+  answers = record_of_1000 octets ttl ∷ [];
+  authority = [];
+  additional = [];
+}
+
+it_takes : (h : Header) (octets : List ℕ) (ttl : ℕ) → length (written (message_of_1000 h octets ttl)) ≡ 33 + length octets
 unfolding written ◌▹◌ each name_text data_text with_length shape_of
-answer_takes octets t =
+it_takes h octets ttl =
     let one = length-append octets [] in
     let two = length-append (octets ++ []) [] in
     let three = length-append ((octets ++ []) ++ []) [] in
     omega (arith, one, two, three)
+
+-- the set has one record
+alone : (Shown : Held → ℕ → Type 0) (octets : List ℕ) (rest : List Record) → IsWholeSet Shown (large octets) rest
+    → (ttl : ℕ) × (rest ≡ record_of_1000 octets ttl ∷ [])
+alone Shown octets rest h = by h.each rest h.body h.are
+  where
+    kind : h.kind ≡ 1000
+    kind = (let is : Some 1000 ≡ Some h.kind = h.kind_is in cc)
+
+    datum_is : (d : List ℕ) → rows (octets ∷ []) ≡ rows (d ∷ []) → d ≡ octets
+    datum_is d is = cc
+
+    by : (each : List (List ℕ)) (rs : List Record) → rows (octets ∷ []) ≡ rows each
+        → AreRecordsOf Shown (large octets) h.kind each rs → (ttl : ℕ) × (rs ≡ record_of_1000 octets ttl ∷ [])
+    by [] rs is are = absurd (cc)
+    by (d ∷ []) [] is are = absurd are
+    by (d ∷ []) (r ∷ []) is are = (
+      r.ttl,
+      λ i. record {
+        owner = are.0.owner i;
+        kind = (are.0.kind_is ∙ kind) i;
+        class = are.0.class i;
+        ttl = r.ttl;
+        rdata = (are.0.datum_is ∙ datum_is d is) i;
+      } ∷ [],
+    )
+    by (d ∷ []) (r ∷ s ∷ rs) is are = absurd are.1
+    by (d ∷ e ∷ es) rs is are = absurd (cc)
+
+-- a response with the question and the set alone has these octets
+large_takes : (Shown : Held → ℕ → Type 0) (h : Header) (octets : List ℕ) (m : Message)
+    → IsResponseTo h (of_1000 ∷ []) false m → IsWholeSet Shown (large octets) m.answers → m.authority ≡ []
+    → length (written m) ≡ 33 + length octets
+large_takes Shown h octets m response set authority =
+    let one = alone Shown octets m.answers set in
+    ap (λ (x : Message). length (written x)) (λ i. record {
+      header = m.header;
+      questions = response.question i;
+      answers = one.1 i;
+      authority = authority i;
+      additional = response.additional i;
+    })
+    ∙ it_takes m.header octets one.0
 
 -- 65,536 octets over TCP, and 65,535
 too_large_by_an_octet : (l : Look) (octets : List ℕ) → Chain l of_1000 [] (large octets) → length octets ≡ 65503
@@ -184,8 +243,20 @@ too_large_by_an_octet l octets chain many = inl (record {
   end = large octets;
   reads = refl;
   chain = chain;
-  large = let takes = answer_takes octets (moment_at l.now) in omega (arith, takes, many);
+  large = record {
+    whole = full_answer (asked_in (header_in text_of_1000) (Some of_1000)) (sections_of (moment_at l.now) (large octets ∷ []));
+    shows = shows;
+    long = let takes = large_takes (AreSecondsLeft (moment_at l.now)) (header_in text_of_1000) octets
+        (full_answer (asked_in (header_in text_of_1000) (Some of_1000)) (sections_of (moment_at l.now) (large octets ∷ [])))
+        shows.response (subst (IsWholeSet (AreSecondsLeft (moment_at l.now)) (large octets)) (sym shows.begins) shows.ends.0)
+        shows.ends.1 in omega (arith, takes, many);
+  };
 })
+  where
+    shows : ShowsChain (header_in text_of_1000) of_1000 [] (large octets) (moment_at l.now)
+        (full_answer (asked_in (header_in text_of_1000) (Some of_1000)) (sections_of (moment_at l.now) (large octets ∷ [])))
+    shows = chain_shown l (header_in text_of_1000) of_1000 chain.last [] (large octets) (moment_at l.now)
+        chain.leads.follows chain.ends
 
 as_large_as_may_be : (l : Look) (octets : List ℕ) (h : AnswerIsTooLarge l text_of_1000) → h.aliases ≡ []
     → h.end ≡ large octets → length octets ≡ 65502 → ⊥
@@ -193,25 +264,19 @@ unfolding first_question question_at octets_end name_within walk_in name_step
 as_large_as_may_be l octets h none end many =
     let reads : Some of_1000 ≡ Some h.question = h.reads in
     let own : of_1000 ≡ h.question = cc in
-    let text : length
-    (answer_text (asked_in (header_in text_of_1000) (Some h.question)) h.aliases h.end (moment_at l.now)) ≡ length
-    (answer_of octets (moment_at l.now)) =
-    λ k. length (answer_text (asked_in (header_in text_of_1000) (Some (sym own k))) (none k) (end k)
-    (moment_at l.now)) in
-    let takes = answer_takes octets (moment_at l.now) in
-    let passes_it : 65535 < length (answer_of octets (moment_at l.now)) = subst (λ (n : ℕ). 65535 < n) text h.large in
+    let shows : ShowsChain (header_in text_of_1000) of_1000 [] (large octets) (moment_at l.now) h.large.whole =
+    subst (λ (z : Question × (List Held × Held)). ShowsChain (header_in text_of_1000) z.0 z.1.0 z.1.1 (moment_at l.now) h.large.whole)
+    (λ k. (sym own k, (none k, end k))) h.large.shows in
+    let set : IsWholeSet (AreSecondsLeft (moment_at l.now)) (large octets) h.large.whole.answers =
+    subst (IsWholeSet (AreSecondsLeft (moment_at l.now)) (large octets)) (sym shows.begins) shows.ends.0 in
+    let takes = large_takes (AreSecondsLeft (moment_at l.now)) (header_in text_of_1000) octets h.large.whole shows.response
+    set shows.ends.1 in
+    let passes_it : 65535 < length (written h.large.whole) = h.large.long in
     omega (arith, takes, many, passes_it)
 
 -- an expired set takes as many octets, if sent within the window after all tries failed
-stale_answer_takes : (octets : List ℕ) (t : ℕ)
-    → length (full_text (asked_in (header_in text_of_1000) (Some of_1000)) (stale_sections t [] [] (large octets)))
-    ≡ 33 + length octets
-unfolding written ◌▹◌ each name_text data_text with_length shape_of
-stale_answer_takes octets t =
-    let one = length-append octets [] in
-    let two = length-append (octets ++ []) [] in
-    let three = length-append ((octets ++ []) ++ []) [] in
-    omega (arith, one, two, three)
+abbrev stale_message : List ℕ → ℕ → Message
+stale_message octets t = full_answer (asked_in (header_in text_of_1000) (Some of_1000)) (stale_sections t [] [] (large octets))
 
 -- all parts of the cause but the length of the answer
 pub record FailedAndEnded (l : Look) (octets : List ℕ) : Type 0 where
@@ -230,11 +295,22 @@ too_large_past_its_end l octets known window many = inr (inl (record {
   end = large octets;
   chain = subst (λ (z : List Held × Question). StaleChain l z.0 z.1 [] (large octets))
       (λ k. (sym known.no_alias k, sym known.last k)) known.chain;
-  large = subst (λ (z : Question × List Held). 65535 < length (full_text
-      (asked_in (header_in text_of_1000) (Some z.0)) (stale_sections (moment_at l.now) z.1 [] (large octets))))
-      (λ k. (sym known.question k, sym known.no_alias k))
-      (let takes = stale_answer_takes octets (moment_at l.now) in omega (arith, takes, many));
+  large = subst (λ (z : Question × List Held). IsLongerThan 65535
+      (ShowsStaleChain (header_in text_of_1000) z.0 z.1 [] (large octets) (moment_at l.now)))
+      (λ k. (sym known.question k, sym known.no_alias k)) (record {
+        whole = stale_message octets (moment_at l.now);
+        shows = shows;
+        long = let takes = large_takes (AreStaleSeconds (moment_at l.now)) (header_in text_of_1000) octets
+            (stale_message octets (moment_at l.now)) shows.response
+            (subst (IsWholeSet (AreStaleSeconds (moment_at l.now)) (large octets)) (sym (shows.begins ∙ shows.goes_on)) shows.ends)
+            shows.authority in omega (arith, takes, many);
+      });
 }))
+  where
+    shows : ShowsStaleChain (header_in text_of_1000) of_1000 [] [] (large octets) (moment_at l.now)
+        (stale_message octets (moment_at l.now))
+    shows = stale_chain_shown l (header_in text_of_1000) of_1000 of_1000 known.chain.last [] [] (large octets)
+        (moment_at l.now) refl known.chain.follows tt known.chain.slot.kind
 
 without_a_window : (l : Look) (octets : List ℕ) → l.config.limits.stale_s ≡ 0 → StaleAnswerIsTooLarge l octets → ⊥
 without_a_window l octets none h = let some = h.window in omega (arith, none, some)
@@ -245,14 +321,14 @@ unfolding first_question question_at octets_end name_within walk_in name_step
 as_large_as_may_be_past_its_end l octets h none past end many =
     let reads : Some of_1000 ≡ Some h.tries.question = h.tries.reads in
     let own : of_1000 ≡ h.tries.question = cc in
-    let text : length (full_text (asked_in (header_in text_of_1000) (Some h.tries.question))
-    (stale_sections (moment_at l.now) h.tries.aliases h.found h.end))
-    ≡ length (full_text (asked_in (header_in text_of_1000) (Some of_1000))
-    (stale_sections (moment_at l.now) [] [] (large octets))) =
-    λ k. length (full_text (asked_in (header_in text_of_1000) (Some (sym own k)))
-    (stale_sections (moment_at l.now) (none k) (past k) (end k))) in
-    let takes = stale_answer_takes octets (moment_at l.now) in
-    let passes_it = subst (λ (n : ℕ). 65535 < n) text h.large in
+    let shows : ShowsStaleChain (header_in text_of_1000) of_1000 [] [] (large octets) (moment_at l.now) h.large.whole =
+    subst (λ (z : (Question × List Held) × (List Held × Held)). ShowsStaleChain (header_in text_of_1000) z.0.0 z.0.1 z.1.0 z.1.1
+    (moment_at l.now) h.large.whole) (λ k. ((sym own k, none k), (past k, end k))) h.large.shows in
+    let set : IsWholeSet (AreStaleSeconds (moment_at l.now)) (large octets) h.large.whole.answers =
+    subst (IsWholeSet (AreStaleSeconds (moment_at l.now)) (large octets)) (sym (shows.begins ∙ shows.goes_on)) shows.ends in
+    let takes = large_takes (AreStaleSeconds (moment_at l.now)) (header_in text_of_1000) octets h.large.whole shows.response
+    set shows.authority in
+    let passes_it : 65535 < length (written h.large.whole) = h.large.long in
     omega (arith, takes, many, passes_it)
 
 -- over UDP an answer is cut, and never too large

@@ -24,6 +24,7 @@ use Rattle.theorem_use.specs.Use.{AsksToLookUp, IsKnown, UsesWhatStands}
 use Rattle.theorem_use.specs.Touched.{Touched}
 use Rattle.theorem_use.specs.Recent.{IsAnsweredByRecent, UsesWhatIsRecent}
 use Rattle.worked_claims.proofs.Texts.{question_text, client}
+use Rattle.worked_claims.proofs.Shown.{shows_query}
 use Rattle.worked_claims.proofs.Accepted.{ask}
 use Rattle.worked_claims.proofs.Brought.{looks_up_no_other, wants_it, waits_for_new, begins_tries}
 
@@ -65,7 +66,7 @@ asks_right limits more room = (
       record {
         id = 8;
         question = address a;
-        text = refl;
+        query = shows_query 8 97 (omega arith);
         reads = refl;
         server = record {
           route = 0;

@@ -13,8 +13,6 @@ use Rattle.dns_message.specs.Writing.{◌▹◌, each, name_text, data_text, wit
 use Rattle.dns_message.proofs.CallerLemmas.{message_read_is_spelled}
 use Rattle.suffix_routes.specs.Routes.{route_of}
 use Rattle.record_cache.specs.Values.{Held}
-use Rattle.answer_builder.specs.Values.{Asked, asked_in}
-use Rattle.answer_builder.specs.Answers.{sections_of}
 use Rattle.step_values.specs.declared.event.Client.{Client}
 use Rattle.step_values.specs.declared.action.Why.TheVariants.{Answered}
 use Rattle.step_values.specs.Values.{Request, from_client, send_reply, Step}
@@ -22,10 +20,12 @@ use Rattle.cache_laws.proofs.CallerLemmas.{serves_exactly}
 use Rattle.step_history.specs.History.{Look, moment_at, Sends}
 use Rattle.step_history.specs.Carried.{CarriedInEra, NotReplaced}
 use Rattle.step_history.specs.Answers.{Answers}
-use Rattle.step_history.specs.Replies.{full_text, short_text, sized_for}
+use Rattle.step_history.specs.Read.{ShowsChain, IsWholeOrCut, AreReadAs}
+use Rattle.step_history.proofs.CallerLemmas.{are_octets}
+use Rattle.theorem_use.proofs.TheoremSound.TheoremCache.ReadAnswers.CallerLemmas.{chain_shown}
 use Rattle.step_history.specs.Sound.{unanswered, RightReply, Owns, Replies}
 use Rattle.step_table.proofs.Played.{a, address, config}
-use Rattle.theorem_use.specs.Touched.{Touched, LeadsAlong, AnswersNothing, LooksUp}
+use Rattle.theorem_use.specs.Touched.{Touched, LeadsAlong, AnswersNothing, LooksUp, IsReadFrom}
 use Rattle.theorem_use.specs.Use.{AnswersAtOnce}
 use Rattle.theorem_use.proofs.TheoremSound.Served.{served_is}
 use Rattle.worked_claims.proofs.Texts.{question_text, client, step_of}
@@ -41,7 +41,7 @@ again_text = answer_with 7 129 128 59
 abbrev pub hit : Step
 hit = step_of 2000 [] (from_client client (question_text 7 1)) (send_reply client again_text Answered ∷ [])
 
-abbrev said : Message
+abbrev pub said : Message
 said = record {
   header = header_in again_text;
   questions = address a ∷ [];
@@ -50,22 +50,10 @@ said = record {
   additional = [];
 }
 
-is_read : message_of again_text ≡ Ok said
+pub is_read : message_of again_text ≡ Ok said
 unfolding message_at header_of counted question_at octets_end record_at data_at octets_within parts_at shape_of
     name_within walk_in name_step
 is_read = refl
-
--- the client's question, and its answer from these pieces at this moment
-abbrev own_question : Asked
-own_question = asked_in (header_in (question_text 7 1)) (Some (address a))
-
-abbrev pub text_from : ℕ → List Held → List ℕ
-text_from now pieces = sized_for client (full_text own_question (sections_of now pieces))
-    (short_text own_question (sections_of now pieces))
-
-from_the_address : again_text ≡ text_from 2000 (held ∷ [])
-unfolding written ◌▹◌ each name_text data_text with_length shape_of
-from_the_address = refl
 
 -- ---- the answer is right after any such steps
 
@@ -79,10 +67,20 @@ pub record StandsAfter (before : List Step) : Type 0 where
 abbrev seen : List Step → Look
 seen before = record { config = config; asked = hit; before = before; now = hit ∷ before }
 
-written_from_it : (before : List Step) → StandsAfter before
-    → again_text ≡ text_from (moment_at (hit ∷ before)) (held ∷ [])
-written_from_it before stands =
-    subst (λ (now : ℕ). again_text ≡ text_from now (held ∷ [])) (sym stands.moment) from_the_address
+-- the address is read in the answer
+abbrev ReadsIt : ℕ → Type 0
+ReadsIt now = AreReadAs again_text (IsWholeOrCut client (header_in (question_text 7 1)) (address a)
+    (ShowsChain (header_in (question_text 7 1)) (address a) [] held now))
+
+reads_it : (before : List Step) → StandsAfter before → ReadsIt (moment_at (hit ∷ before))
+unfolding written ◌▹◌ each name_text data_text with_length shape_of
+reads_it before stands = subst ReadsIt (sym stands.moment) (record {
+  message = said;
+  spells = message_read_is_spelled again_text said is_read;
+  size = refl;
+  shows = inl (chain_shown (seen before) (header_in (question_text 7 1)) (address a) (address a) [] held 2000 refl
+      (record { name = refl; class = refl; kind = refl }));
+})
 
 answers : (before : List Step) → StandsAfter before
     → Answers (seen before) client (header_in (question_text 7 1)) (address a) again_text
@@ -97,10 +95,8 @@ answers before stands = record {
         (serves_exactly.only config a 0 refl) stands.kept (omega (arith, stands.moment));
     ends = record { name = refl; class = refl; kind = refl };
   };
-  text = written_from_it before stands;
-  fits = tt;
-  message = said;
-  spells = message_read_is_spelled again_text said is_read;
+  reads = reads_it before stands;
+  fits = omega arith;
 }
 
 right : (before : List Step) → StandsAfter before → (waiting : ℕ)
@@ -118,6 +114,7 @@ owns_it before owners stands = record {
   in_era = inl refl;
   number = refl;
   request = question_text 7 1;
+  octets_are = are_octets (question_text 7 1) refl;
   sent = refl;
   taken = refl;
   right = right before stands (length (unanswered before owners));
@@ -141,18 +138,19 @@ answers_at_once before owners stands asker request sends =
 
 -- ---- the used slots
 
--- a look-up led along these slots, if the answer is written from these pieces
+-- a look-up led along these slots, if the answer is read from these pieces
 pub looked : (before : List Step) (ts : List Touched) (pieces : List Held)
     → LeadsAlong (AnswersNothing hit) (moment_at (hit ∷ before)) ts (address a) pieces → length pieces ≤ 9
-    → ((octets : List ℕ) → Replies hit.outcome.actions octets → octets ≡ text_from (moment_at (hit ∷ before)) pieces)
+    → ((octets : List ℕ) → Replies hit.outcome.actions octets
+    → IsReadFrom (moment_at (hit ∷ before)) client (question_text 7 1) (address a) pieces octets)
     → LooksUp config hit before ts (map (λ (h : Held). h.piece.slot) pieces)
 unfolding looks_up
-looked before ts pieces leads few text = record {
+looked before ts pieces leads few reads = record {
   client = client;
   question = address a;
   asks = looks_up hit 7 refl;
   along = record { pieces = pieces; leads = leads; few = few; are = refl };
-  text = text;
+  reads = reads;
 }
 
 text_is : (octets : List ℕ) → Replies hit.outcome.actions octets → again_text ≡ octets
@@ -164,4 +162,6 @@ pub looked_at_the_address : (before : List Step) (ts : List Touched) → StandsA
     → LeadsAlong (AnswersNothing hit) (moment_at (hit ∷ before)) ts (address a) (held ∷ [])
     → LooksUp config hit before ts (held.piece.slot ∷ [])
 looked_at_the_address before ts stands leads = looked before ts (held ∷ []) leads (omega arith)
-    (λ octets replies. sym (text_is octets replies) ∙ written_from_it before stands)
+    (λ octets replies. subst (IsReadFrom (moment_at (hit ∷ before)) client (question_text 7 1) (address a) (held ∷ []))
+    (text_is octets replies)
+    (record { aliases = []; end = held; are = refl; reads = reads_it before stands }))

@@ -161,7 +161,7 @@ fourth_ask = record { path = Udp 1056; server = server; octets = question_text 3
 the_reply_matches : Matches c asks_next ended third_ask failure_text (address a)
 unfolding first_question question_at octets_end name_within walk_in name_step
 the_reply_matches = matches_ask c asks_next ended third_ask failure_text (address a) (refl, refl, omega arith)
-    (omega arith, omega arith, refl, refl, refl, refl, refl, refl)
+    (omega arith, omega arith, refl, refl, refl, refl, refl, refl, refl)
 
 third_fails : FailsAsk c (address a) asks_next ended
 unfolding first_question question_at octets_end name_within walk_in name_step

@@ -1,5 +1,6 @@
 mod Texts
 mod Silent
+mod Shown
 mod Owners
 mod ReplyTo
 mod Accepted
@@ -29,7 +30,6 @@ mod StaleChains
 mod StaleLimits
 mod Tries
 mod Inquiries
-mod Transports
 mod Brought
 mod FirstStep
 mod InTurn

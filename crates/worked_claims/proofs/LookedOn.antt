@@ -28,12 +28,12 @@ use Rattle.step_values.specs.Values.{Request, from_client, delivery, ask_udp, cl
 use Rattle.cache_laws.proofs.CallerLemmas.{carried_exactly, serves_exactly}
 use Rattle.step_history.specs.History.{Look, ShownAsk, listed, Matches, Accepts, Carries}
 use Rattle.step_history.specs.Carried.{CarriedInEra, Justified}
-use Rattle.step_history.specs.Answers.{Answers}
+use Rattle.step_history.specs.Answers.{Chain, Answers}
 use Rattle.step_history.specs.Sound.{RightReply, Owns, Replies, Sound}
 use Rattle.step_history.specs.Asked.{AsksWell, AsksRight}
 use Rattle.step_history.specs.Given.{IsOneOfTries}
 use Rattle.step_history.specs.Turns.{TakesTurn}
-use Rattle.step_history.proofs.CallerLemmas.{alias_to}
+use Rattle.step_history.proofs.CallerLemmas.{are_octets, alias_to}
 use Rattle.step_table.proofs.Played.{a, b, address, name_data, server, config}
 use Rattle.theorem_use.specs.Asking.{Wants, Asks, AsksForWaiting, AsksForThoseWhoWait}
 use Rattle.theorem_use.specs.Recent.{IsReadyEnd, IsReadyAlias, IsAnsweredByRecent}
@@ -41,7 +41,9 @@ use Rattle.theorem_use.specs.Service.{ServesTruly}
 use Rattle.theorem_use.specs.Touched.{Touched, TouchedInEra, LooksAlong, LooksOn}
 use Rattle.theorem_use.specs.Use.{AsksToLookUp, IsKnown, UsesWhatStands}
 use Rattle.theorem_use.proofs.TheoremSound.Served.{served_is}
+use Rattle.theorem_use.proofs.TheoremSound.TheoremCache.ReadAnswers.CallerLemmas.{chain_shown}
 use Rattle.worked_claims.proofs.Texts.{client, step_of, only_closes}
+use Rattle.worked_claims.proofs.Shown.{shows_query}
 use Rattle.worked_claims.proofs.Silent.{nothing_heard, nothing_came}
 use Rattle.worked_claims.proofs.ReplyTo.{matches_ask}
 use Rattle.worked_claims.proofs.Accepted.{asked, answered, piece, held, carries, carried_now}
@@ -135,7 +137,7 @@ alias = record {
 matches : Matches config leads_on before ask reply_text (address b)
 unfolding first_question question_at octets_end name_within walk_in name_step
 matches = matches_ask config leads_on before ask reply_text (address b) (refl, refl, omega arith)
-    (omega arith, omega arith, refl, refl, refl, refl, refl, refl)
+    (omega arith, omega arith, refl, refl, refl, refl, refl, refl, refl)
 
 -- the reply is accepted, and leads to a.e
 abbrev AcceptsSo : Type 0
@@ -203,32 +205,39 @@ address_justified = record {
 no_alias_asked : (address b).kind ≢ 5
 no_alias_asked same = let kinds : 1 ≡ 5 = same in omega (arith, kinds)
 
+chain : Chain seen (address b) (alias ∷ []) held
+unfolding name_of_rdata name_within walk_in name_step
+chain = record {
+  last = address a;
+  leads = record {
+    few = omega arith;
+    follows = (
+      no_alias_asked,
+      alias_justified,
+      record { name = refl; class = refl; kind = refl },
+      a,
+      alias_to alias.piece a refl,
+      refl,
+    );
+  };
+  justified = address_justified;
+  ends = record { name = refl; class = refl; kind = refl };
+}
+
 answers : Answers seen client (header_in (question_for_b 9)) (address b) client_text
-unfolding written ◌▹◌ each name_text data_text with_length fields_of first_field name_of_rdata name_within walk_in
-    name_step shape_of
+unfolding written ◌▹◌ each name_text data_text with_length fields_of first_field name_within walk_in name_step shape_of
 answers = record {
   aliases = alias ∷ [];
   end = held;
-  chain = record {
-    last = address a;
-    leads = record {
-      few = omega arith;
-      follows = (
-        no_alias_asked,
-        alias_justified,
-        record { name = refl; class = refl; kind = refl },
-        a,
-        alias_to alias.piece a refl,
-        refl,
-      );
-    };
-    justified = address_justified;
-    ends = record { name = refl; class = refl; kind = refl };
+  chain = chain;
+  reads = record {
+    message = said;
+    spells = message_read_is_spelled client_text said answer_is_read;
+    size = refl;
+    shows = inl (chain_shown seen (header_in (question_for_b 9)) (address b) chain.last (alias ∷ []) held 2020
+        chain.leads.follows chain.ends);
   };
-  text = refl;
-  fits = tt;
-  message = said;
-  spells = message_read_is_spelled client_text said answer_is_read;
+  fits = omega arith;
 }
 
 right : (waiting : ℕ) → RightReply seen client (question_for_b 9) waiting Answered client_text
@@ -242,6 +251,7 @@ owns = record {
   in_era = inr (refl, inl refl);
   number = refl;
   request = question_for_b 9;
+  octets_are = are_octets (question_for_b 9) refl;
   sent = refl;
   taken = refl;
   right = right 0;
@@ -265,7 +275,7 @@ unfolding written ◌▹◌ each name_text first_question question_at octets_end
 asks_right = record {
   id = 16;
   question = address b;
-  text = refl;
+  query = shows_query 16 98 (omega arith);
   reads = refl;
   server = record { route = 0; group = _; place = 0; route_is = serves_exactly.only config b 0 refl; there = refl; server = refl };
   drawn_so = refl;

@@ -2,6 +2,7 @@
 -- single difference: server, path, identifier, flags, question, result code, or pieces.
 use Rattle.std.proofs.Common.{◌≡◌, ℕ, ◌+◌, ◌<◌, ◌≤◌, List, [], ◌∷◌, length, get_or, Option, Some, None, Ok, true, false, Bool, refl, sym, ap, ◌∙◌, ◌⊎◌, inl, inr, arith}
 use Rattle.std.proofs.lemmas.Bool.{true≢false}
+use Rattle.std.proofs.lemmas.List.Elements.{All-head}
 use Rattle.dns_message.specs.Names.{step as name_step, walk_in, name_within}
 use Rattle.dns_message.specs.Data.{octets_within, parts_at, data_at}
 use Rattle.dns_message.specs.Shapes.{shape_of}
@@ -22,7 +23,7 @@ use Rattle.suffix_routes.specs.Serving.{serving_route_of}
 use Rattle.trust_rank.specs.Values.{Piece}
 use Rattle.cache_laws.proofs.CallerLemmas.{serves_exactly}
 use Rattle.step_history.specs.History.{ShownAsk, Matches, Accepts, moment_at}
-use Rattle.step_history.proofs.CallerLemmas.{accepted_fine}
+use Rattle.step_history.proofs.CallerLemmas.{all_small, accepted_fine}
 use Rattle.step_table.proofs.Played.{a, address, server, other_server, config}
 use Rattle.worked_claims.proofs.Texts.{with_flags, step_of, the_only_ask, none_listed}
 use Rattle.worked_claims.proofs.ReplyTo.{matches_ask}
@@ -118,6 +119,11 @@ of_two_questions : (s : Step) (x : ShownAsk) (q : Question)
     → Matches config s (asked ∷ []) x (0 ∷ 8 ∷ 133 ∷ 0 ∷ 0 ∷ 2 ∷ 0 ∷ 0 ∷ 0 ∷ 0 ∷ 0 ∷ 0 ∷ []) q → ⊥
 of_two_questions s x q h = let two : 2 ≡ 1 = h.questions in omega (arith, two)
 
+-- a number that is no octet follows the message
+of_no_octets : (s : Step) (x : ShownAsk) (q : Question)
+    → Matches config s (asked ∷ []) x (256 ∷ reply_text) q → ⊥
+of_no_octets s x q h = let small : 256 < 256 = All-head (λ octet. octet < 256) 256 reply_text h.octets_are in omega (arith, small)
+
 too_short : (s : Step) (x : ShownAsk) (q : Question)
     → Matches config s (asked ∷ []) x (0 ∷ 8 ∷ 133 ∷ 0 ∷ 0 ∷ 1 ∷ 0 ∷ 0 ∷ 0 ∷ 0 ∷ 0 ∷ []) q → ⊥
 too_short s x q h = let long : 12 ≤ 11 = h.long_enough in omega (arith, long)
@@ -126,11 +132,12 @@ too_short s x q h = let long : 12 ≤ 11 = h.long_enough in omega (arith, long)
 -- question
 as_long_as_may_be : (octets : List ℕ) → length octets ≡ 65535 → (header_in octets).qr ≡ true
     → (header_in octets).opcode ≡ 0 → (header_in octets).id ≡ 8 → one_question octets ≡ Some (address a)
+    → all_small octets ≡ true
     → Matches config (comes (Udp 1032) server octets) (asked ∷ []) ask octets (address a)
 unfolding first_question question_at octets_end name_within walk_in name_step
-as_long_as_may_be octets long is_reply opcode identifier reads =
+as_long_as_may_be octets long is_reply opcode identifier reads small =
     matches_ask config (comes (Udp 1032) server octets) (asked ∷ []) ask octets (address a) (refl, refl, omega arith)
-    (omega (arith, long), omega (arith, long), is_reply, opcode, identifier, refl, reads, refl)
+    (omega (arith, long), omega (arith, long), is_reply, opcode, identifier, refl, reads, refl, small)
 
 too_long : (s : Step) (x : ShownAsk) (q : Question) (octets : List ℕ) → length octets ≡ 65536
     → Matches config s (asked ∷ []) x octets q → ⊥

@@ -19,6 +19,9 @@ use Rattle.step_table.proofs.Played.{a, address, config}
 use Rattle.worked_claims.proofs.Accepted.{asked}
 use Rattle.worked_claims.proofs.Texts.{question_text, status_text, with_flags, failure_with, client, other_client}
 use Rattle.worked_claims.proofs.Texts.{step_of, in_one, in_two}
+use Rattle.worked_claims.proofs.Shown.{shows_failure}
+use Rattle.step_history.proofs.CallerLemmas.{are_octets}
+use Rattle.theorem_use.proofs.TheoremSound.TheoremCache.ReadAnswers.CallerLemmas.{unasked_failures_are_read}
 
 -- ---- a single reply for each question
 
@@ -44,9 +47,10 @@ owns_its_reply actions = record {
   in_era = inl refl;
   number = refl;
   request = status_text 7;
+  octets_are = are_octets (status_text 7) refl;
   sent = refl;
   taken = refl;
-  right = (refl, (refl, λ same. let opcode : 2 ≡ 0 = same in omega (arith, opcode)));
+  right = ((unasked_failures_are_read client (status_text 7) BadOpcode (are_octets (status_text 7) refl) (omega arith) tt).reads, (refl, λ same. let opcode : 2 ≡ 0 = same in omega (arith, opcode)));
 }
 
 one_question_owns_one_reply : EachOwned config (told (refuses ∷ []) ∷ []) (refuses ∷ []) [] (0 ∷ [])
@@ -98,9 +102,10 @@ a_question_of_its_era_owns_its_reply = record {
   in_era = inr (refl, inl refl);
   number = refl;
   request = question_text 7 1;
+  octets_are = are_octets (question_text 7 1) refl;
   sent = refl;
   taken = refl;
-  right = ((address a, refl, refl), record { passed = refl; late = omega arith });
+  right = (shows_failure (question_text 7 1) Deadline refl (omega arith) refl tt, record { passed = refl; late = omega arith });
 }
 
 -- a step without a client's message owns nothing
@@ -182,9 +187,10 @@ as_many_wait_as_may = record {
   in_era = inl refl;
   number = refl;
   request = question_text 9 1;
+  octets_are = are_octets (question_text 9 1) refl;
   sent = refl;
   taken = refl;
-  right = ((address a, refl, refl), (refl, refl));
+  right = (shows_failure (question_text 9 1) QuestionsFull refl (omega arith) refl tt, (refl, refl));
 }
 
 -- if the first question owns a reply, none waits

@@ -10,15 +10,16 @@ use Rattle.suffix_routes.specs.Values.{Config, AllDiffer}
 use Rattle.trust_rank.specs.Values.{Piece, End}
 use Rattle.trust_rank.specs.Walks.{is_lame, walk_of}
 use Rattle.step_values.specs.Values.{Step}
-use Rattle.step_history.proofs.CallerLemmas.{walk_accepted, walk_accepted-end}
+use Rattle.step_history.proofs.CallerLemmas.{all_small, are_octets, walk_accepted, walk_accepted-end}
 use Rattle.theorem_use.proofs.TheoremSound.Matching.{one_counted}
 use Rattle.step_history.specs.History.{ShownAsk, listed, on_path, moment_at, Reads, Delivers, Matches, Accepts}
 
--- a reply of 12 to 65,535 octets, with the identifier and the question of this ask's text
+-- a reply of 12 to 65,535 octets, with the identifier and the question of this ask's text; the last
+-- part has numbers below 256
 abbrev pub IsReplyTo : List ℕ → List ℕ → Question → Type 0
 IsReplyTo query octets q = (12 ≤ length octets) × (length octets ≤ 65535) × ((header_in octets).qr ≡ true)
     × ((header_in octets).opcode ≡ 0) × ((header_in octets).id ≡ (header_in query).id) × Reads query q
-    × Reads octets q × (same_question q q ≡ true)
+    × Reads octets q × (same_question q q ≡ true) × (all_small octets ≡ true)
 
 -- the step brings these octets from the ask's server, on the ask's path, while the ask is open
 abbrev pub ReachesAsk : Config → Step → List Step → ShownAsk → List ℕ → Type 0
@@ -29,6 +30,7 @@ pub matches_ask : (c : Config) (s : Step) (past : List Step) (ask : ShownAsk) (o
     → ReachesAsk c s past ask octets → IsReplyTo ask.octets octets q → Matches c s past ask octets q
 matches_ask c s past ask octets q reaches reply = record {
   delivered = reaches.0;
+  octets_are = are_octets octets reply.8;
   is_listed = reaches.1;
   is_live = reaches.2;
   long_enough = reply.0;

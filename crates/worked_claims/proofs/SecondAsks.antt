@@ -21,6 +21,7 @@ use Rattle.step_table.proofs.Played.{a, address, server, other_server}
 use Rattle.theorem_use.specs.Asking.{AsksForWaiting}
 use Rattle.theorem_use.specs.Service.{ServesTruly}
 use Rattle.worked_claims.proofs.Texts.{question_text, step_of}
+use Rattle.worked_claims.proofs.Shown.{shows_query}
 use Rattle.worked_claims.proofs.Silent.{nothing_heard, nothing_came}
 use Rattle.worked_claims.proofs.Accepted.{asked, ask, with_limits}
 use Rattle.worked_claims.proofs.Brought.{not_sent, wants_it, waits_for_one}
@@ -91,7 +92,7 @@ module _ (tries : ℕ) (peer : Peer) where
             record {
               id = 16;
               question = address a;
-              text = refl;
+              query = shows_query 16 97 (omega arith);
               reads = refl;
               server = record {
                 route = 0;

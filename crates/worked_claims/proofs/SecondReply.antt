@@ -73,7 +73,7 @@ second_carries now asked_at before on live = record {
   servers = [];
   accepts = walk_accepted c (heard_again now) before (second_ask asked_at) (address a) 0 second_text says_again (tt, tt)
       (matches_ask c (heard_again now) before (second_ask asked_at) second_text (address a) (refl, on, live)
-      (omega arith, omega arith, refl, refl, refl, refl, refl, refl))
+      (omega arith, omega arith, refl, refl, refl, refl, refl, refl, refl))
       (message_read_is_spelled second_text says_again second_is_read) refl (inl refl) refl refl;
   are = refl;
 }

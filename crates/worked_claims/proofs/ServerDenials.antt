@@ -1,7 +1,7 @@
 -- Denials by a server, whole: a.e has no address, or does not exist; both denials are accepted,
 -- carried, and answer the client. Pieces ending a look-up; pieces of a wrong type, class or name
 -- end none.
-use Rattle.std.proofs.Common.{◌≡◌, ℕ, List, [], ◌∷◌, Some, None, Ok, refl, inl, inr, arith}
+use Rattle.std.proofs.Common.{◌≡◌, ℕ, List, [], ◌∷◌, Some, None, Ok, refl, inl, inr, arith, true}
 use Rattle.std.proofs.lemmas.Bool.{false≢true}
 use Rattle.dns_message.specs.Names.{step as name_step, walk_in, name_within}
 use Rattle.dns_message.specs.Data.{octets_within, parts_at, data_at}
@@ -30,7 +30,9 @@ use Rattle.step_history.specs.Answers.{EndsChain, Chain, Answers}
 use Rattle.step_history.specs.Sound.{RightReply}
 use Rattle.step_table.proofs.Played.{a, b, example, address, server, config}
 use Rattle.theorem_use.proofs.TheoremSound.Served.{served_is}
+use Rattle.theorem_use.proofs.TheoremSound.TheoremCache.ReadAnswers.CallerLemmas.{chain_shown}
 use Rattle.worked_claims.proofs.Texts.{question_text, client, step_of}
+use Rattle.step_history.proofs.CallerLemmas.{all_small}
 use Rattle.worked_claims.proofs.Accepted.{asked, ask, piece, carried_before}
 use Rattle.worked_claims.proofs.ReplyTo.{ReachesAsk, matches_ask}
 
@@ -90,11 +92,12 @@ error_is_read = refl
 abbrev pub ask_at : ℕ → ShownAsk
 ask_at moment = record ask { moment = moment }
 
-matches : (moment code : ℕ) (s : Step) (past : List Step) → ReachesAsk config s past (ask_at moment) (server_text code)
+matches : (moment code : ℕ) (s : Step) (past : List Step) → all_small (server_text code) ≡ true
+    → ReachesAsk config s past (ask_at moment) (server_text code)
     → Matches config s past (ask_at moment) (server_text code) (address a)
 unfolding first_question question_at octets_end name_within walk_in name_step
-matches moment code s past reaches = matches_ask config s past (ask_at moment) (server_text code) (address a) reaches
-    (omega arith, omega arith, refl, refl, refl, refl, refl, refl)
+matches moment code s past small reaches = matches_ask config s past (ask_at moment) (server_text code) (address a) reaches
+    (omega arith, omega arith, refl, refl, refl, refl, refl, refl, small)
 
 -- ---- their pieces, for 30 seconds: the least of the SOA's TTL and MINIMUM (RFC 2308 5)
 
@@ -131,7 +134,7 @@ none_carries moment s past reaches = record {
   pieces = no_address.piece ∷ [];
   servers = [];
   accepts = walk_accepted config s past (ask_at moment) (address a) 0 (server_text 0) (says (server_text 0) 60) (tt, tt)
-      (matches moment 0 s past reaches)
+      (matches moment 0 s past refl reaches)
       (message_read_is_spelled (server_text 0) (says (server_text 0) 60) none_is_read) refl (inl refl) refl refl;
   are = refl;
 }
@@ -143,7 +146,7 @@ error_carries moment s past reaches = record {
   pieces = name_error.piece ∷ [];
   servers = [];
   accepts = walk_accepted config s past (ask_at moment) (address a) 0 (server_text 3) (says (server_text 3) 60) (tt, tt)
-      (matches moment 3 s past reaches)
+      (matches moment 3 s past refl reaches)
       (message_read_is_spelled (server_text 3) (says (server_text 3) 60) error_is_read) refl (inr refl) refl refl;
   are = refl;
 }
@@ -228,10 +231,14 @@ answers_with_none = record {
   aliases = [];
   end = no_address;
   chain = none_answers;
-  text = refl;
-  fits = tt;
-  message = says (client_text 128) 30;
-  spells = message_read_is_spelled (client_text 128) (says (client_text 128) 30) none_is_told;
+  reads = record {
+    message = says (client_text 128) 30;
+    spells = message_read_is_spelled (client_text 128) (says (client_text 128) 30) none_is_told;
+    size = refl;
+    shows = inl (chain_shown (seen there_is_none) (header_in (question_text 7 1)) (address a) none_answers.last []
+        no_address 1020 none_answers.leads.follows none_answers.ends);
+  };
+  fits = omega arith;
 }
 
 answers_with_error : Answers (seen is_not_there) client (header_in (question_text 7 1)) (address a) (client_text 131)
@@ -241,10 +248,14 @@ answers_with_error = record {
   aliases = [];
   end = name_error;
   chain = error_answers;
-  text = refl;
-  fits = tt;
-  message = says (client_text 131) 30;
-  spells = message_read_is_spelled (client_text 131) (says (client_text 131) 30) error_is_told;
+  reads = record {
+    message = says (client_text 131) 30;
+    spells = message_read_is_spelled (client_text 131) (says (client_text 131) 30) error_is_told;
+    size = refl;
+    shows = inl (chain_shown (seen is_not_there) (header_in (question_text 7 1)) (address a) error_answers.last []
+        name_error 1020 error_answers.leads.follows error_answers.ends);
+  };
+  fits = omega arith;
 }
 
 none_is_right : RightReply (seen there_is_none) client (question_text 7 1) 1 Answered (client_text 128)

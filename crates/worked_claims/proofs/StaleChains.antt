@@ -29,6 +29,7 @@ use Rattle.step_history.specs.Stale.{JustifiedStale, FollowsStale, StaleChain, S
 use Rattle.step_history.specs.Sound.{RightReply}
 use Rattle.step_table.proofs.Played.{a, b, address, name_data, server}
 use Rattle.theorem_use.proofs.TheoremSound.Served.{served_is}
+use Rattle.theorem_use.proofs.TheoremSound.TheoremCache.ReadAnswers.CallerLemmas.{stale_chain_shown}
 use Rattle.worked_claims.proofs.Texts.{question_text, client, step_of}
 use Rattle.worked_claims.proofs.Silent.{nothing_heard}
 use Rattle.worked_claims.proofs.Accepted.{asked, ask, carried_before}
@@ -102,7 +103,7 @@ carries = record {
   servers = [];
   accepts = walk_accepted c heard (asked ∷ []) ask (address a) 0 reply_text (says reply_text 200 60) (tt, tt)
       (matches_ask c heard (asked ∷ []) ask reply_text (address a) (refl, refl, omega arith)
-      (omega arith, omega arith, refl, refl, refl, refl, refl, refl))
+      (omega arith, omega arith, refl, refl, refl, refl, refl, refl, refl))
       (message_read_is_spelled reply_text (says reply_text 200 60) reply_is_read) refl (inl refl) refl refl;
   are = refl;
 }
@@ -225,10 +226,14 @@ stale_answers = record {
   found = alias ∷ [];
   end = set;
   chain = along_an_alias;
-  text = refl;
-  fits = tt;
-  message = says stale_text 30 30;
-  spells = message_read_is_spelled stale_text (says stale_text 30 30) stale_is_read;
+  reads = record {
+    message = says stale_text 30 30;
+    spells = message_read_is_spelled stale_text (says stale_text 30 30) stale_is_read;
+    size = refl;
+    shows = inl (stale_chain_shown seen (header_in (question_text 7 1)) (address a) (address a) along_an_alias.last []
+        (alias ∷ []) set 211500 refl along_an_alias.follows tt along_an_alias.slot.kind);
+  };
+  fits = omega arith;
 }
 
 an_answer_along_an_alias : RightReply seen client (question_text 7 1) 1 Stale stale_text
@@ -361,10 +366,14 @@ held_answers = record {
     justified = set_has_ended;
     slot = record { name = refl; class = refl; kind = refl };
   };
-  text = refl;
-  fits = tt;
-  message = says held_text 129 30;
-  spells = message_read_is_spelled held_text (says held_text 129 30) held_is_read;
+  reads = record {
+    message = says held_text 129 30;
+    spells = message_read_is_spelled held_text (says held_text 129 30) held_is_read;
+    size = refl;
+    shows = inl (stale_chain_shown seen_sooner (header_in (question_text 7 1)) (address a) (address b) (address b)
+        (alias ∷ []) [] set 71500 follows_it refl tt refl);
+  };
+  fits = omega arith;
 }
 
 an_answer_behind_a_held_alias : RightReply seen_sooner client (question_text 7 1) 1 Stale held_text

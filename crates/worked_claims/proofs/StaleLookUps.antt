@@ -29,6 +29,7 @@ use Rattle.step_history.specs.Sound.{RightReply, RightStaleAnswer}
 use Rattle.step_table.proofs.Played.{a, address, server}
 use Rattle.theorem_use.proofs.TheoremSound.Served.{served_is}
 use Rattle.step_history.specs.Questions.{IsUnserved}
+use Rattle.theorem_use.proofs.TheoremSound.TheoremCache.ReadAnswers.CallerLemmas.{stale_chain_shown}
 use Rattle.worked_claims.proofs.Texts.{question_text, status_text, client, step_of}
 use Rattle.worked_claims.proofs.Silent.{nothing_heard, nothing_carried}
 use Rattle.worked_claims.proofs.Accepted.{asked, answered, answer_with, held, with_limits, carried_now}
@@ -122,10 +123,14 @@ answers = record {
   found = [];
   end = held;
   chain = record { last = address a; follows = refl; few = omega arith; justified = past_its_end; slot = record { name = refl; class = refl; kind = refl } };
-  text = refl;
-  fits = tt;
-  message = said;
-  spells = message_read_is_spelled stale_text said is_read;
+  reads = record {
+    message = said;
+    spells = message_read_is_spelled stale_text said is_read;
+    size = refl;
+    shows = inl (stale_chain_shown (seen 1 600) (header_in (question_text 7 1)) (address a) (address a) (address a) []
+        [] held 71500 refl refl tt refl);
+  };
+  fits = omega arith;
 }
 
 an_answer_past_its_end : RightReply (seen 1 600) client (question_text 7 1) 1 Stale stale_text

@@ -209,7 +209,7 @@ hears_cut actions = step_of 1020 (1048592 ∷ []) (delivery (Udp 1032) server cu
 cut_matches : (actions : List Action) → Matches config (hears_cut actions) (asked ∷ []) ask cut_text (address a)
 unfolding first_question question_at octets_end name_within walk_in name_step
 cut_matches actions = matches_ask config (hears_cut actions) (asked ∷ []) ask cut_text (address a) (refl, refl, omega arith)
-    (omega arith, omega arith, refl, refl, refl, refl, refl, refl)
+    (omega arith, omega arith, refl, refl, refl, refl, refl, refl, refl)
 
 brings_cut : (actions : List Action) → BringsCut config (hears_cut actions) (asked ∷ [])
 brings_cut actions = record {
@@ -336,7 +336,7 @@ unfolding first_question question_at octets_end name_within walk_in name_step ro
 other_accepted = accepted_to config other_answers (then_asked other_server) (second_ask other_server) (address a) 0
     other_text other_says (tt, tt)
     (matches_ask config other_answers (then_asked other_server) (second_ask other_server) other_text (address a)
-    (refl, refl, omega arith) (omega arith, omega arith, refl, refl, refl, refl, refl, refl))
+    (refl, refl, omega arith) (omega arith, omega arith, refl, refl, refl, refl, refl, refl, refl))
     (message_read_is_spelled other_text other_says other_is_read) refl (inl refl) refl refl
 
 -- the newest ask for the address went to the other server

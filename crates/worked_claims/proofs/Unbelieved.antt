@@ -125,7 +125,7 @@ unfolding first_question question_at octets_end name_within walk_in name_step ro
     name_of_rdata
 short_accepted = accepted_to config heard_short (asked ∷ []) ask (address a) 0 short_text (says short_text 1) (tt, tt)
     (matches_ask config heard_short (asked ∷ []) ask short_text (address a) (refl, refl, omega arith)
-    (omega arith, omega arith, refl, refl, refl, refl, refl, refl))
+    (omega arith, omega arith, refl, refl, refl, refl, refl, refl, refl))
     (message_read_is_spelled short_text (says short_text 1) short_is_read) refl (inl refl) refl refl
 
 long_accepted : AcceptsTo config heard_long after_short (long.piece ∷ []) [] (elsewhere b)
@@ -133,7 +133,7 @@ unfolding first_question question_at octets_end name_within walk_in name_step ro
     name_of_rdata
 long_accepted = accepted_to config heard_long after_short ask (address a) 0 long_text (says long_text 60) (tt, tt)
     (matches_ask config heard_long after_short ask long_text (address a) (refl, refl, omega arith)
-    (omega arith, omega arith, refl, refl, refl, refl, refl, refl))
+    (omega arith, omega arith, refl, refl, refl, refl, refl, refl, refl))
     (message_read_is_spelled long_text (says long_text 60) long_is_read) refl (inl refl) refl refl
 
 short_carries : Carries config heard_short (asked ∷ []) (short.piece ∷ [])
@@ -320,7 +320,7 @@ prefers_it = prefers_the_answering heard_none after_long waits.places 0 0 ask (a
 
 owns : Owns config after_none [] 0 (record { client = client; octets = no_port_text (question_text 7 1); why = NoPort })
 unfolding first_question question_at octets_end name_within walk_in name_step
-owns = owns_failure 2100 (server_text 0) (question_text 7 1) after_long [] asked [] waits.in_era refl refl refl
+owns = owns_failure 2100 (server_text 0) (question_text 7 1) after_long [] asked [] waits.in_era refl refl refl refl (omega arith)
 
 but_for_its_use : UsesWhatStands config now owners
     → ServesTruly config (asked ∷ heard_short ∷ heard_long ∷ heard_none ∷ asks_again ∷ [])

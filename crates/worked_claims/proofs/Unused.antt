@@ -28,6 +28,7 @@ use Rattle.theorem_use.specs.Use.{FoundMemory, HasRoom, UsesWhatStands}
 use Rattle.theorem_use.specs.Touched.{Touched, TouchedInEra, LooksOn, Uses}
 use Rattle.theorem_use.specs.Recent.{IsAnsweredByRecent, UsesWhatIsRecent}
 use Rattle.worked_claims.proofs.Texts.{question_text, client, step_of, no_delivery}
+use Rattle.worked_claims.proofs.Shown.{shows_query}
 use Rattle.worked_claims.proofs.Silent.{nothing_heard, nothing_came}
 use Rattle.worked_claims.proofs.Accepted.{asked, answered, piece, carries, held, carried_now}
 use Rattle.worked_claims.proofs.OnlyThis.{leads_nowhere}
@@ -81,7 +82,7 @@ unfolding written ◌▹◌ each name_text first_question question_at octets_end
 asks_again_right now past none = record {
   id = 16;
   question = address a;
-  text = refl;
+  query = shows_query 16 97 (omega arith);
   reads = refl;
   server = record { route = 0; group = _; place = 0; route_is = serves_exactly.only config a 0 refl; there = refl; server = refl };
   drawn_so = subst (λ (asks : List ShownAsk). drawn (1048592 ∷ []) asks (asks_at now).outcome.actions ≡ Some (16, 1040)) (sym none) refl;

@@ -1,7 +1,7 @@
--- A history with an answer from cache, written from the address of a.e although a name error came
+-- A history with an answer from cache, read from the address of a.e although a name error came
 -- after the address: both are alive, and neither replaces the other (RFC 8020 2). The address's
--- slot was used. Only the answer's text shows the name error's slot as unused.
-use Rattle.std.proofs.Common.{◌≡◌, ◌∙◌, ℕ, List, [], ◌∷◌, get_or, length, Option, Some, None, refl, sym, ap, subst}
+-- slot was used. Only the answer shows the name error's slot as unused.
+use Rattle.std.proofs.Common.{◌≡◌, ◌∙◌, ℕ, List, [], ◌∷◌, ◌++◌, length, Option, Some, None, refl, sym, ap, subst}
 use Rattle.std.proofs.Common.{inl, inr, arith}
 use Rattle.std.specs.List.{AllByRecursion}
 use Rattle.std.specs.Prelude.{map}
@@ -11,8 +11,9 @@ use Rattle.dns_message.specs.Header.{header_in}
 use Rattle.dns_message.specs.Fields.{first_field, fields_of}
 use Rattle.dns_message.specs.Records.{octets_end, question_at}
 use Rattle.dns_message.specs.Messages.{first_question}
-use Rattle.dns_message.specs.Questions.{one_question}
-use Rattle.dns_message.specs.Values.{Question}
+use Rattle.dns_message.specs.Values.{Question, Message}
+use Rattle.dns_message.proofs.CallerLemmas.{message_read_is_spelled, one_message_is_spelled}
+use Rattle.std.proofs.lemmas.Bool.{false≢true}
 use Rattle.dns_message.specs.Writing.{◌▹◌, each, name_text, data_text, with_length, written}
 use Rattle.suffix_routes.specs.Routes.{route_of}
 use Rattle.trust_rank.specs.declared.slot.Slot.{Slot}
@@ -20,34 +21,33 @@ use Rattle.outstanding.specs.declared.ask.Path.TheVariants.{Udp}
 use Rattle.step_values.specs.declared.event.Client.{Client}
 use Rattle.step_values.specs.declared.action.Why.TheVariants.{NoPort}
 use Rattle.record_cache.specs.Values.{Held}
-use Rattle.answer_builder.specs.Values.{asked_in}
-use Rattle.answer_builder.specs.Answers.{sections_of}
 use Rattle.step_values.specs.Values.{Request, from_client, Step}
 use Rattle.cache_laws.proofs.CallerLemmas.{keeps_place, serves_exactly}
 use Rattle.step_history.specs.Asked.{AsksRight}
 use Rattle.step_history.specs.Given.{IsOneOfTries}
 use Rattle.step_history.specs.History.{listed, Carries}
 use Rattle.step_history.specs.Carried.{NotReplaced}
-use Rattle.step_history.specs.Replies.{full_text, short_text, sized_for}
+use Rattle.step_history.specs.Read.{ShowsChain, EndWith}
 use Rattle.step_history.specs.Sound.{Replies, FromCache, Owns, Sound}
 use Rattle.step_history.specs.Turns.{TakesTurn}
 use Rattle.step_table.proofs.Played.{a, address, server, config}
 use Rattle.theorem_use.specs.Asking.{Wants, AsksForWaiting}
 use Rattle.theorem_use.specs.Service.{ServesTruly}
-use Rattle.theorem_use.specs.Touched.{Touched, TouchedInEra, LeadsAlong, AnswersNothing, LooksUp, Uses}
+use Rattle.theorem_use.specs.Touched.{Touched, TouchedInEra, LeadsAlong, AnswersNothing, LooksUp, IsReadFrom, Uses}
 use Rattle.theorem_use.specs.Use.{AsksToLookUp, UsesWhatStands}
 use Rattle.worked_claims.proofs.Texts.{question_text, status_text, client, step_of, no_delivery}
+use Rattle.worked_claims.proofs.Shown.{shows_query}
 use Rattle.worked_claims.proofs.Silent.{nothing_heard, nothing_came}
 use Rattle.worked_claims.proofs.Accepted.{asked, answered, piece, carries, held, carried_now}
 use Rattle.worked_claims.proofs.ServerDenials.{server_text, ask_at, name_error, error_carries}
 use Rattle.worked_claims.proofs.Touches.{touched_nothing, touched_these}
-use Rattle.worked_claims.proofs.Brought.{request_is, not_sent, question_is, waits_for_new, begins_tries}
+use Rattle.worked_claims.proofs.Brought.{request_is, not_sent, waits_for_new, begins_tries}
 use Rattle.worked_claims.proofs.FirstStep.{word, asks_it, only_asks}
 use Rattle.worked_claims.proofs.InTurn.{prefers_on, begins_turn, turns_so_far, prefers_first}
 use Rattle.worked_claims.proofs.Truly.{it_gives, it_asks_once, nobody_waits, handed_on, recent_so_far}
 use Rattle.worked_claims.proofs.Whole.{history, it_is_sound, it_asks_well, it_tells_that_nothing_is_due}
 use Rattle.worked_claims.proofs.Waiting.{no_port_text, closes_at, owns_failure, closes_all}
-use Rattle.worked_claims.proofs.FromAddress.{again_text, hit, text_from, StandsAfter, owns_it, answers_at_once, looked}
+use Rattle.worked_claims.proofs.FromAddress.{again_text, hit, said, is_read, StandsAfter, owns_it, answers_at_once, looked}
 use Rattle.worked_claims.proofs.FromAddress.{looked_at_the_address}
 
 -- ---- the address comes, then the name error, by a second ask: for a message of opcode 2, of which
@@ -97,7 +97,7 @@ owners = (4 ∷ []) ∷ (2 ∷ []) ∷ [] ∷ (0 ∷ []) ∷ [] ∷ []
 
 owns : Owns config before (0 ∷ []) 2 (record { client = client; octets = no_port_text (status_text 9); why = NoPort })
 unfolding first_question question_at octets_end name_within walk_in name_step
-owns = owns_failure 1030 (server_text 3) (status_text 9) with_status (0 ∷ []) asks_status history (inl refl) refl refl refl
+owns = owns_failure 1030 (server_text 3) (status_text 9) with_status (0 ∷ []) asks_status history (inl refl) refl refl refl refl (omega arith)
 
 sound : Sound config now owners
 sound = (
@@ -135,7 +135,7 @@ unfolding written ◌▹◌ each name_text first_question question_at octets_end
 asks_status_right = record {
   id = 8;
   question = address a;
-  text = refl;
+  query = shows_query 8 97 (omega arith);
   reads = refl;
   server = record { route = 0; group = _; place = 0; route_is = serves_exactly.only config a 0 refl; there = refl; server = refl };
   drawn_so = refl;
@@ -272,17 +272,34 @@ along_the_error ts (older, is) =
     subst (λ (z : List Touched). LeadsAlong (AnswersNothing hit) 2000 z (address a) (error ∷ [])) (sym is)
     ((inl refl, omega arith), inl ((([], a, refl, refl), refl), refl))
 
-but_for_its_text : ((octets : List ℕ) → Replies hit.outcome.actions octets → octets ≡ text_from 2000 (error ∷ []))
+but_for_its_text : ((octets : List ℕ) → Replies hit.outcome.actions octets
+    → IsReadFrom 2000 client (question_text 7 1) (address a) (error ∷ []) octets)
     → LookedUp (error.piece.slot ∷ [])
-but_for_its_text text ts era =
-    looked before ts (error ∷ []) (along_the_error ts (begins_so ts era)) (omega arith) text
+but_for_its_text reads ts era =
+    looked before ts (error ∷ []) (along_the_error ts (begins_so ts era)) (omega arith) reads
 
--- the fourth octet has the result code, 0 or 3 (RFC 1035 4.1.1)
-not_from_the_error : again_text ≡ text_from 2000 (error ∷ []) → ⊥
-unfolding written ◌▹◌ each name_text data_text with_length fields_of first_field name_within walk_in name_step
-    shape_of
-not_from_the_error same = let codes : 128 ≡ 131 = ap (λ (octets : List ℕ). get_or octets 3 0) same in
-    omega (arith, codes)
+-- the result code is 0, and that of a name error 3 (RFC 1035 4.1.1)
+not_from_the_error : (r : Request) (q : Question) → IsReadFrom 2000 r.client r.octets q (error ∷ []) again_text → ⊥
+not_from_the_error r q h = elim h.reads.shows [
+  | inl whole ↦ of_whole whole
+  | inr cut ↦ false≢true (ap (λ (m : Message). m.header.tc) message_is ∙ cut.response.tc)
+]
+  where
+    message_is : said ≡ h.reads.message
+    message_is = one_message_is_spelled again_text said h.reads.message (message_read_is_spelled again_text said is_read) h.reads.spells
+
+    last_is : (aliases : List Held) → error ∷ [] ≡ aliases ++ h.end ∷ [] → h.end ≡ error
+    last_is [] are = cc
+    last_is (o ∷ []) are = absurd (cc)
+    last_is (o ∷ p ∷ os) are = absurd (cc)
+
+    of_whole : ShowsChain (header_in r.octets) q h.aliases h.end 2000 h.reads.message → ⊥
+    of_whole whole =
+        let ends = subst (λ (o : Held). EndWith 2000 o o.piece.body whole.rest h.reads.message.authority h.reads.message.header.rcode)
+        (last_is h.aliases h.are) whole.ends in
+        let none : 0 ≡ h.reads.message.header.rcode = ap (λ (m : Message). m.header.rcode) message_is in
+        let three : h.reads.message.header.rcode ≡ 3 = ends.2 in
+        omega (arith, none, three)
 
 abbrev touched : List Touched
 touched =
@@ -322,40 +339,23 @@ of_the_error h (inr (keeps, inl is)) slot =
     absurd cc
 of_the_error h (inr (keeps, inr never)) slot = absurd never.1
 
--- the answer to a client's question, from these pieces
-abbrev answer_from : Request → Question → List Held → List ℕ
-answer_from r q pieces = sized_for r.client (full_text (asked_in (header_in r.octets) (Some q)) (sections_of 2000 pieces))
-    (short_text (asked_in (header_in r.octets) (Some q)) (sections_of 2000 pieces))
-
-abbrev own : Request
-own = record { client = client; octets = question_text 7 1 }
-
-asks_for_a : (r : Request) (q : Question) → own ≡ r → one_question r.octets ≡ Some q → address a ≡ q
-unfolding first_question question_at octets_end name_within walk_in name_step
-asks_for_a r q same reads = question_is (address a) q (ap (λ (x : Request). one_question x.octets) same ∙ reads)
-
 it_uses_not_the_error : LookedUp (error.piece.slot ∷ []) → ⊥
 it_uses_not_the_error looked_up = by (looked_up touched touched_so)
   where
-    one : (r : Request) (q : Question) (h : Held) → own ≡ r → address a ≡ q → error ≡ h
-        → again_text ≡ answer_from r q (h ∷ []) → ⊥
-    one r q h same q_is h_is text =
-        not_from_the_error (text ∙ (λ i. answer_from (sym same i) (sym q_is i) (sym h_is i ∷ [])))
-
-    along : (r : Request) (q : Question) (pieces : List Held) → own ≡ r → address a ≡ q
+    along : (r : Request) (q : Question) (pieces : List Held)
         → LeadsAlong (AnswersNothing hit) 2000 touched q pieces
-        → error.piece.slot ∷ [] ≡ map (λ (h : Held). h.piece.slot) pieces → again_text ≡ answer_from r q pieces → ⊥
-    along r q [] same q_is leads are text = let none : 1 ≡ 0 = ap length are in omega (arith, none)
-    along r q (h ∷ []) same q_is leads are text =
-        one r q h same q_is (of_the_error h leads.0.0 (let slots : error.piece.slot ≡ h.piece.slot = cc in slots)) text
-    along r q (h ∷ i ∷ more) same q_is leads are text = absurd (cc)
+        → error.piece.slot ∷ [] ≡ map (λ (h : Held). h.piece.slot) pieces
+        → IsReadFrom 2000 r.client r.octets q pieces again_text → ⊥
+    along r q [] leads are reads = let none : 1 ≡ 0 = ap length are in omega (arith, none)
+    along r q (h ∷ []) leads are reads =
+        let h_is : error ≡ h = of_the_error h leads.0.0 (let slots : error.piece.slot ≡ h.piece.slot = cc in slots) in
+        not_from_the_error r q (subst (λ (o : Held). IsReadFrom 2000 r.client r.octets q (o ∷ []) again_text) (sym h_is) reads)
+    along r q (h ∷ i ∷ more) leads are reads = absurd (cc)
 
     by : LooksUp config hit before touched (error.piece.slot ∷ []) → ⊥
     by h =
         let r : Request = record { client = h.client; octets = h.asks.octets } in
-        let same : own ≡ r = request_is own r h.asks.sends in
-        along r h.question h.along.pieces same (asks_for_a r h.question same h.asks.reads) h.along.leads h.along.are
-        (h.text again_text (inl (refl, refl)))
+        along r h.question h.along.pieces h.along.leads h.along.are (h.reads again_text (inl (refl, refl)))
 
 -- ---- no slot: an answer from cache uses some
 

@@ -1,7 +1,7 @@
 -- Shared by the worked histories of use: the first question waits for its ask, and replies come to
 -- this ask without an action. After each reply the claims hold, if the reply may be left so: its
 -- content does not end. After a reply closing the ask, its question fails for lack of a port.
-use Rattle.std.proofs.Common.{◌≡◌, ◌∙◌, ℕ, List, [], ◌∷◌, ◌++◌, length, true, false, Some, refl, sym, ap, subst}
+use Rattle.std.proofs.Common.{◌≡◌, ◌∙◌, ℕ, List, [], ◌∷◌, ◌++◌, length, true, false, Some, refl, sym, ap, subst, ◌≤◌}
 use Rattle.std.proofs.Common.{inl, inr, arith}
 use Rattle.std.specs.List.{concat, AllByRecursion}
 use Rattle.std.proofs.lemmas.Bool.{true≢false}
@@ -20,7 +20,7 @@ use Rattle.step_history.specs.Accounting.{is_due, TellsMore}
 use Rattle.step_history.specs.Asked.{AreApart, AsksWell}
 use Rattle.step_history.specs.Causes.{NoneAsks, FailedSoFar}
 use Rattle.step_history.specs.Given.{EndsHere, EndsAsking, GivesWhatCame, IsOneOfTries, AsksFewTimes}
-use Rattle.step_history.specs.Replies.{failure_text}
+use Rattle.theorem_use.specs.TheoremSound.TheoremCache.ReadAnswers.Texts.{failure_text}
 use Rattle.step_history.specs.Sound.{Owns, Sound, unanswered}
 use Rattle.step_history.specs.Turns.{AskedAt, AsksInTurn}
 use Rattle.step_table.proofs.Played.{a, address, server, config}
@@ -28,6 +28,8 @@ use Rattle.theorem_use.specs.Asking.{AnyByRecursion, Asks, AsksForWaiting, AsksF
 use Rattle.theorem_use.specs.Recent.{UsesWhatIsRecent}
 use Rattle.theorem_use.specs.Use.{UsesWhatStands}
 use Rattle.worked_claims.proofs.Texts.{client, step_of, only_closes}
+use Rattle.worked_claims.proofs.Shown.{shows_failure}
+use Rattle.step_history.proofs.CallerLemmas.{all_small, are_octets}
 use Rattle.worked_claims.proofs.Silent.{nothing_came}
 use Rattle.worked_claims.proofs.Accepted.{asked, ask}
 use Rattle.worked_claims.proofs.Brought.{not_sent, wants_it, waits_for_one}
@@ -161,18 +163,19 @@ closes_at now octets request = step_of now [] (delivery (Udp 1032) server octets
 -- the step of the question owns the failure
 pub owns_failure : (now : ℕ) (octets request : List ℕ) (past : List Step) (owners : List ℕ) (s : Step)
     (before : List Step) → InEra (s ∷ before) past → Sends s.input.event client request
-    → takes_question s.input.event ≡ true → Reads request (address a)
-    → Owns config (closes_at now octets request ∷ past) owners (length before)
+    → takes_question s.input.event ≡ true → Reads request (address a) → all_small request ≡ true
+    → 12 ≤ length request → Owns config (closes_at now octets request ∷ past) owners (length before)
     (record { client = client; octets = no_port_text request; why = NoPort })
-owns_failure now octets request past owners s before in_era sent taken reads = record {
+owns_failure now octets request past owners s before in_era sent taken reads small long = record {
   asked = s;
   before = before;
   in_era = inr (refl, in_era);
   number = refl;
   request = request;
+  octets_are = are_octets request small;
   sent = sent;
   taken = taken;
-  right = ((address a, reads, refl), inl refl);
+  right = (shows_failure request NoPort small long reads tt, inl refl);
 }
 
 -- and no ask is left

@@ -7,6 +7,7 @@ use Rattle.step_values.specs.Values.{SentReply, Step}
 use Rattle.step_history.specs.Accounting.{TellsMore}
 use Rattle.step_history.specs.Asked.{AsksWell}
 use Rattle.step_history.specs.Sound.{Owns, Sound}
+use Rattle.step_history.proofs.CallerLemmas.{are_octets}
 use Rattle.step_table.proofs.Played.{config}
 use Rattle.worked_claims.proofs.Texts.{question_text, client, in_two}
 use Rattle.worked_claims.proofs.Accepted.{asked, answered, client_text}
@@ -26,6 +27,7 @@ owns = record {
   in_era = inr (refl, inl refl);
   number = refl;
   request = question_text 7 1;
+  octets_are = are_octets (question_text 7 1) refl;
   sent = refl;
   taken = refl;
   right = right_answer;

@@ -1,5 +1,5 @@
 -- The messages read in replies and asks: RFC 1035 3.2.1, 4.1.1 and 4.2.1, RFC 2181 5.2 and 9,
--- RFC 2308 2 and 3, RFC 8767 4. Neither code nor table computes any of these definitions.
+-- RFC 2308 2 and 3, RFC 8767 4. Code and table compute `written` alone, which is only counted here.
 use Rattle.std.specs.Prelude.{◌≡◌, ℕ, ◌+◌, ◌*◌, ◌<◌, ◌≤◌, Bool, true, false, List, [], ◌∷◌, ◌++◌, length, Option, Some}
 use Rattle.std.specs.Prelude.{None, ◌⊎◌}
 use Rattle.dns_message.specs.declared.reading.header.Header.{Header}
@@ -135,18 +135,22 @@ abbrev pub IsByUdp : Client → Type 0
 IsByUdp (Udp peer) = Unit {0}
 IsByUdp (Tcp conn) = ⊥
 
--- cut, over UDP, to the question and RCODE of a whole message whose text has more than 512 octets
--- (RFC 1035 4.2.1, RFC 2181 9)
+-- a message that shows this has more octets than the limit, with names compressed
+pub record IsLongerThan (limit : ℕ) (Shows : Message → Type 0) : Type 0 where
+  pub whole : Message
+  pub shows : Shows whole
+  pub long : limit < length (written whole)
+
+-- cut, over UDP, to the question and RCODE of a whole message of more than 512 octets (RFC 1035
+-- 4.2.1, RFC 2181 9)
 pub record ShowsQuestion (client : Client) (h : Header) (q : Question) (Shows : Message → Type 0)
     (m : Message) : Type 0 where
   pub by_udp : IsByUdp client
   pub response : IsResponseTo h (q ∷ []) true m
   pub answers : m.answers ≡ []
   pub authority : m.authority ≡ []
-  pub whole : Message
-  pub shows : Shows whole
-  pub long : 512 < length (written whole)
-  pub rcode : m.header.rcode ≡ whole.header.rcode
+  pub too_long : IsLongerThan 512 Shows
+  pub rcode : m.header.rcode ≡ too_long.whole.header.rcode
 
 -- whole, or cut
 abbrev pub IsWholeOrCut : Client → Header → Question → (Message → Type 0) → Message → Type 0
@@ -159,10 +163,12 @@ FitsIn (Tcp conn) octets = length octets ≤ 65535
 
 -- ---- octets
 
--- the octets can be read, and their message is so; no octets spell two messages
+-- The octets can be read, their message is so, and nothing follows it: they are as many as it has
+-- with names compressed. No octets spell two messages.
 pub record AreReadAs (octets : List ℕ) (Shows : Message → Type 0) : Type 0 where
   pub message : Message
   pub spells : Spells octets message
+  pub size : length octets ≡ length (written message)
   pub shows : Shows message
 
 -- ---- failures

@@ -1,6 +1,11 @@
--- The messages for clients.
-use Rattle.std.specs.Prelude.{ℕ, ◌≤◌, List, [], ◌∷◌, ◌++◌, length, map}
+-- The octets for clients as the table writes them, and when they can be read.
+use Rattle.std.specs.Prelude.{◌≡◌, ℕ, ◌<◌, ◌≤◌, List, [], ◌∷◌, ◌++◌, length, map, Some, ◌⊎◌}
+use Rattle.dns_message.specs.Values.{Question, Message}
+use Rattle.dns_message.specs.Messages.{Spells}
 use Rattle.dns_message.specs.Writing.{written}
+use Rattle.dns_message.specs.Written.{IsQuestion}
+use Rattle.trust_rank.specs.Formed.{IsPiece}
+use Rattle.trust_rank.specs.Writable.{IsWritable}
 use Rattle.record_cache.specs.Values.{Held}
 use Rattle.answer_builder.specs.Values.{Asked, Sections}
 use Rattle.answer_builder.specs.Answers.{with_ttl, with_stale_ttls, sections_with_ttls, sections_of, local_sections, full_answer}
@@ -9,7 +14,11 @@ use Rattle.answer_builder.specs.Transports.{over_udp}
 use Rattle.step_values.specs.declared.event.Client.{Client}
 use Rattle.step_values.specs.declared.event.Client.TheVariants.{Udp, Tcp}
 use Rattle.step_values.specs.declared.action.Why.{Why}
+use Rattle.step_values.specs.declared.action.Why.TheVariants.{Answered, BadFormat, BadOpcode, Stale, LocalDenied}
 use Rattle.step_values.specs.Requests.{rcode_of_why}
+use Rattle.step_history.specs.Read.{AreReadAs, FitsIn}
+
+-- ---- texts
 
 -- the answer from aliases and their end, with the seconds left at t
 abbrev pub answer_text : Asked → List Held → Held → ℕ → List ℕ
@@ -48,3 +57,49 @@ FitsTransport (Tcp conn) octets = length octets ≤ 65535
 -- the text of a failure for this reason
 abbrev pub failure_text : Asked → Why → List ℕ
 failure_text a why = written (error_response a (rcode_of_why why))
+
+-- a reason for a failure that repeats the client's question
+abbrev pub FailsAsking : Why → Type 0
+FailsAsking Answered = ⊥
+FailsAsking BadFormat = ⊥
+FailsAsking BadOpcode = ⊥
+FailsAsking Stale = ⊥
+FailsAsking LocalDenied = ⊥
+FailsAsking why = Unit {0}
+
+-- a reason for a failure without it
+abbrev pub FailsUnasked : Why → Type 0
+FailsUnasked BadFormat = Unit {0}
+FailsUnasked BadOpcode = Unit {0}
+FailsUnasked why = ⊥
+
+-- ---- what can be written
+
+-- the entry is well formed, writable, and came at t or before
+pub record CanBeWrittenAt (t : ℕ) (h : Held) : Type 0 where
+  pub formed : IsPiece h.piece
+  pub writable : IsWritable h.piece
+  pub earlier : h.accepted ≤ t
+
+-- an answer can repeat q
+pub record CanBeRepeated (a : Asked) (q : Question) : Type 0 where
+  pub question : a.question ≡ Some q
+  pub is_question : IsQuestion q
+  pub id : a.id < 65536
+  pub opcode : a.opcode < 16
+
+-- ---- what is read
+
+-- the octets are read as the answer with these sections, or as the answer truncated
+abbrev pub SpellsSections : List ℕ → Asked → Sections → Type 0
+SpellsSections octets a s = Spells octets (full_answer a s) ⊎ Spells octets (cut_answer a s)
+
+-- the octets are read so with the sections of this chain
+abbrev pub SpellsAnswer : List ℕ → Asked → List Held → ℕ → Type 0
+SpellsAnswer octets a chain t = SpellsSections octets a (sections_of t chain)
+
+-- the octets are the one text of a message that shows this, and fit the client's transport
+pub record IsTextFor (client : Client) (Shows : Message → Type 0) (octets : List ℕ) : Type 0 where
+  pub reads : AreReadAs octets Shows
+  pub text : octets ≡ written reads.message
+  pub fits : FitsIn client octets

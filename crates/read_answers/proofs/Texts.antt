@@ -19,11 +19,11 @@ use Rattle.answer_builder.specs.Values.{PieceWithTtl, Asked, Sections}
 use Rattle.answer_builder.specs.Answers.{record_of, records_in, aged, soa_records, rcode_of, with_ttl, with_stale_ttl, with_stale_ttls, answers_of, authority_of, last_of, sections_with_ttls, sections_of, full_answer, cut_answer, answer_message, bare}
 use Rattle.step_values.specs.declared.event.Client.{Client}
 use Rattle.step_values.specs.declared.event.Client.TheVariants.{Udp, Tcp}
-use Rattle.step_history.specs.Replies.{full_text, short_text, stale_sections, denied_sections, sized_for, FitsTransport}
+use Rattle.read_answers.specs.Texts.{full_text, short_text, stale_sections, denied_sections, sized_for, FitsTransport}
 use Rattle.step_history.specs.Sound.{SameSections}
-use Rattle.theorem_cache.specs.Kept.{CanBeWrittenAt, CanBeRepeated, SpellsSections, SpellsAnswer}
-use Rattle.theorem_cache.specs.Laws.{AnswersAreSpelled, StaleAnswersAreSpelled, LocalAnswersAreSpelled}
-use Rattle.theorem_cache.proofs.Short.{question_short}
+use Rattle.read_answers.specs.Texts.{CanBeWrittenAt, CanBeRepeated, SpellsSections, SpellsAnswer}
+use Rattle.read_answers.specs.Laws.{AnswersAreSpelled}
+use Rattle.read_answers.proofs.Short.{question_short}
 use Rattle.step_table.proofs.CallerLemmas.{All-append}
 
 -- the piece can be written with these seconds
@@ -107,7 +107,7 @@ small_code (no_data soa) = omega arith
 small_code (denied soa) = omega arith
 
 -- sections of records to be written, with a response code of four bits
-record CanBeWritten (s : Sections) : Type 0 where
+pub record CanBeWritten (s : Sections) : Type 0 where
   pub answers : AllByRecursion Tells s.answers
   pub authority : AllByRecursion Tells s.authority
   pub rcode : s.rcode < 16
@@ -120,7 +120,7 @@ told_can (x ∷ chain) all = record {
   rcode = small_code (last_of x chain).piece.body;
 }
 
-sections_can : (t : ℕ) (chain : List Held) → AllByRecursion (CanBeWrittenAt t) chain → CanBeWritten (sections_of t chain)
+pub sections_can : (t : ℕ) (chain : List Held) → AllByRecursion (CanBeWrittenAt t) chain → CanBeWritten (sections_of t chain)
 sections_can t chain all = told_can (map (with_ttl t) chain) (all_left_can t chain all)
 
 records_of : (rs : List Record) → AllByRecursion Tells rs → AllByRecursion IsRecord rs
@@ -131,9 +131,17 @@ shapes_of : (rs : List Record) → AllByRecursion Tells rs → AreShaped rs
 shapes_of [] all = tt
 shapes_of (r ∷ rs) all = (all.0.1, shapes_of rs all.1)
 
+pub stale_can : (t : ℕ) (held found : List Held) (end : Held) → AllByRecursion (CanBeWrittenAt t) (held ++ (found ++ end ∷ []))
+    → CanBeWritten (stale_sections t held found end)
+stale_can t held found end all = told_can (with_stale_ttls (length held) t (held ++ (found ++ end ∷ [])))
+    (all_stale_can (length held) t (held ++ (found ++ end ∷ [])) all)
+
+pub denied_can : (t : ℕ) (aliases : List Held) → AllByRecursion (CanBeWrittenAt t) aliases → CanBeWritten (denied_sections t aliases)
+denied_can t aliases all = record { answers = all_tell (map (with_ttl t) aliases) (all_left_can t aliases all); authority = tt; rcode = omega arith }
+
 -- ---- the message
 
-message_spelled : (a : Asked) (q : Question) (cut : Bool) (s : Sections) → CanBeRepeated a q → CanBeWritten s → length (written (answer_message a cut s)) ≤ 65535 → Spells (written (answer_message a cut s)) (answer_message a cut s)
+pub message_spelled : (a : Asked) (q : Question) (cut : Bool) (s : Sections) → CanBeRepeated a q → CanBeWritten s → length (written (answer_message a cut s)) ≤ 65535 → Spells (written (answer_message a cut s)) (answer_message a cut s)
 message_spelled a q cut s asks can short = written_message_is_spelled (answer_message a cut s) (record {
   id = asks.id;
   bits = record { opcode = asks.opcode; z = omega arith; rcode = can.rcode };
@@ -143,7 +151,7 @@ message_spelled a q cut s asks can short = written_message_is_spelled (answer_me
   additional = tt;
 }) refl (record { answers = shapes_of s.answers can.answers; authority = shapes_of s.authority can.authority; additional = tt }) short
 
-cut_short : (a : Asked) (q : Question) (s : Sections) → CanBeRepeated a q → length (written (cut_answer a s)) ≤ 65535
+pub cut_short : (a : Asked) (q : Question) (s : Sections) → CanBeRepeated a q → length (written (cut_answer a s)) ≤ 65535
 cut_short a q s asks = question_short (cut_answer a s) q (ap Rattle.dns_message.specs.Borrowed.questions_of asks.question) refl refl refl asks.is_question.name
 
 sections_spelled : (a : Asked) (q : Question) (s : Sections) → CanBeRepeated a q → CanBeWritten s
@@ -161,14 +169,6 @@ sections_spelled a q s asks can (Udp peer) fits = by (nat_le (length (full_text 
 -- the octets sent to a client are read as the answer, or as the answer cut to the question
 pub answers_are_spelled : AnswersAreSpelled
 answers_are_spelled a q t aliases end asks can_write client fits = sections_spelled a q (sections_of t (aliases ++ end ∷ [])) asks (sections_can t (aliases ++ end ∷ []) can_write) client fits
-
-pub stale_answers_are_spelled : StaleAnswersAreSpelled
-stale_answers_are_spelled a q t held past end asks can_write client fits =
-    sections_spelled a q (stale_sections t held past end) asks (told_can (with_stale_ttls (length held) t (held ++ (past ++ end ∷ []))) (all_stale_can (length held) t (held ++ (past ++ end ∷ [])) can_write)) client fits
-
-pub local_answers_are_spelled : LocalAnswersAreSpelled
-local_answers_are_spelled a q t aliases asks can_write client fits =
-    sections_spelled a q (denied_sections t aliases) asks (record { answers = all_tell (map (with_ttl t) aliases) (all_left_can t aliases can_write); authority = tt; rcode = omega arith }) client fits
 
 -- ---- sections after reading
 
