@@ -9,3 +9,6 @@ pub use Rattle.step_table.proofs.Attempts.{IsAskBy, ask_by-some, ask_by-none, ud
 -- headers, and replies that end their walk
 pub use Rattle.step_table.proofs.Headers.{header_there}
 pub use Rattle.step_table.proofs.Ending.{looked_at_end, closed_at_end}
+pub use Rattle.step_table.proofs.States.{later_entries, later_held, later_taken, later_is, initial_is}
+pub use Rattle.step_table.proofs.Following.{left_for}
+pub use Rattle.step_table.proofs.Keeping.{event_keeps_state}

@@ -27,7 +27,9 @@ use Rattle.step_table.specs.Row.{is_due_at, Happens, effective}
 use Rattle.step_table.specs.Ticks.{question, attempt, expiry_step, deadline_of, Item, first_item, left_alone, row_of_item, row_of_tick}
 use Rattle.step_table.specs.Replies.{timeout_of}
 use Rattle.step_table.specs.Failures.{row_of_attempt, row_of_next, row_of_failure, row_of_failed_path}
-use Rattle.step_table.specs.Progress.{tries_left, all_tries_left, left_to_do, ServesSomething, due_moments, lesser, least, next_due, AreTakenInTurn, IsTry, IsInOrder}
+use Rattle.step_table.specs.Progress.{tries_left, all_tries_left, left_to_do, ServesSomething, due_moments, lesser, least, next_due, AreTakenInTurn, IsTry, IsKeptAsk, IsState}
+use Rattle.step_table.proofs.Lists.{All-weaker}
+use Rattle.step_table.proofs.Listed.{ask_on-is}
 use Rattle.step_table.specs.Laws.{LessIsLeft, LeftIsBounded, MoreIsServed, has_come, NextDueTells}
 
 -- ---- the tries of a list of asks
@@ -56,7 +58,7 @@ one_fewer : (o : Option Waiting) (ys : List Waiting) (n : ℕ) → length ys ≤
 one_fewer None ys n le = omega (arith, le)
 one_fewer (Some y) ys n le = omega (arith, le)
 
-still_fewer : (fate : Waiting → Fate) (xs : List Waiting) → length (still_waiting (map fate xs)) ≤ length xs
+pub still_fewer : (fate : Waiting → Fate) (xs : List Waiting) → length (still_waiting (map fate xs)) ≤ length xs
 still_fewer fate [] = omega arith
 still_fewer fate (x ∷ xs) = one_fewer (waiting_in (fate x)) (still_waiting (map fate xs)) (length xs) (still_fewer fate xs)
 
@@ -153,7 +155,10 @@ expiry_less c n x others alone s first =
     closed None = omega arith
     closed (Some a) = without_fewer c a.path s.asks
 
-module _ (c : Config) (n : ℕ) (words : List ℕ) (s : State) (order : IsInOrder c s) (due : is_due_at c n s ≡ true) where
+tries_of : (c : Config) (s : State) → IsState c s → AllByRecursion (IsTry c) s.asks
+tries_of c s is = All-weaker (IsKeptAsk c s.moment s.tcp_asks) (IsTry c) (λ a h. h.tries) s.asks is.asks
+
+module _ (c : Config) (n : ℕ) (words : List ℕ) (s : State) (order : IsState c s) (due : is_due_at c n s ≡ true) where
   abbrev Serves : Item → Type 0
   Serves item = left_to_do c (row_of_item (start c n words s) item).state < left_to_do c s
 
@@ -163,24 +168,24 @@ module _ (c : Config) (n : ℕ) (words : List ℕ) (s : State) (order : IsInOrde
   attempt_serves : (a : Ask) (others : List Ask) → s.asks ≡ a ∷ others → nat_le (timeout_of c a) n ≡ true → Serves (attempt a)
   attempt_serves a others first t =
       subst (λ (d : Done). left_to_do c d.state < left_to_do c s) (sym (cond-true (nat_le (timeout_of c a) n) _ _ t))
-      (failure_less c n words a s (ap (ask_on a.path) first ∙ cond-true (same_path a.path a.path) _ _ (same_path_reflexive a.path)) (subst (AllByRecursion (IsTry c)) first order.tries).0 TimedOut)
+      (failure_less c n words a s (ap (ask_on a.path) first ∙ cond-true (same_path a.path a.path) _ _ (same_path_reflexive a.path)) (subst (AllByRecursion (IsTry c)) first (tries_of c s order)).0 TimedOut)
 
   -- by the first of each list
   item_less : (ws : List Waiting) (asks : List Ask) → s.waiting ≡ ws → s.asks ≡ asks → (list_any (λ x. nat_le (deadline_of c x) n) ws || list_any (λ a. nat_le (timeout_of c a) n) asks) ≡ true → Serves (first_item c ws asks)
   item_less [] [] w l is = absurd (false≢true is)
-  item_less [] (a ∷ asks) w l is = attempt_serves a asks l (first_late c.limits.ask_ms n a asks (subst AreInTurn l order.asks) ∙ is)
+  item_less [] (a ∷ asks) w l is = attempt_serves a asks l (first_late c.limits.ask_ms n a asks (subst AreInTurn l order.listed.by_arrival) ∙ is)
   item_less (x ∷ xs) [] w l is = question_less x xs w (by (either (list_any (λ y. nat_le (deadline_of c y) n) (x ∷ xs)) false is))
     where
       by : (list_any (λ y. nat_le (deadline_of c y) n) (x ∷ xs) ≡ true) ⊎ (false ≡ true) → nat_le (deadline_of c x) n ≡ true
-      by (inl t) = first_due c.limits.deadline_ms n x xs (subst AreTakenInTurn w order.waiting) ∙ t
+      by (inl t) = first_due c.limits.deadline_ms n x xs (subst AreTakenInTurn w order.by_arrival) ∙ t
       by (inr t) = absurd (false≢true t)
   item_less (x ∷ xs) (a ∷ asks) w l is = by (nat_le (deadline_of c x) (timeout_of c a)) refl (either (list_any (λ y. nat_le (deadline_of c y) n) (x ∷ xs)) (list_any (λ b. nat_le (timeout_of c b) n) (a ∷ asks)) is)
     where
       overdue : list_any (λ y. nat_le (deadline_of c y) n) (x ∷ xs) ≡ true → deadline_of c x ≤ n
-      overdue t = leb-true (deadline_of c x) n (first_due c.limits.deadline_ms n x xs (subst AreTakenInTurn w order.waiting) ∙ t)
+      overdue t = leb-true (deadline_of c x) n (first_due c.limits.deadline_ms n x xs (subst AreTakenInTurn w order.by_arrival) ∙ t)
 
       late : list_any (λ b. nat_le (timeout_of c b) n) (a ∷ asks) ≡ true → timeout_of c a ≤ n
-      late t = leb-true (timeout_of c a) n (first_late c.limits.ask_ms n a asks (subst AreInTurn l order.asks) ∙ t)
+      late t = leb-true (timeout_of c a) n (first_late c.limits.ask_ms n a asks (subst AreInTurn l order.listed.by_arrival) ∙ t)
 
       by : (b : Bool) → nat_le (deadline_of c x) (timeout_of c a) ≡ b → (list_any (λ y. nat_le (deadline_of c y) n) (x ∷ xs) ≡ true) ⊎ (list_any (λ z. nat_le (timeout_of c z) n) (a ∷ asks) ≡ true) → Serves (cond (nat_le (deadline_of c x) (timeout_of c a)) (question x xs) (attempt a))
       by true t (inl o) = subst Serves (sym (cond-true (nat_le (deadline_of c x) (timeout_of c a)) _ _ t)) (question_less x xs w (le-leb (deadline_of c x) n (overdue o)))
@@ -193,23 +198,15 @@ module _ (c : Config) (n : ℕ) (words : List ℕ) (s : State) (order : IsInOrde
 
 -- ---- the failure of a path
 
-listed_try : (c : Config) (path : Path) (asks : List Ask) (a : Ask) → ask_on path asks ≡ Some a → AllByRecursion (IsTry c) asks → IsTry c a × (a.path ≡ path)
-listed_try c path [] a on all = absurd (cc)
-listed_try c path (b ∷ asks) a on all = by (same_path b.path path) refl (λ there. listed_try c path asks a there all.1)
-  where
-    by : (v : Bool) → same_path b.path path ≡ v → (ask_on path asks ≡ Some a → IsTry c a × (a.path ≡ path)) → IsTry c a × (a.path ≡ path)
-    by true t later = let same : Some b ≡ Some a = sym (cond-true (same_path b.path path) (Some b) (ask_on path asks) t) ∙ on in let is : b ≡ a = cc in (subst (IsTry c) is all.0, subst (λ (z : Ask). z.path ≡ path) is (same_path_equal b.path path t))
-    by false f later = later (sym (cond-false (same_path b.path path) (Some b) (ask_on path asks) f) ∙ on)
-
-path_less : (c : Config) (n : ℕ) (words : List ℕ) (path : Path) (s : State) → IsInOrder c s → (r : Option Ask) → ask_on path s.asks ≡ r → IsSome r → left_to_do c (row_of_failed_path (start c n words s) r).state < left_to_do c s
+path_less : (c : Config) (n : ℕ) (words : List ℕ) (path : Path) (s : State) → IsState c s → (r : Option Ask) → ask_on path s.asks ≡ r → IsSome r → left_to_do c (row_of_failed_path (start c n words s) r).state < left_to_do c s
 path_less c n words path s order None on some = absurd (cc)
 path_less c n words path s order (Some a) on some =
-    let facts = listed_try c path s.asks a on order.tries in
-    failure_less c n words a s (ap (λ (p : Path). ask_on p s.asks) facts.1 ∙ on) facts.0 Broken
+    let facts = ask_on-is (IsTry c) path s.asks a on (tries_of c s order) in
+    failure_less c n words a s (ap (λ (p : Path). ask_on p s.asks) facts.0 ∙ on) facts.1 Broken
 
 -- ---- the laws
 
-event_less : (c : Config) (n : ℕ) (words : List ℕ) (s : State) → IsInOrder c s → (e : Event) (d : Done) → ServesSomething c n s e → Happens (start c n words s) e d → left_to_do c d.state < left_to_do c s
+event_less : (c : Config) (n : ℕ) (words : List ℕ) (s : State) → IsState c s → (e : Event) (d : Done) → ServesSomething c n s e → Happens (start c n words s) e d → left_to_do c d.state < left_to_do c s
 event_less c n words s order (from_client client octets) d serves is = absurd serves
 event_less c n words s order (delivery path from octets) d serves is = absurd serves
 event_less c n words s order (path_failed path) d serves is = subst (λ (k : Done). left_to_do c k.state < left_to_do c s) (sym is) (path_less c n words path s order (ask_on path s.asks) refl serves)
@@ -229,9 +226,9 @@ tries_bounded c (a ∷ asks) all =
 
 pub left_is_bounded : LeftIsBounded
 left_is_bounded c s order =
-    let each = tries_bounded c s.asks order.tries in
-    let few = Rattle.std.proofs.Math.Nat.mul-le-mul_right c.limits.tries order.few_asks in
-    let waiting = order.few_waiting in
+    let each = tries_bounded c s.asks (tries_of c s order) in
+    let few = Rattle.std.proofs.Math.Nat.mul-le-mul_right c.limits.tries order.listed.few in
+    let waiting = order.few in
     omega (arith, each, few, waiting)
 
 later_any : {X : Type 0} (at : X → ℕ) (m n : ℕ) (xs : List X) → m ≤ n → list_any (λ x. nat_le (at x) m) xs ≡ true → list_any (λ x. nat_le (at x) n) xs ≡ true

@@ -10,16 +10,21 @@ use Rattle.waiting_questions.specs.Values.{Waiting, waits_for}
 use Rattle.step_table.specs.Steps.{waits}
 use Rattle.step_table.specs.Row.{is_due_at, effective, Row}
 use Rattle.step_table.specs.Replies.{fate_by}
-use Rattle.step_table.specs.Progress.{left_to_do, ServesSomething, next_due, IsInOrder}
+use Rattle.step_table.specs.Progress.{left_to_do, ServesSomething, next_due, IsState}
+
+-- A step leads from a state to a state.
+abbrev pub RowsKeepStates : Type 0
+RowsKeepStates = (c : Config) (s : State) (h : StepInput) (o : Outcome) (s' : State) → IsState c s → Row c s h o s'
+    → IsState c s'
 
 -- A step with something due leaves less to do.
 abbrev pub LessIsLeft : Type 0
-LessIsLeft = (c : Config) (s : State) (h : StepInput) (o : Outcome) (s' : State) → IsInOrder c s → Row c s h o s'
+LessIsLeft = (c : Config) (s : State) (h : StepInput) (o : Outcome) (s' : State) → IsState c s → Row c s h o s'
     → ServesSomething c (effective h.now s) s h.event → left_to_do c s' < left_to_do c s
 
 -- The work left is bounded by the limits.
 abbrev pub LeftIsBounded : Type 0
-LeftIsBounded = (c : Config) (s : State) → IsInOrder c s → left_to_do c s ≤ c.limits.questions
+LeftIsBounded = (c : Config) (s : State) → IsState c s → left_to_do c s ≤ c.limits.questions
     + c.limits.inquiries * c.limits.tries
 
 -- If something is due now, a tick at any later moment serves something.

@@ -1,14 +1,16 @@
 -- The work left in a state, and the moments at which something is due.
-use Rattle.std.specs.Prelude.{◌≡◌, ℕ, suc, ◌+◌, ◌-◌, ◌≤◌, true, List, [], ◌∷◌, ◌++◌, length, map, min, Option, Some}
+use Rattle.std.specs.Prelude.{◌≡◌, ℕ, suc, ◌+◌, ◌-◌, ◌^◌, ◌≤◌, true, List, [], ◌∷◌, ◌++◌, length, map, min, Option, Some}
 use Rattle.std.specs.Prelude.{None, IsSome, ◌<◌, false}
 use Rattle.std.specs.List.{AllByRecursion}
-use Rattle.suffix_routes.specs.Values.{Config, Route}
-use Rattle.outstanding.specs.Lists.{on_path as ask_on, AreInTurn}
+use Rattle.suffix_routes.specs.Values.{Config, Route, IsConfig}
+use Rattle.outstanding.specs.Lists.{on_path as ask_on, AreListed}
 use Rattle.outstanding.specs.Values.{Ask}
 use Rattle.alias_chains.specs.RecordCache.Values.{Held, Cache}
 use Rattle.suffix_routes.specs.Serving.{serving_route_of}
 use Rattle.step_values.specs.Values.{Event, from_client, delivery, path_failed, tick, restart}
+use Rattle.alias_chains.specs.AnswerBuilder.Answers.{IsEarlier}
 use Rattle.step_table.specs.State.{State}
+use Rattle.step_table.specs.Attempts.{peer_at}
 use Rattle.waiting_questions.specs.Values.{Waiting}
 use Rattle.step_table.specs.Row.{is_due_at}
 use Rattle.step_table.specs.Ticks.{deadline_of}
@@ -79,15 +81,6 @@ pub record IsCacheOf (c : Config) (cache : Cache) : Type 0 where
   pub capacity : cache.capacity ≡ c.limits.cache
   pub on_routes : AllByRecursion (IsOnRoute c) cache.entries
 
--- both lists are in the order of time and within their limits, and so is the cache
-pub record IsInOrder (c : Config) (s : State) : Type 0 where
-  pub cache : IsCacheOf c s.cache
-  pub asks : AreInTurn s.asks
-  pub tries : AllByRecursion (IsTry c) s.asks
-  pub few_asks : length s.asks ≤ c.limits.inquiries
-  pub waiting : AreTakenInTurn s.waiting
-  pub few_waiting : length s.waiting ≤ c.limits.questions
-
 -- a TCP connection's number is below `count`
 abbrev pub IsBelow : ℕ → Path → Type 0
 IsBelow count (Udp port) = Unit {0}
@@ -99,3 +92,33 @@ ArePreferred [] [] = Unit {0}
 ArePreferred [] (p ∷ places) = ⊥
 ArePreferred (r ∷ routes) [] = ⊥
 ArePreferred (r ∷ routes) (p ∷ places) = (r.deny ≡ false → p < length r.servers) × ArePreferred routes places
+
+-- a listed ask is for a name of its route; it went to the server at its place, as one of the tries
+-- of an inquiry, over a drawn path
+pub record IsKeptAsk (c : Config) (moment count : ℕ) (a : Ask) : Type 0 where
+  pub earlier : a.asked ≤ moment
+  pub on_route : serving_route_of c a.question.name ≡ Some a.route
+  pub server : peer_at c a.route a.server ≡ Some a.peer
+  pub tries : IsTry c a
+  pub path : IsBelow count a.path
+
+-- no held alias of the question was accepted later
+abbrev pub HoldsEarlier : ℕ → Waiting → Type 0
+HoldsEarlier moment x = AllByRecursion (IsEarlier moment) x.held
+
+-- the cache has the configured capacity, and each entry is within its name's route; both lists are
+-- within their limits and in the order of time; no moment, of a held alias neither, is later than
+-- the effective moment; and each preferred server is of its group
+pub record IsState (c : Config) (s : State) : Type 0 where
+  pub config : IsConfig c
+  pub cache : IsCacheOf c s.cache
+  pub accepted : AllByRecursion (IsEarlier s.moment) s.cache.entries
+  pub listed : AreListed (record { capacity = c.limits.inquiries; asks = s.asks })
+  pub asks : AllByRecursion (IsKeptAsk c s.moment s.tcp_asks) s.asks
+  pub few : length s.waiting ≤ c.limits.questions
+  pub by_arrival : AreTakenInTurn s.waiting
+  pub taken : AllByRecursion (λ x. x.taken ≤ s.moment) s.waiting
+  pub aliases : AllByRecursion (HoldsEarlier s.moment) s.waiting
+  pub places : ArePreferred c.routes s.preferred
+  pub in_time : s.moment ≤ 2 ^ 62
+  pub counted : s.tcp_asks < 2 ^ 64

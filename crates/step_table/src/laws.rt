@@ -3,7 +3,7 @@
 ghost use Rattle.std.specs.Prelude.{ℕ, ◌^◌, ◌≤◌};
 ghost use Rattle.step_table.specs.State.{State};
 ghost use Rattle.step_table.specs.Row.{effective};
-ghost use Rattle.step_table.specs.Laws.{LessIsLeft, LeftIsBounded, MoreIsServed, NextDueTells};
+ghost use Rattle.step_table.specs.Laws.{RowsKeepStates, LessIsLeft, LeftIsBounded, MoreIsServed, NextDueTells};
 ghost use Rattle.step_table.specs.Laws.{RedirectedQuestionsWantOne};
 
 /// The effective moment of a step is not below that of the state, and at most 2^62 milliseconds
@@ -11,6 +11,12 @@ ghost use Rattle.step_table.specs.Laws.{RedirectedQuestionsWantOne};
 pub fn moments_do_not_fall()
     ensures later { (now : ℕ) (s : State) → s.moment ≤ effective now s }
     ensures in_time { (now : ℕ) (s : State) → s.moment ≤ 2 ^ 62 → effective now s ≤ 2 ^ 62 }
+{}
+
+/// A step leads from a state to a state: the lists stay within their limits and in the order of
+/// time, the cache on its routes, the preferred servers within their groups.
+pub fn rows_keep_states()
+    ensures { RowsKeepStates }
 {}
 
 /// The work that is left is bounded by the limits. It falls with each tick that serves something

@@ -6,6 +6,7 @@ mod laws;
 
 pub use alias_chains as chains;
 pub use laws::{
-    moments_do_not_fall, next_due_tells, redirected_questions_want_one, what_is_left_falls,
+    moments_do_not_fall, next_due_tells, redirected_questions_want_one, rows_keep_states,
+    what_is_left_falls,
 };
 pub use waiting_questions as waiting;
