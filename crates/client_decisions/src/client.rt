@@ -10,15 +10,12 @@
 //! 7. `reply`, also the end of `refuse`: one reply, and the promotion of the used entries.
 
 ghost use Rattle.std.specs.Prelude.{◌≡◌, ◌<◌, [], false, length, IfOk, Some, None};
-ghost use Rattle.std.specs.List.{AllByRecursion};
 ghost use Rattle.dns_message.specs.Messages.{first_question};
 ghost use Rattle.dns_message.specs.Questions.{question_read};
 ghost use Rattle.outstanding.specs.Lists.{of_question};
 ghost use Rattle.outstanding.specs.Orders.{question_key};
 ghost use Rattle.suffix_routes.specs.Serving.{serving_route_of};
 ghost use Rattle.step_values.specs.Requests.{is_taken};
-ghost use Rattle.step_actions.specs.Kept.{HoldsEarlier};
-ghost use Rattle.answer_builder.specs.Answers.{IsEarlier};
 ghost use Rattle.step_actions.specs.AliasChains.LookingUp.{missed};
 ghost use Rattle.step_actions.specs.StepTable.Attempts.{first_ask};
 ghost use Rattle.answer_builder.specs.Values.{asked_in};
@@ -28,7 +25,7 @@ ghost use Rattle.step_actions.specs.StepTable.Clients.{row_of_opening, row_of_ne
 ghost use Rattle.step_actions.specs.StepTable.Clients.{row_of_waiting, row_of_route, row_of_service, waits_with};
 ghost use Rattle.step_actions.specs.StepTable.Clients.{row_of_question, row_of_request};
 ghost use Rattle.step_values.specs.Values.{action_of};
-ghost use Rattle.step_actions.specs.Decision.{IsQuiet, CanWait, CanFollow, MeetsStep};
+ghost use Rattle.step_actions.specs.Decision.{IsQuiet, MeetsStep};
 ghost use Rattle.step_actions.specs.StepTable.State.{start, from_state};
 
 use crate::request::{is_not_served, owned_question, taken_header, with_one_question};
@@ -126,7 +123,6 @@ fn serve<'s, H: BuildHasher + Drop, A: Allocator + Copy>(
     slot: &'s mut LookUpSlot,
     request: &Request<'_>,
 ) -> Result<Decision<'s, A>, AllocError>
-    requires taken { request.now.taken ≡ start.now.moment }
     ensures decides { IfOk result (MeetsStep start.now (row_of_service start.now request.now)) }
 {
     if is_not_served(&request.question) {
@@ -142,7 +138,6 @@ fn look<'s, H: BuildHasher + Drop, A: Allocator + Copy>(
     slot: &'s mut LookUpSlot,
     request: &Request<'_>,
 ) -> Result<Decision<'s, A>, AllocError>
-    requires taken { request.now.taken ≡ start.now.moment }
     ensures decides { IfOk result (MeetsStep start.now (row_of_route start.now request.now
         (serving_route_of start.now.config request.now.wanted.name))) }
 {
@@ -174,8 +169,6 @@ fn wait<'s, H: BuildHasher + Drop, A: Allocator + Copy>(
     requires missed { looked.met ≡ missed }
     requires own { looked.held ≡ [] → waits_with request.now looked ≡ request.now }
     requires on { serving_route_of start.now.config looked.wanted.name ≡ Some route }
-    requires aliases { AllByRecursion (IsEarlier start.now.moment) looked.held }
-    requires taken { request.now.taken ≡ start.now.moment }
     ensures decides { IfOk result (MeetsStep start.now (row_of_waiting
         (from_state (with_promoted looked.entry.used start.now.state) start.now)
         (waits_with request.now looked.entry))) }
@@ -214,9 +207,6 @@ fn admit<'s, H: BuildHasher + Drop, A: Allocator + Copy>(
     used: Slots<'s, A>,
 ) -> Result<Decision<'s, A>, AllocError>
     requires on { serving_route_of start.now.config waiting.wanted.name ≡ Some route }
-    requires taken { waiting.taken ≡ start.now.moment }
-    requires aliases { HoldsEarlier start.now.moment waiting }
-    requires room { length start.now.state.waiting < start.now.config.limits.questions }
     ensures decides { IfOk result (MeetsStep start.now (row_of_inquiry
         (from_state (with_promoted used.entry start.now.state) start.now) waiting
         (of_question waiting.wanted start.now.state.asks))) }
@@ -236,7 +226,6 @@ fn join<'s, H: BuildHasher + Drop, A: Allocator + Copy>(
     used: Slots<'s, A>,
 ) -> Result<Decision<'s, A>, AllocError>
     requires keyed { key.now ≡ question_key waiting.wanted }
-    requires waits { CanWait start.now.config start.now.moment start.now.state waiting }
     ensures decides { IfOk result (MeetsStep start.now (taking_step start.now.moment waiting None
         (with_promoted used.entry start.now.state))) }
 {
@@ -261,9 +250,6 @@ fn ask_anew<'s, H: BuildHasher + Drop, A: Allocator + Copy>(
     requires new { of_question waiting.wanted start.now.state.asks ≡ None }
     requires on { serving_route_of start.now.config waiting.wanted.name ≡ Some route }
     requires keyed { key.now ≡ question_key waiting.wanted }
-    requires taken { waiting.taken ≡ start.now.moment }
-    requires aliases { HoldsEarlier start.now.moment waiting }
-    requires room { length start.now.state.waiting < start.now.config.limits.questions }
     ensures decides { IfOk result (MeetsStep start.now (row_of_new_inquiry
         (from_state (with_promoted used.entry start.now.state) start.now) waiting)) }
 {
@@ -342,8 +328,6 @@ fn open<'s, H: BuildHasher + Drop, A: Allocator + Copy>(
 ) -> Result<Decision<'s, A>, AllocError>
     requires keyed { key.now ≡ question_key waiting.wanted }
     requires same { ask.question ≡ waiting.wanted }
-    requires waits { CanWait start.now.config start.now.moment start.now.state waiting }
-    requires follows { CanFollow start.now.config start.now.moment start.now.state start.now.state.asks ask }
     ensures decides { IfOk result (MeetsStep start.now (row_of_opening start.now.moment waiting
         (with_promoted used.entry start.now.state) (Some ask))) }
 {

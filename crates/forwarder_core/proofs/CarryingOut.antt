@@ -1,29 +1,55 @@
 -- The decision is carried out.
-use Rattle.std.proofs.Common.{◌≡◌, ℕ, List, [], Bool, refl, sym, ◌∙◌, subst, Option, Some}
+use Rattle.std.proofs.Common.{◌≡◌, ℕ, ◌^◌, ◌≤◌, List, [], Bool, refl, sym, ◌∙◌, subst, Option, Some}
 use Rattle.std.specs.Prelude.{Ok, IfSome}
 use Rattle.suffix_routes.specs.Values.{Config}
 use Rattle.step_values.specs.Values.{Event, Action, actions_of, Outcome}
 use Rattle.trust_rank.specs.declared.slot.Slot.{Slot}
 use Rattle.trust_rank.specs.Values.{Piece}
+use Rattle.record_cache.specs.Values.{Cache}
 use Rattle.step_table.specs.State.{State, StepStart, start}
 use Rattle.step_table.specs.AliasChains.LookingUp.{promoted_all}
 use Rattle.step_table.specs.AliasChains.Offering.{put_all, unkept_of, pieces_of}
-use Rattle.step_table.specs.Steps.{offering_step, with_promoted, with_entries}
+use Rattle.step_table.specs.Steps.{offering_step, with_promoted}
 use Rattle.step_table.specs.Row.{Happens, HandsOctets, effective, Row}
+use Rattle.step_table.specs.Progress.{IsState}
+use Rattle.step_table.proofs.CallerLemmas.{event_keeps_state}
 use Rattle.client_decisions.specs.StepActions.declared.decision.Change.{Change}
 use Rattle.client_decisions.specs.StepActions.declared.decision.Change.TheVariants.{Nothing, Join, Open, Close, SendOn, AskAgain, Expire}
 use Rattle.client_decisions.specs.StepActions.declared.decision.Decision.{Decision}
-use Rattle.client_decisions.specs.StepActions.Decision.{changed, next_of, CanChange, IsDecided, IsDecidedQuietly, IsOutcome}
+use Rattle.client_decisions.specs.StepActions.Decision.{changed, next_of, HasForm, IsDecided, IsDecidedQuietly, IsOutcome}
+use Rattle.client_decisions.proofs.StepActions.CallerLemmas.{change_leads}
+
+-- ---- the cache
+
+-- the cache after promotions, then offers, and how many of these found no memory
+abbrev pub WasKept : ℕ → List Slot → List Piece → Cache → Cache → ℕ → Type 0
+WasKept n used ps before after count =
+    (rooms : List Bool) × (after ≡ record before { entries = put_all before.capacity n rooms ps (promoted_all used before.entries) })
+    × (count ≡ unkept_of before.capacity n rooms ps (promoted_all used before.entries))
+
+pub kept_in_turn : (n : ℕ) (used : List Slot) (ps : List Piece) (before mid after : Cache) (count : ℕ) → mid ≡ record before { entries = promoted_all used before.entries }
+    → ((rooms : List Bool) × (after ≡ record mid { entries = put_all mid.capacity n rooms ps mid.entries }) × (count ≡ unkept_of mid.capacity n rooms ps mid.entries)) → WasKept n used ps before after count
+kept_in_turn n used ps before mid after count first second = (
+  second.0,
+  second.1 ∙ (λ i. record { capacity = (first i).capacity; entries = put_all (first i).capacity n second.0 ps (first i).entries }),
+  second.2 ∙ (λ i. unkept_of (first i).capacity n second.0 ps (first i).entries),
+)
+
+-- ---- the outcome
+
+-- a state with this cache
+abbrev with_cache : Cache → State → State
+with_cache cache s = record s { cache = cache }
 
 -- the changed values are the decided values
 by_change : {A : Type 0} (n : ℕ) (rooms : List Bool) (s : State) (actions : List Action) (used : List Slot)
     (ps : List Piece) (change : Change A)
     → record {
       actions = actions;
-      unkept = unkept_of (changed n s change).cache.capacity (changed n s change).moment rooms ps
-          (promoted_all used (changed n s change).cache.entries);
-      state = with_entries (put_all (changed n s change).cache.capacity (changed n s change).moment rooms ps
-          (promoted_all used (changed n s change).cache.entries)) (changed n s change);
+      unkept = unkept_of (changed n s change).cache.capacity n rooms ps (promoted_all used (changed n s change).cache.entries);
+      state = with_cache (record (changed n s change).cache {
+        entries = put_all (changed n s change).cache.capacity n rooms ps (promoted_all used (changed n s change).cache.entries);
+      }) (changed n s change);
     }
     ≡ offering_step n rooms ps (record {
       actions = actions;
@@ -38,52 +64,48 @@ by_change n rooms s actions used ps (SendOn b) = refl
 by_change n rooms s actions used ps (AskAgain path b) = refl
 by_change n rooms s actions used ps (Expire closed) = refl
 
-pub carried_out : {A : Type 0} (n : ℕ) (rooms : List Bool) (s : State) (d : Decision A) (mid after : State)
-    (unkept : ℕ) → mid ≡ changed n s d.change
-    → after ≡ with_entries (put_all mid.cache.capacity mid.moment rooms (pieces_of d.carried.items)
-    (promoted_all d.used mid.cache.entries)) mid
-    → unkept ≡ unkept_of mid.cache.capacity mid.moment rooms (pieces_of d.carried.items)
-    (promoted_all d.used mid.cache.entries)
-    → record { actions = actions_of d.actions; unkept = unkept; state = after } ≡ next_of n rooms s d
-carried_out n rooms s d mid after unkept first second count =
-    (λ i. record { actions = actions_of d.actions; unkept = count i; state = second i })
+pub carried_out : {A : Type 0} (n : ℕ) (s : State) (d : Decision A) (mid : State) (cache : Cache) (unkept : ℕ) → mid ≡ changed n s d.change
+    → (kept : WasKept n d.used (pieces_of d.carried.items) mid.cache cache unkept)
+    → record { actions = actions_of d.actions; unkept = unkept; state = with_cache cache mid } ≡ next_of n kept.0 s d
+carried_out n s d mid cache unkept first kept =
+    (λ i. record { actions = actions_of d.actions; unkept = kept.2 i; state = with_cache (kept.1 i) mid })
     ∙ (λ i. record {
       actions = actions_of d.actions;
-      unkept = unkept_of (first i).cache.capacity (first i).moment rooms (pieces_of d.carried.items)
-          (promoted_all d.used (first i).cache.entries);
-      state = with_entries (put_all (first i).cache.capacity (first i).moment rooms (pieces_of d.carried.items)
-          (promoted_all d.used (first i).cache.entries)) (first i);
+      unkept = unkept_of (first i).cache.capacity n kept.0 (pieces_of d.carried.items) (promoted_all d.used (first i).cache.entries);
+      state = with_cache (record (first i).cache {
+        entries = put_all (first i).cache.capacity n kept.0 (pieces_of d.carried.items) (promoted_all d.used (first i).cache.entries);
+      }) (first i);
     })
-    ∙ by_change n rooms s (actions_of d.actions) d.used (pieces_of d.carried.items) d.change
+    ∙ by_change n kept.0 s (actions_of d.actions) d.used (pieces_of d.carried.items) d.change
 
--- an outcome as decided is the row's
-pub row_is : {A : Type 0} (c : Config) (s s' : State) (now n : ℕ) (words : List ℕ) (e : Event)
-    (d : Option (Decision A)) (next : Decision A) (o : Outcome) → n ≡ effective now s → HandsOctets e
-    → IsDecided (start c n words s) e d → d ≡ Some next
-    → ((rooms : List Bool) × IsOutcome c (next_of n rooms s next) o s')
-    → Row c s (record { now = now; words = words; event = e }) o s'
-row_is {A} c s s' now n words e d next o moment octets decided is out =
-    let rooms = out.0 in
-    let done = out.1 in
-    let happens : Happens (start c n words s) e (next_of n rooms s next) =
-    subst (IsDecided (start c n words s) e) is decided rooms in
-    record {
-      octets = octets;
-      happens = subst (λ (m : ℕ). Happens (start c m words s) e
-          (record { actions = o.actions; unkept = o.unkept; state = s' })) moment
-          (subst (Happens (start c n words s) e) (sym done.done) happens);
-      more = done.more;
-    }
+-- ---- the decision
+
+module _ {A : Type 0} (t : StepStart) (c : Config) (n : ℕ) (words : List ℕ) (s : State) (e : Event) (d : Option (Decision A)) (next : Decision A) (begins : t ≡ start c n words s) (is : d ≡ Some next) (decided : IsDecided t e d) where
+  pub happens : (rooms : List Bool) → Happens (start c n words s) e (next_of n rooms s next)
+  happens = subst (λ (u : StepStart). IsDecided u e (Some next)) begins (subst (IsDecided t e) is decided)
+
+  -- a decided step leads to a state
+  pub acted : IsState c s → s.moment ≤ n → n ≤ 2 ^ 62 → (rooms : List Bool) → IsState c (next_of n rooms s next).state
+  acted state later small rooms = event_keeps_state c n words s state later small e (next_of n rooms s next) (happens rooms)
+
+  -- and so does its change
+  pub leads : IsState c s → s.moment ≤ n → n ≤ 2 ^ 62 → IsState c (changed n s next.change)
+  leads state later small = change_leads c n s next state later (acted state later small [])
+
+  -- an outcome as decided is the row's
+  pub row_is : (now : ℕ) (s' : State) (o : Outcome) → n ≡ effective now s → HandsOctets e → ((rooms : List Bool) × IsOutcome c (next_of n rooms s next) o s') → Row c s (record { now = now; words = words; event = e }) o s'
+  row_is now s' o moment octets out = record {
+    octets = octets;
+    happens = subst (λ (m : ℕ). Happens (start c m words s) e (record { actions = o.actions; unkept = o.unkept; state = s' })) moment
+        (subst (Happens (start c n words s) e) (sym out.1.done) (happens out.0));
+    more = out.1.more;
+  }
 
 pub quiet_at : {A : Type 0} (d : Option (Decision A)) (next : Decision A) → d ≡ Some next
     → IsDecidedQuietly {A = A} (Ok d) → (next.used ≡ []) × (next.change ≡ Nothing)
 quiet_at {A} d next is quiet = subst (λ (r : Option (Decision A)). IsDecidedQuietly {A = A} (Ok r)) is quiet
 
--- a decision's change fits
-pub fits_at : {A : Type 0} (t : StepStart) (c : Config) (n m : ℕ) (words : List ℕ) (s : State)
-    (d : Option (Decision A)) (next : Decision A) → t ≡ start c m words s → n ≡ m → d ≡ Some next
-    → IfSome d (λ some. CanChange t.config t.moment t.state some) → CanChange c n s next
-fits_at {A} t c n m words s d next begins moment is fits =
-    subst (λ (k : ℕ). CanChange c k s next) (sym moment)
-    (subst (λ (u : StepStart). CanChange u.config u.moment u.state next) begins
-    (subst (λ (o : Option (Decision A)). IfSome o (λ some. CanChange t.config t.moment t.state some)) is fits))
+-- a decision's form, in the state of its start
+pub form_at : {A : Type 0} (t : StepStart) (s : State) (d : Option (Decision A)) (next : Decision A) → t.state ≡ s → d ≡ Some next → IfSome d (HasForm t.state) → HasForm s next
+form_at {A} t s d next begins is form =
+    subst (λ (u : State). HasForm u next) begins (subst (λ (o : Option (Decision A)). IfSome o (HasForm t.state)) is form)

@@ -1,59 +1,26 @@
--- A forwarder's invariant holds after each change.
+-- A new forwarder, and what is due where nothing waits.
 use Rattle.std.proofs.Common.{◌≡◌, ℕ, zero, suc, ◌+◌, ◌<◌, List, [], ◌∷◌, ◌++◌, length, false, refl, sym, ap, ◌∙◌, subst, arith, None}
 use Rattle.std.specs.Prelude.{◌||◌, take, drop, map, slice_set, nat_le}
-use Rattle.std.specs.List.{AllByRecursion, list_any}
+use Rattle.std.specs.List.{list_any}
 use Rattle.suffix_routes.specs.Values.{Config, Route, IsConfig}
 use Rattle.outstanding.specs.Values.{Ask, Inquiries}
 use Rattle.step_table.specs.State.{State}
 use Rattle.step_table.specs.WaitingQuestions.Values.{Waiting}
 use Rattle.step_table.specs.Ticks.{deadline_of}
 use Rattle.step_table.specs.Replies.{timeout_of}
-use Rattle.record_cache.specs.Values.{Held, Cache}
-use Rattle.answer_builder.specs.Answers.{IsEarlier}
-use Rattle.step_table.specs.Progress.{IsTry, IsOnRoute, least, next_due, IsInOrder, ArePreferred}
+use Rattle.record_cache.specs.Values.{Cache}
+use Rattle.step_table.specs.Progress.{least, next_due, IsState, ArePreferred}
 use Rattle.step_table.specs.Row.{is_due_at}
-use Rattle.step_table.proofs.CallerLemmas.{All-weaker, preferred_first}
-use Rattle.client_decisions.specs.StepActions.Kept.{IsKeptAsk, IsKeptForwarder}
+use Rattle.step_table.proofs.CallerLemmas.{initial_is}
 
--- other entries are kept
-pub kept_entries : (c : Config) (e e' : Cache) (entries : List Held) (i : Inquiries) (ws : List Waiting) (ps : List ℕ) (m k : ℕ) → IsKeptForwarder c e i ws ps m k → AllByRecursion (IsOnRoute c) entries → AllByRecursion (IsEarlier m) entries
-    → e' ≡ record e { entries = entries } → IsKeptForwarder c e' i ws ps m k
-kept_entries c e e' entries i ws ps m k kept on earlier is = subst (λ (q : Cache). IsKeptForwarder c q i ws ps m k) (sym is) (record {
-  config = kept.config;
-  cache = record { capacity = kept.cache.capacity; on_routes = on };
-  accepted = earlier;
-  capacity = kept.capacity;
-  listed = kept.listed;
-  asks = kept.asks;
-  few = kept.few;
-  by_arrival = kept.by_arrival;
-  taken = kept.taken;
-  aliases = kept.aliases;
-  places = kept.places;
-  in_time = kept.in_time;
-  counted = kept.counted;
-})
+-- ---- a new forwarder
 
--- a new forwarder
-pub kept_first : (c : Config) (e : Cache) (i : Inquiries) (ws : List Waiting) (ps : List ℕ) → IsConfig c → e ≡ record { capacity = c.limits.cache; entries = [] } → i ≡ record { capacity = c.limits.inquiries; asks = [] } → ws ≡ [] → ps ≡ map (λ r. 0) c.routes → IsKeptForwarder c e i ws ps 0 0
-kept_first c e i ws ps config empty is none places =
-    subst (λ (q : Cache). IsKeptForwarder c q i ws ps 0 0) (sym empty)
-    (subst (λ (q : Inquiries). IsKeptForwarder c (record { capacity = c.limits.cache; entries = [] }) q ws ps 0 0) (sym is)
-    (subst (λ (xs : List Waiting). IsKeptForwarder c (record { capacity = c.limits.cache; entries = [] }) (record { capacity = c.limits.inquiries; asks = [] }) xs ps 0 0) (sym none) (record {
-      config = config;
-      cache = record { capacity = refl; on_routes = tt };
-      accepted = tt;
-      capacity = refl;
-      listed = record { few = omega arith; by_arrival = tt; in_time = tt };
-      asks = tt;
-      few = omega arith;
-      by_arrival = tt;
-      taken = tt;
-      aliases = tt;
-      places = subst (ArePreferred c.routes) (sym places) (preferred_first c.routes config.each);
-      in_time = omega arith;
-      counted = omega arith;
-    })))
+pub kept_first : (c : Config) (e : Cache) (i : Inquiries) (ws : List Waiting) (ps : List ℕ) → IsConfig c → e ≡ record { capacity = c.limits.cache; entries = [] } → i ≡ record { capacity = c.limits.inquiries; asks = [] } → ws ≡ [] → ps ≡ map (λ r. 0) c.routes
+    → IsState c (record { cache = e; asks = i.asks; waiting = ws; preferred = ps; moment = 0; tcp_asks = 0 }) × (i.capacity ≡ c.limits.inquiries)
+kept_first c e i ws ps config empty is none places = (
+  subst (IsState c) (sym (λ j. record { cache = empty j; asks = (is j).asks; waiting = none j; preferred = places j; moment = 0; tcp_asks = 0 })) (initial_is c config),
+  ap (λ (q : Inquiries). q.capacity) is,
+)
 
 -- ---- nothing waits, and no ask is listed
 
@@ -62,19 +29,6 @@ none_due c n s none no_ask = λ i. list_any (λ (x : Waiting). nat_le (deadline_
 
 pub none_next : (c : Config) (s : State) → s.waiting ≡ [] → s.asks ≡ [] → next_due c s ≡ None
 none_next c s none no_ask = λ i. least (map (deadline_of c) (none i) ++ map (timeout_of c) (no_ask i))
-
--- ---- the order of the lists
-
--- both lists are in order
-pub kept_in_order : (c : Config) (e : Cache) (i : Inquiries) (ws : List Waiting) (ps : List ℕ) (m k : ℕ) → IsKeptForwarder c e i ws ps m k → IsInOrder c (record { cache = e; asks = i.asks; waiting = ws; preferred = ps; moment = m; tcp_asks = k })
-kept_in_order c e i ws ps m k kept = record {
-  cache = kept.cache;
-  asks = kept.listed.by_arrival;
-  tries = All-weaker (IsKeptAsk c m k) (IsTry c) (λ a h. h.tries) i.asks kept.asks;
-  few_asks = let few = kept.listed.few in let room = kept.capacity in omega (arith, few, room);
-  waiting = kept.by_arrival;
-  few_waiting = kept.few;
-}
 
 -- ---- places
 

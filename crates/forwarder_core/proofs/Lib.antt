@@ -1,4 +1,3 @@
-pub mod Entries
 pub mod CarryingOut
 pub mod KeptLaws
 pub mod Ticks

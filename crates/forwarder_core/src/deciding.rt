@@ -3,7 +3,7 @@
 ghost use Rattle.std.specs.Prelude.{IfOk, IfSome};
 ghost use Rattle.step_values.specs.Values.{event_of};
 ghost use Rattle.step_table.specs.Row.{HandsOctets, TakesNoMemory};
-ghost use Rattle.client_decisions.specs.StepActions.Decision.{IsDecided, IsDecidedQuietly, CanChange};
+ghost use Rattle.client_decisions.specs.StepActions.Decision.{IsDecided, IsDecidedQuietly, HasForm};
 
 use client_decisions::{Decision, StepStartRef, on_client};
 use record_cache::LookUpSlot;
@@ -22,8 +22,7 @@ pub(crate) fn decide<'s, H: BuildHasher + Drop, A: Allocator + Copy>(
     ensures row { IfOk result (λ next. IsDecided start.now (event_of event.now) next) }
     ensures no_memory { TakesNoMemory start.now.config start.now.moment start.now.state (event_of event.now)
         → IsDecidedQuietly result }
-    ensures fits { IfOk result (λ next. IfSome next (λ some. CanChange start.now.config start.now.moment
-        start.now.state some)) }
+    ensures form { IfOk result (λ next. IfSome next (HasForm start.now.state)) }
     ensures octets { IfOk result (λ _. HandsOctets (event_of event.now)) }
 {
     match event {

@@ -1,7 +1,6 @@
 -- The replies to the questions waiting for an accepted reply, and the reply's pieces.
-use Rattle.std.proofs.Common.{◌≡◌, ◌⊎◌, inl, inr, ℕ, ◌+◌, ◌^◌, ◌<◌, ◌≤◌, List, [], ◌∷◌, ◌++◌, length, Bool, true, false, cond, refl, sym, ap, ◌∙◌, subst, Option, Some, None, arith}
+use Rattle.std.proofs.Common.{◌≡◌, ◌⊎◌, inl, inr, ℕ, ◌+◌, ◌^◌, ◌<◌, ◌≤◌, List, [], ◌∷◌, ◌++◌, length, Bool, true, false, cond, refl, sym, ap, ◌∙◌, subst, Some, None, arith}
 use Rattle.std.specs.Prelude.{Ok, map, nat_le, slice_index}
-use Rattle.std.specs.List.{AllByRecursion}
 use Rattle.std.proofs.lemmas.Bool.{cond-true, cond-false, cond_both, le-leb, lt-leb, leb-true, leb-false}
 use Rattle.std.proofs.lemmas.List.{append_assoc, map-append, length-append}
 use Rattle.plain_values.specs.Octets.{AreOctets}
@@ -13,14 +12,14 @@ use Rattle.dns_message.specs.Numbers.{number16}
 use Rattle.dns_message.proofs.CallerLemmas.{message_read_is_spelled, number_at_place_is_small}
 use Rattle.suffix_routes.specs.Values.{Config}
 use Rattle.suffix_routes.specs.Routes.{serving, route_of}
-use Rattle.suffix_routes.proofs.CallerLemmas.{serving_lowered, serving_is}
+use Rattle.suffix_routes.proofs.CallerLemmas.{serving_is}
 use Rattle.trust_rank.specs.declared.slot.Slot.{Slot}
 use Rattle.trust_rank.specs.declared.walk.End.{End as OwnedEnd}
 use Rattle.trust_rank.specs.declared.walk.End.TheVariants.{Found, NoData, Denied}
 use Rattle.trust_rank.specs.Values.{Piece, End, found, ends_no_data, ends_denied, elsewhere, lame, Walk, Reply, reply_of, end_of}
 use Rattle.trust_rank.specs.Walks.{most_aliases, walk_from, walk_of, begins_set, servers_with, servers_at, servers_from, carries_servers, is_lame, has_last}
-use Rattle.trust_rank.specs.Laws.{IsCarriedFor, Lead, last_kind, Closes, EndsSo, IsServerSet}
-use Rattle.trust_rank.proofs.CallerLemmas.{servers_fit, walk_leads, walk_plain}
+use Rattle.trust_rank.specs.Laws.{Closes, EndsSo}
+use Rattle.trust_rank.proofs.CallerLemmas.{walk_leads, walk_plain}
 use Rattle.record_cache.specs.Values.{Held}
 use Rattle.answer_builder.specs.Transports.{answer_of}
 use Rattle.outstanding.specs.declared.ask.Path.{Path}
@@ -39,9 +38,9 @@ use Rattle.step_table.specs.Failures.{row_of_failure}
 use Rattle.step_table.specs.Clients.{fate_of}
 use Rattle.alias_chains.specs.Offering.{held_at}
 use Rattle.retry_failover.specs.declared.Failure.TheVariants.{Lame}
-use Rattle.step_table.proofs.CallerLemmas.{All-append, header_there, looked_at_end, closed_at_end}
+use Rattle.step_table.proofs.CallerLemmas.{header_there, looked_at_end, closed_at_end}
 use Rattle.step_actions.specs.declared.decision.Change.TheVariants.{Close}
-use Rattle.step_actions.specs.Decision.{changed, gives_from, reply_from, with_replies, IsRouted}
+use Rattle.step_actions.specs.Decision.{changed, gives_from, reply_from, with_replies}
 use Rattle.reply_decisions.specs.Walked.{IsWalkFor}
 use Rattle.reply_decisions.proofs.Deciding.{closed_is, given_frees}
 use Rattle.alias_chains.proofs.CallerLemmas.{same_pieces}
@@ -84,24 +83,6 @@ authority_few c m q route =
     w : Walk
     w = walk_from (reply_of c m q route) most_aliases true q.name
 
--- ---- each piece is on its route
-
--- the reply came on a route that serves names
-abbrev Serves : Reply → Type 0
-Serves r = serving r.config.routes (Some r.route) ≡ Some r.route
-
-piece_routed : (r : Reply) → Serves r → (name : List (List ℕ)) (kind : Option ℕ) (p : Piece) → IsCarriedFor r name kind p → IsRouted r.config p
-piece_routed r serves name kind p carried =
-    ap (λ (s : Slot). serving_route_of r.config s.key) carried.slot ∙ serving_lowered r.config.routes name ∙ ap (serving r.config.routes) carried.on_route ∙ serves ∙ ap Some (sym carried.route)
-
-lead_routed : (r : Reply) → Serves r → (name last : List (List ℕ)) (ps : List Piece) → Lead r name ps last → AllByRecursion (IsRouted r.config) ps
-lead_routed r serves name last [] lead = tt
-lead_routed r serves name last (p ∷ ps) lead = (piece_routed r serves name (Some 5) p lead.1.carried, lead_routed r serves lead.0 last ps lead.2)
-
-servers_routed : (r : Reply) → Serves r → (ps : List Piece) → AllByRecursion (IsServerSet r) ps → AllByRecursion (IsRouted r.config) ps
-servers_routed r serves [] fit = tt
-servers_routed r serves (p ∷ ps) fit = (piece_routed r serves p.owner (Some 2) p fit.0.carried, servers_routed r serves ps fit.1)
-
 -- ---- the end of a walk
 
 before_last_is : (p : Piece) (ps : List Piece) (last : Piece) → before_last p (ps ++ last ∷ []) ≡ p ∷ ps
@@ -143,19 +124,6 @@ walk_few r pieces authority ends_denied h = closing_few r pieces ends_denied h
 walk_few r pieces authority (elsewhere name) h = h.1
 walk_few r pieces authority lame h = subst (λ (ps : List Piece). length ps ≤ 8) (sym h.0) (omega arith)
 
-closing_routed : (r : Reply) → Serves r → (pieces : List Piece) (end : End) → ClosesAt r pieces end → AllByRecursion (IsRouted r.config) pieces
-closing_routed r serves pieces end closed =
-    subst (AllByRecursion (IsRouted r.config)) (sym closed.whole)
-    (All-append (IsRouted r.config) closed.aliases (closed.last ∷ []) (lead_routed r serves r.question.name closed.last_name closed.aliases closed.lead)
-    (piece_routed r serves closed.last_name (last_kind r end) closed.last closed.carried, tt))
-
-walk_routed : (r : Reply) → Serves r → (pieces authority : List Piece) (end : End) → EndsSo r pieces authority end → AllByRecursion (IsRouted r.config) pieces
-walk_routed r serves pieces authority found h = closing_routed r serves pieces found h
-walk_routed r serves pieces authority ends_no_data h = closing_routed r serves pieces ends_no_data h
-walk_routed r serves pieces authority ends_denied h = closing_routed r serves pieces ends_denied h
-walk_routed r serves pieces authority (elsewhere name) h = lead_routed r serves r.question.name name pieces h.2
-walk_routed r serves pieces authority lame h = subst (AllByRecursion (IsRouted r.config)) (sym h.0) tt
-
 -- ---- the walk of an accepted reply
 
 module _ (c : Config) (n : ℕ) (a : Ask) (w : Walk) (walk : IsWalkFor c a w) (on : serving_route_of c a.question.name ≡ Some a.route) where
@@ -176,11 +144,6 @@ module _ (c : Config) (n : ℕ) (a : Ask) (w : Walk) (walk : IsWalkFor c a w) (o
       let pieces : length w.pieces ≤ 8 = walk_few r w.pieces w.authority w.end ends_so in
       let all = length-append w.pieces w.authority in
       omega (arith, servers, counted, pieces, all)
-
-  pub carried_routed : AllByRecursion (IsRouted c) (w.pieces ++ w.authority)
-  carried_routed =
-      All-append (IsRouted c) w.pieces w.authority (walk_routed r own.1 w.pieces w.authority w.end ends_so)
-      (servers_routed r own.1 w.authority (subst (λ (v : Walk). AllByRecursion (IsServerSet r) v.authority) (sym walk.is) (servers_fit c walk.message a.question a.route walk.read.shapes)))
 
   -- the offered pieces: the walk, then the name servers
   pub carried_is : (held : List Held) (pieces authority : List Piece) → held ≡ map (held_at n) (pieces ++ authority) → pieces ≡ w.pieces → authority ≡ w.authority → map (λ h. h.piece) held ≡ w.pieces ++ w.authority

@@ -1,6 +1,5 @@
 -- A question's fate by its look-up.
-use Rattle.std.proofs.Common.{◌≡◌, ℕ, List, [], ◌∷◌, ◌++◌, Option, Some, None, refl, sym, ap, ◌∙◌}
-use Rattle.std.specs.List.{AllByRecursion}
+use Rattle.std.proofs.Common.{◌≡◌, ℕ, List, Option, Some, None, refl, sym, ap, ◌∙◌}
 use Rattle.dns_message.specs.Values.{Question}
 use Rattle.suffix_routes.specs.Values.{Config}
 use Rattle.suffix_routes.specs.Serving.{serving_route_of}
@@ -10,10 +9,6 @@ use Rattle.waiting_questions.specs.Values.{Waiting}
 use Rattle.alias_chains.specs.LookingUp.{LookUpEnd, LookUp, ends, too_long, missed}
 use Rattle.step_table.specs.Steps.{waits}
 use Rattle.step_table.specs.Clients.{fate_missed, fate_at, fate_of}
-
-pub all_append : {X : Type 0} (P : X → Type 0) (xs ys : List X) → AllByRecursion P xs → AllByRecursion P ys → AllByRecursion P (xs ++ ys)
-all_append P [] ys first then = then
-all_append P (x ∷ xs) ys first then = (first.0, all_append P xs ys first.1 then)
 
 module _ (c : Config) (n : ℕ) (l : LookUp) where
   -- ---- a waiting question, and its request

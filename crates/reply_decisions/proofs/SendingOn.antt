@@ -1,34 +1,26 @@
 -- A reply that leads on: the decision is the table's.
-use Rattle.std.proofs.Common.{◌≡◌, ℕ, ◌^◌, ◌≤◌, List, [], ◌∷◌, ◌++◌, Bool, true, false, Option, Some, None, refl, sym, ap, ◌∙◌, subst, arith}
+use Rattle.std.proofs.Common.{◌≡◌, ℕ, List, [], ◌∷◌, ◌++◌, Bool, true, false, Option, Some, None, refl, sym, ap, ◌∙◌}
 use Rattle.std.specs.Prelude.{filter, is_some, map}
-use Rattle.std.specs.List.{flat_map, AllByRecursion}
+use Rattle.std.specs.List.{flat_map}
 use Rattle.std.proofs.lemmas.Bool.{cond-true, cond-false}
 use Rattle.std.proofs.lemmas.Simd.{map-map}
 use Rattle.dns_message.specs.Values.{Question}
 use Rattle.suffix_routes.specs.Values.{Config}
-use Rattle.outstanding.specs.Lists.{of_question, on_path as ask_on, without_path}
-use Rattle.outstanding.specs.Values.{Ask, Inquiries}
+use Rattle.outstanding.specs.Lists.{of_question, without_path}
+use Rattle.outstanding.specs.Values.{Ask}
 use Rattle.trust_rank.specs.declared.slot.Slot.{Slot}
 use Rattle.trust_rank.specs.Values.{Piece, End, elsewhere, Walk}
-use Rattle.record_cache.specs.Values.{Held, Cache}
-use Rattle.answer_builder.specs.Answers.{IsEarlier}
-use Rattle.suffix_routes.specs.Serving.{serving_route_of}
-use Rattle.waiting_questions.specs.Onward.{Onward, redirected}
+use Rattle.record_cache.specs.Values.{Held}
+use Rattle.waiting_questions.specs.Onward.{redirected}
 use Rattle.step_table.specs.State.{State, StepStart, start}
 use Rattle.waiting_questions.specs.Values.{Waiting, waits_for}
-use Rattle.step_table.specs.Attempts.{first_ask_on}
 use Rattle.step_table.specs.Steps.{Done, Fate, gets, waits, still_waiting, with_preferred_server, with_promoted, closing_step, offering_step}
 use Rattle.step_table.specs.Replies.{fate_by, looked_by, unless_open, to_be_asked, without_port, unless_no_port, row_of_next_name, row_of_redirected, row_of_end, row_of_acceptance}
 use Rattle.step_table.specs.Clients.{fate_of}
 use Rattle.alias_chains.specs.Offering.{held_at}
-use Rattle.reply_decisions.specs.Fates.{first_wanted, looked_on, onward_of, AreFates}
+use Rattle.reply_decisions.specs.Fates.{first_wanted, looked_on, AreFates}
 use Rattle.reply_decisions.proofs.Becoming.{same_fates}
 use Rattle.reply_decisions.proofs.Going.{waits_with_it}
-use Rattle.reply_decisions.proofs.Earlier.{IsHeld, Holds, no_port_holds, all_hold}
-use Rattle.step_table.proofs.CallerLemmas.{without_shorter, All-weaker}
-use Rattle.step_actions.specs.Kept.{IsKeptForwarder}
-use Rattle.step_actions.specs.Decision.{CanFollow, IfFollows, IsSentEarlier}
-use Rattle.step_actions.proofs.CallerLemmas.{first_follows, kept_without}
 use Rattle.reply_decisions.specs.Redirecting.{closing_state, asked_for, ask_for, fates_then}
 
 -- ---- the question to ask
@@ -197,36 +189,6 @@ module _ (c : Config) (n : ℕ) (words : List ℕ) (a : Ask) (w : Walk) (s : Sta
         (used_is ∙ met_used ∙ (λ i. flat_map
         (λ x. (looked_on t (aliases_are i) name x).used) (xs_are i))) pieces_are
 
--- ---- the entries held by questions sent on
-
-module _ (n : ℕ) (behind : Waiting → Fate) (holds : Holds (IsEarlier n) behind) (xs : List Waiting)
-    (own : AllByRecursion (λ x. AllByRecursion (IsEarlier n) x.held) xs) where
-  then_holds : (asked : Option Question) (next : Option Ask)
-      → AllByRecursion (λ f. IsHeld (IsEarlier n) (onward_of f)) (fates_then asked next (map behind xs))
-  then_holds None next = all_hold (IsEarlier n) behind holds xs own
-  then_holds (Some q) (Some next) = all_hold (IsEarlier n) behind holds xs own
-  then_holds (Some q) None = subst (AllByRecursion (λ f. IsHeld (IsEarlier n) (onward_of f))) (sym (map-map without_port behind xs))
-      (all_hold (IsEarlier n) (λ x. without_port (behind x)) (no_port_holds (IsEarlier n) behind) xs own)
-
-  earlier_then : (o : Option Onward) → IsHeld (IsEarlier n) o → IsSentEarlier n o
-  earlier_then None is = tt
-  earlier_then (Some s) is = is
-
-  -- their aliases were accepted by now
-  pub sent_earlier : (asked : Option Question) (next : Option Ask) (told : List Fate)
-      → told ≡ fates_then asked next (map behind xs)
-      → AllByRecursion (λ f. IsSentEarlier n (onward_of f)) told
-  sent_earlier asked next told are = All-weaker (λ f. IsHeld (IsEarlier n) (onward_of f))
-      (λ f. IsSentEarlier n (onward_of f)) (λ f is. earlier_then (onward_of f) is) told
-      (subst (AllByRecursion (λ f. IsHeld (IsEarlier n) (onward_of f))) (sym are) (then_holds asked next))
-
--- ---- the new question of each
-
-pub sent_all : (n : ℕ) (each : List Fate) → AllByRecursion (λ f. IsSentEarlier n (onward_of f)) each
-    → AllByRecursion (IsSentEarlier n) (map onward_of each)
-sent_all n [] all = tt
-sent_all n (f ∷ each) all = (all.0, sent_all n each all.1)
-
 -- ---- whether the new question is already asked
 
 open_is : (q : Question) (o : Option Ask) → is_some o ≡ true → unless_open q o ≡ None
@@ -245,53 +207,3 @@ module _ (a : Ask) (s : State) (each : List Fate) (wanted : Question) (is : firs
   pub asked_now : is_some (of_question wanted (without_path a.path s.asks)) ≡ false → asked_for a s each ≡ Some wanted
   asked_now none = first_of (without_path a.path s.asks) (still_waiting each) wanted is
       ∙ unopened_is wanted (of_question wanted (without_path a.path s.asks)) none
-
--- ---- the ask for the new question may be listed
-
--- a question to ask has no ask
-new_of : (q : Question) (listed : List Ask) (y : Question) (r : Option Ask) → of_question y listed ≡ r
-    → unless_open y r ≡ Some q → of_question q listed ≡ None
-new_of q listed y None none e = let same : y ≡ q = cc in ap (λ (z : Question). of_question z listed) (sym same) ∙ none
-new_of q listed y (Some a) there e = absurd (cc)
-
-asked_new : (q : Question) (listed : List Ask) (ys : List Waiting) → to_be_asked listed ys ≡ Some q
-    → of_question q listed ≡ None
-asked_new q listed [] e = absurd (cc)
-asked_new q listed (y ∷ ys) e = new_of q listed y.wanted (of_question y.wanted listed) refl e
-
-module _ (c : Config) (n : ℕ) (words : List ℕ) (a : Ask) (e : Cache) (i : Inquiries) (ws : List Waiting) (ps : List ℕ)
-    (m k : ℕ) (kept : IsKeptForwarder c e i ws ps m k) (later : m ≤ n) (small : n ≤ 2 ^ 62)
-    (on : ask_on a.path i.asks ≡ Some a) where
-  abbrev now : State
-  now = record { cache = e; asks = i.asks; waiting = ws; preferred = ps; moment = m; tcp_asks = k }
-
-  abbrev left : Inquiries
-  left = record i { asks = without_path a.path i.asks }
-
-  kept_then : IsKeptForwarder c e left ws ps m k
-  kept_then = kept_without c e i left ws ps m k (Some a.path) kept refl
-
-  by_route : (q : Question) (next : Ask) → of_question q (without_path a.path i.asks) ≡ None → (r : Option ℕ)
-      → serving_route_of c q.name ≡ r → first_ask_on (start c n words (closing_state a now)) q r ≡ Some next
-      → CanFollow c n (closing_state a now) (without_path a.path i.asks) next
-  by_route q next new None none is = absurd (cc)
-  by_route q next new (Some route) there is =
-      first_follows c n words q route (closing_state a now) left ps next kept_then refl there later small new
-      (let fewer = without_shorter a.path i.asks a on in let few = kept.listed.few in let capacity = kept.capacity in omega
-      (arith, fewer, few, capacity)) (sym is)
-
-  by_asked : (asked : Option Question) (next : Ask) → ((q : Question) → asked ≡ Some q
-      → of_question q (without_path a.path i.asks) ≡ None)
-      → ask_for (start c n words (closing_state a now)) asked ≡ Some next
-      → CanFollow c n (closing_state a now) (without_path a.path i.asks) next
-  by_asked None next new is = absurd (cc)
-  by_asked (Some q) next new is = by_route q next (new q refl) (serving_route_of c q.name) refl is
-
-  pub next_follows : (fates : List Fate) (next : Option Ask)
-      → next ≡ ask_for (start c n words (closing_state a now)) (asked_for a now fates)
-      → IfFollows c n now (without_path a.path i.asks) next
-  next_follows fates None is = tt
-  next_follows fates (Some next) is =
-      let follows = by_asked (asked_for a now fates) next
-      (λ q e. asked_new q (without_path a.path i.asks) (still_waiting fates) e) (sym is) in
-      record { begins = follows.begins; room = follows.room; kept = follows.kept; counted = follows.counted }

@@ -1,13 +1,12 @@
 //! The decision on a failed attempt: another ask, or an end.
 
 ghost use Rattle.std.specs.Prelude.{◌≡◌, Bool, List, ◌^◌, ◌<◌, ◌≤◌, ◌+◌, IfOk, IfSome, Some, None};
-ghost use Rattle.outstanding.specs.Values.{Ask as AskValue};
-ghost use Rattle.outstanding.specs.Lists.{on_path as ask_on, without_path};
+ghost use Rattle.outstanding.specs.Lists.{on_path as ask_on};
 ghost use Rattle.step_table.specs.Attempts.{ask_by, peer_at};
 ghost use Rattle.step_table.specs.Steps.{closing_step, fails};
 ghost use Rattle.step_table.specs.Failures.{row_of_attempt, row_of_failure, row_of_failed_path, runs_out};
 ghost use Rattle.step_actions.specs.Attempts.{pair_of};
-ghost use Rattle.step_actions.specs.Decision.{IsQuiet, CanFollow, MeetsStep};
+ghost use Rattle.step_actions.specs.Decision.{IsQuiet, MeetsStep};
 ghost use Rattle.step_table.specs.State.{start};
 
 use outstanding::{Ask, KeyedAsk, Path, draw};
@@ -104,11 +103,6 @@ fn retry<'s, H: BuildHasher + Drop, A: Allocator + Copy>(
 ) -> Result<Decision<'s, A>, AllocError>
     requires on { ask_on ask.now.path start.now.state.asks ≡ Some ask.now }
     requires tries { ask.now.used < 255 }
-    requires follows { (next : AskValue) → ask_by start.now.moment ask.now.question ask.now.route server
-        (ask.now.used + 1) (peer_at start.now.config ask.now.route server) (pair_of drawn)
-        ≡ Some next
-        → CanFollow start.now.config start.now.moment start.now.state
-        (without_path ask.now.path start.now.state.asks) next }
     ensures decides { IfOk result (MeetsStep start.now (row_of_attempt start.now.moment ask.now start.now.state
         (ask_by start.now.moment ask.now.question ask.now.route server (ask.now.used + 1)
         (peer_at start.now.config ask.now.route server) (pair_of drawn)))) }
@@ -132,8 +126,6 @@ fn ask_again<'s, H: BuildHasher + Drop, A: Allocator + Copy>(
     next: Ask<A>,
 ) -> Result<Decision<'s, A>, AllocError>
     requires on { ask_on ask.now.path start.now.state.asks ≡ Some ask.now }
-    requires follows { CanFollow start.now.config start.now.moment start.now.state
-        (without_path ask.now.path start.now.state.asks) next }
     ensures decides { IfOk result (MeetsStep start.now (row_of_attempt start.now.moment ask.now start.now.state
         (Some next))) }
 {

@@ -9,7 +9,6 @@
 //!    next ask.
 
 ghost use Rattle.std.specs.Prelude.{◌≡◌, ◌^◌, ◌<◌, ◌≤◌, ◌++◌, List, Bool, filter, is_some, length, map, IfOk};
-ghost use Rattle.std.specs.List.{AllByRecursion};
 ghost use Rattle.outstanding.specs.Lists.{on_path as ask_on, of_question, without_path};
 ghost use Rattle.waiting_questions.specs.Values.{Waiting, waits_for};
 ghost use Rattle.step_table.specs.Attempts.{first_ask_for, preferred_on};
@@ -17,9 +16,9 @@ ghost use Rattle.step_table.specs.Steps.{Fate, ask_list, asks, closing_step, off
 ghost use Rattle.step_table.specs.Steps.{with_promoted};
 ghost use Rattle.step_table.specs.Replies.{row_of_acceptance};
 ghost use Rattle.step_values.specs.Values.{actions_of};
-ghost use Rattle.step_actions.specs.Decision.{MeetsRow, IfFollows, IsRouted, IsSentEarlier};
+ghost use Rattle.step_actions.specs.Decision.{MeetsRow};
 ghost use Rattle.alias_chains.specs.Offering.{pieces_of};
-ghost use Rattle.reply_decisions.specs.Fates.{onward_of, AreFates};
+ghost use Rattle.reply_decisions.specs.Fates.{AreFates};
 ghost use Rattle.reply_decisions.specs.Redirecting.{ask_for, asked_for, closing_state, fates_then};
 ghost use Rattle.reply_decisions.specs.Walked.{walk_on, IsWalkFor};
 ghost use Rattle.step_table.specs.State.{start, from_state};
@@ -171,11 +170,7 @@ fn close_and_send_on<'s, H: BuildHasher + Drop, A: Allocator + Copy>(
     carried: Vec<Held<A>, A>,
 ) -> Result<Decision<'s, A>, AllocError>
     requires on { ask_on answered.now.path start.now.state.asks ≡ Some answered.now }
-    requires earlier { AllByRecursion (λ f. IsSentEarlier start.now.moment (onward_of f)) fates.each }
-    requires follows { IfFollows start.now.config start.now.moment start.now.state
-        (without_path answered.now.path start.now.state.asks) next }
     requires few { length (pieces_of carried.items) < 2 ^ 32 }
-    requires routed { AllByRecursion (IsRouted start.now.config) (pieces_of carried.items) }
     ensures decides { (fate : Waiting → Fate) → AreFates answered.now.question fate start.now.state.waiting
         fates.entry.each
         → IfOk result (MeetsRow start.now (λ rooms. offering_step start.now.moment rooms (pieces_of carried.items)

@@ -10,15 +10,13 @@ use Rattle.outstanding.specs.declared.ask.Path.{Path}
 use Rattle.outstanding.specs.Lists.{on_path as ask_on, Follows, AreInTurn, AreListed, IsInTime}
 use Rattle.outstanding.specs.Values.{Ask, Inquiries}
 use Rattle.step_texts.specs.WaitingQuestions.Values.{Waiting}
-use Rattle.record_cache.specs.Values.{Cache}
-use Rattle.step_texts.specs.StepTable.Progress.{AreTakenInTurn, lesser, least}
+use Rattle.step_texts.specs.StepTable.State.{State}
+use Rattle.step_texts.specs.StepTable.Progress.{AreTakenInTurn, IsKeptAsk, IsState, lesser, least}
 use Rattle.step_texts.specs.StepTable.Replies.{timeout_of}
 use Rattle.step_texts.specs.StepTable.Ticks.{question, deadline_of, first_item}
-use Rattle.step_texts.proofs.StepTable.CallerLemmas.{first_due, first_late, first_deadline, next_due_by_lists, sooner}
-use Rattle.step_actions.specs.Kept.{IsKeptForwarder}
+use Rattle.step_texts.proofs.StepTable.CallerLemmas.{ask_on-is, first_due, first_late, first_deadline, next_due_by_lists, sooner}
 use Rattle.step_actions.specs.declared.due.Oldest.TheVariants.{Question, Ask as OfAsk}
 use Rattle.step_actions.specs.Due.{IsDueFirst}
-use Rattle.step_actions.proofs.Following.{kept_of}
 
 -- ---- the first of a list
 
@@ -43,11 +41,11 @@ oldest_fits c i a config listed there =
     let early : a.asked ≤ 2 ^ 62 = first_of IsInTime i.asks a there listed.in_time in
     let most = config.limits.ask_ms.1 in omega (arith, early, most)
 
-pub timeout_fits : (c : Config) (e : Cache) (i : Inquiries) (ws : List Waiting) (ps : List ℕ) (m k : ℕ) (path : Path) (a : Ask) → IsKeptForwarder c e i ws ps m k → ask_on path i.asks ≡ Some a → timeout_of c a < 2 ^ 64
-timeout_fits c e i ws ps m k path a kept on =
-    let early = (kept_of c m k path i.asks a on kept.asks).earlier in
-    let small = kept.in_time in
-    let most = kept.config.limits.ask_ms.1 in omega (arith, early, small, most)
+pub timeout_fits : (c : Config) (s : State) (path : Path) (a : Ask) → IsState c s → ask_on path s.asks ≡ Some a → timeout_of c a < 2 ^ 64
+timeout_fits c s path a is on =
+    let early = (ask_on-is (IsKeptAsk c s.moment s.tcp_asks) path s.asks a on is.asks).1.earlier in
+    let small = is.in_time in
+    let most = is.config.limits.ask_ms.1 in omega (arith, early, small, most)
 
 -- ---- the least of the asks' moments
 

@@ -10,7 +10,7 @@ use Rattle.step_actions.specs.Decision.{MeetsRow}
 
 pub decides_as : {A : Type 0} {t : StepStart} {made row : List Bool → Done} {d : Decision A} → MeetsRow t made d
     → ((rooms : List Bool) → made rooms ≡ row rooms) → MeetsRow t row d
-decides_as told same = record { row = λ rooms. told.row rooms ∙ same rooms; fits = told.fits }
+decides_as told same = record { row = λ rooms. told.row rooms ∙ same rooms; form = told.form }
 
 pub decides_by : {A : Type 0} (r : Result (Decision A) AllocError) (t : StepStart) (made row : List Bool → Done)
     → IfOk r (MeetsRow t made) → ((rooms : List Bool) → made rooms ≡ row rooms) → IfOk r (MeetsRow t row)

@@ -1,9 +1,8 @@
 -- The decision of a step, before it is put in place.
-use Rattle.std.specs.Prelude.{◌≡◌, ℕ, suc, ◌+◌, ◌^◌, ◌<◌, ◌≤◌, Bool, if◌then◌else◌, not, nat_le, List, [], ◌∷◌, ◌++◌}
+use Rattle.std.specs.Prelude.{◌≡◌, ℕ, suc, ◌+◌, ◌^◌, ◌<◌, Bool, if◌then◌else◌, not, nat_le, List, [], ◌∷◌, ◌++◌}
 use Rattle.std.specs.Prelude.{length, drop, filter, slice_set, Option, Some, None, IsSome, Result, Ok, Err}
 use Rattle.std.specs.declared.alloc.AllocError.{AllocError}
 use Rattle.suffix_routes.specs.Values.{Config}
-use Rattle.suffix_routes.specs.Serving.{serving_route_of}
 use Rattle.dns_message.specs.Values.{Question}
 use Rattle.outstanding.specs.declared.ask.Path.{Path}
 use Rattle.step_actions.specs.declared.decision.Preferred.{Preferred}
@@ -14,18 +13,13 @@ use Rattle.step_actions.specs.declared.decision.Decision.{Decision}
 use Rattle.step_values.specs.Values.{Event, restart, Action, actions_of, Outcome}
 use Rattle.step_texts.specs.StepTable.State.{State, StepStart}
 use Rattle.step_texts.specs.WaitingQuestions.Values.{Waiting, waits_for}
-use Rattle.outstanding.specs.Lists.{on_path as ask_on, without_path, MayBegin, is_tcp}
+use Rattle.outstanding.specs.Lists.{on_path as ask_on, without_path, is_tcp}
 use Rattle.outstanding.specs.Values.{Ask}
 use Rattle.step_texts.specs.StepTable.Steps.{Done, Fate, gets, waits, gives_up, ask_list, tcp_count, closes, reply_in}
 use Rattle.step_texts.specs.StepTable.Steps.{with_promoted, offering_step, sends, transport_of}
-use Rattle.step_texts.specs.StepTable.Attempts.{group_of, servers_in}
 use Rattle.step_texts.specs.StepTable.Row.{is_due_at, Happens}
 use Rattle.answer_builder.specs.Transports.{answer_of}
-use Rattle.trust_rank.specs.Values.{Piece}
 use Rattle.step_texts.specs.Spelling.{Source}
-use Rattle.step_actions.specs.Kept.{IsKeptAsk, HoldsEarlier}
-use Rattle.answer_builder.specs.Answers.{IsEarlier}
-use Rattle.std.specs.List.{AllByRecursion}
 use Rattle.trust_rank.specs.Walks.{most_aliases}
 use Rattle.step_texts.specs.WaitingQuestions.Onward.{Onward}
 use Rattle.step_values.specs.declared.action.Why.TheVariants.{Answered, ChainLong}
@@ -98,67 +92,21 @@ changed n s (AskAgain path b) = record s {
 }
 changed n s (Expire closed) = record s { asks = without_closed closed s.asks; waiting = drop 1 s.waiting; moment = n }
 
--- an ask that may be listed after these
-pub record CanFollow (c : Config) (n : ℕ) (s : State) (listed : List Ask) (a : Ask) : Type 0 where
-  pub begins : MayBegin a listed
-  pub room : length listed < c.limits.inquiries
-  pub kept : IsKeptAsk c n (s.tcp_asks + tcp_count_of a.path) a
-  pub counted : s.tcp_asks + tcp_count_of a.path < 2 ^ 64
-
--- a question that may be accepted now
-pub record CanWait (c : Config) (n : ℕ) (s : State) (x : Waiting) : Type 0 where
-  pub room : length s.waiting < c.limits.questions
-  pub taken : x.taken ≡ n
-  pub aliases : HoldsEarlier n x
-
--- the preferred server is of its own route
-abbrev pub IsServed : Config → Option Preferred → Type 0
-IsServed c None = Unit {0}
-IsServed c (Some p) = p.server < length (servers_in (group_of c p.route))
-
--- the aliases of the redirection were accepted by now
-abbrev pub IsSentEarlier : ℕ → Option Onward → Type 0
-IsSentEarlier n None = Unit {0}
-IsSentEarlier n (Some s) = AllByRecursion (IsEarlier n) s.held
-
 -- as many fates as questions wait for the ask
 abbrev pub AreForThose : Option Ask → List (Option Onward) → List Waiting → Type 0
 AreForThose None onward xs = ⊥
 AreForThose (Some a) onward xs = length onward ≡ length (filter (waits_for a.question) xs)
 
--- the ask, if any, can follow in this state
-abbrev pub IfFollows : Config → ℕ → State → List Ask → Option Ask → Type 0
-IfFollows c n s listed None = Unit {0}
-IfFollows c n s listed (Some a) = CanFollow c n s listed a
+-- an ask that has a next one is listed, and each question waiting for it has its fate
+abbrev pub IsOfListed : {A : Type 0} → State → Change A → Type 0
+IsOfListed s (SendOn b) = AreForThose (ask_on b.value.path s.asks) b.value.onward.items s.waiting
+IsOfListed s (AskAgain path b) = IsSome (ask_on path s.asks)
+IsOfListed s other = Unit {0}
 
--- the questions waiting for the ask on this path may be redirected now
-pub record CanSendOn (c : Config) (n : ℕ) (s : State) (path : Path) (preferred : Preferred)
-    (onward : List (Option Onward)) (next : Option Ask) : Type 0 where
-  pub those : AreForThose (ask_on path s.asks) onward s.waiting
-  pub earlier : AllByRecursion (IsSentEarlier n) onward
-  pub served : IsServed c (Some preferred)
-  pub follows : IfFollows c n s (without_path path s.asks) next
-
--- the change can be put in place in this state
-abbrev pub FitsChange : {A : Type 0} → Config → ℕ → State → Change A → Type 0
-FitsChange c n s Nothing = Unit {0}
-FitsChange c n s (Join b) = CanWait c n s b.value
-FitsChange c n s (Open b) = CanWait c n s b.value.waiting × CanFollow c n s s.asks b.value.ask
-FitsChange c n s (Close path preferred) = IsServed c preferred
-FitsChange c n s (SendOn b) = CanSendOn c n s b.value.path b.value.preferred b.value.onward.items b.value.ask
-FitsChange c n s (AskAgain path b) = IsSome (ask_on path s.asks)
-    × CanFollow c n s (without_path path s.asks) b.value
-FitsChange c n s (Expire closed) = Unit {0}
-
--- a piece for the cache: the route of its ask serves its name
-abbrev pub IsRouted : Config → Piece → Type 0
-IsRouted c p = serving_route_of c p.slot.key ≡ Some p.route
-
--- the allowed changes of now
-pub record CanChange {A : Type 0} (c : Config) (n : ℕ) (s : State) (d : Decision A) : Type 0 where
-  pub fits : FitsChange c n s d.change
+-- the change is of a listed ask, and the pieces can be counted
+pub record HasForm {A : Type 0} (s : State) (d : Decision A) : Type 0 where
+  pub listed : IsOfListed s d.change
   pub few : length (pieces_of d.carried.items) < 2 ^ 32
-  pub routed : AllByRecursion (IsRouted c) (pieces_of d.carried.items)
 
 -- the done step; rooms has true for each new slot that found memory
 abbrev pub next_of : {A : Type 0} → ℕ → List Bool → State → Decision A → Done
@@ -166,12 +114,12 @@ next_of n rooms s d =
     offering_step n rooms (pieces_of d.carried.items)
     (record { actions = actions_of d.actions; unkept = 0; state = changed n (with_promoted d.used s) d.change })
 
--- the decision yields this row, whichever of the new slots find memory, and may be put in place
+-- the decision yields this row, whichever of the new slots find memory
 pub record MeetsRow {A : Type 0} (t : StepStart) (made : List Bool → Done) (d : Decision A) : Type 0 where
   pub row : (rooms : List Bool) → next_of t.moment rooms t.state d ≡ made rooms
-  pub fits : CanChange t.config t.moment t.state d
+  pub form : HasForm t.state d
 
--- the decision yields this step, in which nothing is offered, and may be put in place
+-- the decision yields this step, in which nothing is offered
 abbrev pub MeetsStep : {A : Type 0} → StepStart → Done → Decision A → Type 0
 MeetsStep t step = MeetsRow t (λ rooms. step)
 

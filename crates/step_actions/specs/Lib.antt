@@ -2,7 +2,6 @@ pub mod Attempts
 pub mod Decision
 pub mod Due
 pub mod Fates
-pub mod Kept
 pub mod LookUps
 pub mod Putting
 pub use Rattle.step_texts.specs.AliasChains as AliasChains

@@ -1,14 +1,14 @@
--- How a change is put in place in what a forwarder keeps.
-use Rattle.std.specs.Prelude.{◌≡◌, ℕ, ◌^◌, ◌≤◌, Result, IsOk, OnOk, OnErr}
+-- What is kept from step to step, and how a change is put in place in it.
+use Rattle.std.specs.Prelude.{◌≡◌, ℕ, ◌≤◌, Result, IsOk, OnOk, OnErr}
 use Rattle.std.specs.declared.alloc.AllocError.{AllocError}
 use Rattle.suffix_routes.specs.Values.{Config}
 use Rattle.outstanding.specs.Lists.{AreListed}
 use Rattle.step_texts.specs.StepTable.State.{State}
+use Rattle.step_texts.specs.StepTable.Progress.{IsState}
 use Rattle.step_actions.specs.declared.decision.Change.{Change}
 use Rattle.step_actions.specs.declared.decision.Change.TheVariants.{Nothing}
 use Rattle.step_actions.specs.declared.kept.Kept.{Kept}
-use Rattle.step_actions.specs.Decision.{FitsChange, changed}
-use Rattle.step_actions.specs.Kept.{IsKeptForwarder}
+use Rattle.step_actions.specs.Decision.{changed, IsOfListed}
 
 -- the state that is kept
 abbrev pub state_of : {H A S : Type 0} → Kept H A S → State
@@ -21,24 +21,23 @@ state_of k = record {
   tcp_asks = k.tcp_asks;
 }
 
--- a forwarder with this configuration may keep this
-abbrev pub IsKept : {H A S : Type 0} → Config → Kept H A S → Type 0
-IsKept c k = IsKeptForwarder c k.cache k.inquiries k.waiting.items k.preferred.items k.moment k.tcp_asks
+-- a forwarder with this configuration may keep this: a state, with room for the configured asks
+pub record IsKept {H A S : Type 0} (c : Config) (k : Kept H A S) : Type 0 where
+  pub state : IsState c (state_of k)
+  pub capacity : k.inquiries.capacity ≡ c.limits.inquiries
 
--- under some configuration this is kept, no later than the moment, which is allowed, and the change
--- fits
+-- under some configuration this is kept, no later than the moment, and the change leads to a state
 pub record CanBePut {H A S : Type 0} (n : ℕ) (before : Kept H A S) (change : Change A) : Type 0 where
   pub config : Config
   pub kept : IsKept config before
   pub later : before.moment ≤ n
-  pub in_time : n ≤ 2 ^ 62
-  pub fits : FitsChange config n (state_of before) change
+  pub leads : IsState config (changed n (state_of before) change)
+  pub listed : IsOfListed (state_of before) change
 
 -- The change is in place. If memory ran out nothing changed; a change of no list needs no memory.
 pub record IsPut {H A S : Type 0} (n : ℕ) (before : Kept H A S) (change : Change A)
     (result : Result (Unit {0}) AllocError) (after : Kept H A S) : Type 0 where
   pub ok : OnOk result (state_of after ≡ changed n (state_of before) change)
   pub capacity : after.inquiries.capacity ≡ before.inquiries.capacity
-  pub listed : AreListed after.inquiries
   pub quiet : change ≡ Nothing → IsOk result
   pub err : OnErr result (state_of after ≡ state_of before)

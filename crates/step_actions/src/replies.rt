@@ -9,7 +9,7 @@ ghost use Rattle.answer_builder.specs.Transports.{answer_of};
 ghost use Rattle.step_texts.specs.Spelling.{Source};
 ghost use Rattle.step_values.specs.Values.{action_of, actions_of};
 ghost use Rattle.step_texts.specs.StepTable.Steps.{closes, fails, gives_up, sends, transport_of};
-ghost use Rattle.step_actions.specs.Kept.{HoldsEarlier};
+ghost use Rattle.step_texts.specs.StepTable.Progress.{HoldsEarlier};
 ghost use Rattle.step_actions.specs.Decision.{closing_path, gives_from, reply_from, with_replies};
 
 use outstanding::{KeyedAsk, Path};

@@ -2,7 +2,7 @@
 
 ghost use Rattle.std.specs.Prelude.{◌≡◌, List, Bool, []};
 ghost use Rattle.step_texts.specs.StepTable.Steps.{idle_step};
-ghost use Rattle.step_actions.specs.Decision.{next_of, CanChange, MeetsStep};
+ghost use Rattle.step_actions.specs.Decision.{next_of, MeetsStep};
 ghost use Rattle.step_actions.specs.LookUps.{cache_at};
 
 use crate::decision::{Change, Decision};
@@ -32,7 +32,7 @@ pub struct StepStartRef<'a, H: BuildHasher, A: Allocator = Global> {
 impl<'a, H: BuildHasher, A: Allocator> Model for StepStartRef<'a, H, A> {
     ghost use Rattle.std.specs.Prelude.{◌≤◌, ◌^◌};
     ghost use Rattle.step_texts.specs.StepTable.State.{StepStart};
-    ghost use Rattle.step_actions.specs.Kept.{IsKeptForwarder};
+    ghost use Rattle.step_actions.specs.Putting.{state_of, IsKept};
 
     ghost Value = { StepStart };
 
@@ -40,18 +40,10 @@ impl<'a, H: BuildHasher, A: Allocator> Model for StepStartRef<'a, H, A> {
       config = f.config.now;
       moment = f.moment;
       words = f.words;
-      state = record {
-        cache = f.kept.now.cache;
-        asks = f.kept.now.inquiries.asks;
-        waiting = f.kept.now.waiting.items;
-        preferred = f.kept.now.preferred.items;
-        moment = f.kept.now.moment;
-        tcp_asks = f.kept.now.tcp_asks;
-      };
+      state = state_of f.kept.now;
     } };
 
-    ghost invariant = { λ f. IsKeptForwarder f.config.now f.kept.now.cache f.kept.now.inquiries f.kept.now.waiting.items
-        f.kept.now.preferred.items f.kept.now.moment f.kept.now.tcp_asks × (f.kept.now.moment ≤ f.moment)
+    ghost invariant = { λ f. IsKept f.config.now f.kept.now × (f.kept.now.moment ≤ f.moment)
         × (f.moment ≤ 2 ^ 62) };
 }
 

@@ -1,11 +1,11 @@
 //! The forwarder, and its step.
 
-ghost use Rattle.std.specs.Prelude.{◌≡◌, ◌^◌, ◌≤◌, ◌<◌, ◌+◌, ◌*◌, [], ◌∷◌, false, IfOk, OnErr, IsOk, map};
+ghost use Rattle.std.specs.Prelude.{◌≡◌, ℕ, ◌^◌, ◌≤◌, ◌<◌, ◌+◌, ◌*◌, [], ◌∷◌, false, IfOk, OnErr, IsOk, map};
 ghost use Rattle.step_values.specs.Values.{event_of};
 ghost use Rattle.step_table.specs.State.{start};
 ghost use Rattle.step_table.specs.Steps.{initial};
 ghost use Rattle.step_table.specs.Row.{TakesNoMemory, effective, Row};
-ghost use Rattle.step_table.specs.Progress.{left_to_do, ServesSomething, next_due, IsInOrder};
+ghost use Rattle.step_table.specs.Progress.{left_to_do, ServesSomething, next_due, IsState};
 ghost use Rattle.theorem_use.specs.TheoremSound.Runs.{StaysExplained};
 ghost use Rattle.theorem_use.specs.TheoremSound.Explains.{Explains};
 ghost use Rattle.theorem_use.specs.Mirrors.{FullyExplains, StaysFullyExplained};
@@ -16,6 +16,7 @@ mod change;
 mod tick;
 
 use crate::deciding::decide;
+use crate::forwarder::change::keep;
 use client_decisions::{Decision, Kept, StepStartRef};
 use outstanding::Inquiries;
 use record_cache::{Cache, LookUpSlot};
@@ -39,24 +40,13 @@ pub struct Forwarder<H: BuildHasher, A: Allocator = Global> {
 
 impl<H: BuildHasher, A: Allocator> Model for Forwarder<H, A> {
     ghost use Rattle.step_table.specs.State.{Running};
-    ghost use Rattle.client_decisions.specs.StepActions.Kept.{IsKeptForwarder};
+    ghost use Rattle.client_decisions.specs.StepActions.Putting.{state_of, IsKept};
 
     ghost Value = { Running };
 
-    ghost view = { λ f. record {
-      config = f.config;
-      state = record {
-        cache = f.kept.cache;
-        asks = f.kept.inquiries.asks;
-        waiting = f.kept.waiting.items;
-        preferred = f.kept.preferred.items;
-        moment = f.kept.moment;
-        tcp_asks = f.kept.tcp_asks;
-      };
-    } };
+    ghost view = { λ f. record { config = f.config; state = state_of f.kept } };
 
-    ghost invariant = { λ f. IsKeptForwarder f.config f.kept.cache f.kept.inquiries f.kept.waiting.items
-        f.kept.preferred.items f.kept.moment f.kept.tcp_asks };
+    ghost invariant = { λ f. IsKept f.config f.kept };
 }
 
 impl<H: BuildHasher + Drop, A: Allocator + Copy> Forwarder<H, A> {
@@ -164,14 +154,14 @@ impl<H: BuildHasher + Drop, A: Allocator + Copy> Forwarder<H, A> {
     ) -> Result<Outcome<A>, AllocError>
         ensures acts { Acts self.old (record { now = now; words = words; event = event_of event.now }) result
             self.new }
-        ensures in_order { IsInOrder self.old.config self.old.state }
+        ensures state { IsState self.old.config self.old.state }
     {
         let moment = self.effective(now);
         if self.is_idle_tick(moment, event) {
             self.pass(moment);
             return Ok(self.nothing_done());
         }
-        self.act_on(now, words, event)
+        self.act_on(moment, words, event)
     }
 
     /// Decides an event, and puts the decision in place: first its change, then its part in the
@@ -179,14 +169,15 @@ impl<H: BuildHasher + Drop, A: Allocator + Copy> Forwarder<H, A> {
     #[inline(never)]
     fn act_on(
         &mut self,
-        now: u64,
+        moment: u64,
         words: [u32; 8],
         event: &Event<A>,
     ) -> Result<Outcome<A>, AllocError>
-        ensures { Acts self.old (record { now = now; words = words; event = event_of event.now }) result
-            self.new }
+        requires later { self.old.state.moment ≤ moment }
+        requires in_time { moment ≤ 2 ^ 62 }
+        ensures { (now : ℕ) → moment ≡ effective now self.old.state
+            → Acts self.old (record { now = now; words = words; event = event_of event.now }) result self.new }
     {
-        let moment = self.effective(now);
         let mut slot = LookUpSlot::new();
         let Some(
             Decision {
@@ -195,13 +186,13 @@ impl<H: BuildHasher + Drop, A: Allocator + Copy> Forwarder<H, A> {
                 change,
                 carried,
             },
-        ) = decide(&self.start(now, words), &mut slot, event)?
+        ) = decide(&self.start(moment, words), &mut slot, event)?
         else {
             self.restart();
             return Ok(self.nothing_done());
         };
         self.kept.put(moment, change)?;
-        let unkept = self.keep(&used, carried);
+        let unkept = keep(&mut self.kept.cache, &used, carried, moment);
         let more = self.is_due();
         Ok(Outcome {
             actions,
@@ -211,25 +202,27 @@ impl<H: BuildHasher + Drop, A: Allocator + Copy> Forwarder<H, A> {
     }
 
     /// The forwarder at the start of a step, borrowed, with the moment and the words of the step.
-    fn start(&self, now: u64, words: [u32; 8]) -> StepStartRef<'_, H, A>
-        ensures { result ≡ start self.now.config (effective now self.now.state) words self.now.state }
+    fn start(&self, moment: u64, words: [u32; 8]) -> StepStartRef<'_, H, A>
+        requires later { self.now.state.moment ≤ moment }
+        requires in_time { moment ≤ 2 ^ 62 }
+        ensures { result ≡ start self.now.config moment words self.now.state }
     {
         StepStartRef {
             alloc: self.alloc,
             config: &self.config,
             kept: &self.kept,
-            moment: self.effective(now),
+            moment,
             words,
         }
     }
 
-    /// The greatest moment so far, at most 2^62 ms. The clause `in_order` repeats the facts about
-    /// each forwarder: both lists are in the order of time and within their limits.
+    /// The greatest moment so far, at most 2^62 ms. The clause `state` repeats the facts about each
+    /// forwarder.
     fn effective(&self, now: u64) -> u64
         ensures value { result ≡ effective now self.now.state }
         ensures later { self.now.state.moment ≤ result }
         ensures in_time { result ≤ 2 ^ 62 }
-        ensures in_order { IsInOrder self.now.config self.now.state }
+        ensures state { IsState self.now.config self.now.state }
     {
         now.min(LATEST).max(self.kept.moment)
     }

@@ -7,9 +7,6 @@ use Rattle.client_decisions.proofs.Clients.{joined_row, new_row}
 use Rattle.step_actions.proofs.CallerLemmas.{decides_by}
 use Rattle.client_decisions.proofs.client.admit.Goals as goal
 
-pub join-requires-clause-waits : goal.join-requires-clause-waits
-join-requires-clause-waits g c = record { room = c.requires.room; taken = c.requires.taken; aliases = c.requires.aliases }
-
 pub ask_anew-requires-clause-new : goal.ask_anew-requires-clause-new
 ask_anew-requires-clause-new g c =
     ap (λ (r : StepStart). of_question c.args.waiting.wanted r.state.asks) (sym c.start.view_is)

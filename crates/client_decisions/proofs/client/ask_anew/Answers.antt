@@ -1,17 +1,12 @@
-use Rattle.std.proofs.Common.{◌≡◌, ◌∙◌, ◌≤◌, length, sym, ap, subst, refl, Some, None, arith}
+use Rattle.std.proofs.Common.{◌≡◌, ◌∙◌, ◌≤◌, length, sym, ap, refl, Some, None, arith}
 use Rattle.std.specs.Prelude.{nat_le}
 use Rattle.std.proofs.lemmas.Bool.{cond-true, le-leb}
-use Rattle.outstanding.specs.Lists.{of_question}
 use Rattle.step_values.specs.declared.action.Why.TheVariants.{InquiriesFull, NoPort}
-use Rattle.suffix_routes.specs.Serving.{serving_route_of}
-use Rattle.dns_message.specs.Values.{Question}
-use Rattle.step_actions.specs.StepTable.State.{StepStart, start}
-use Rattle.step_actions.specs.StepTable.Attempts.{first_ask}
+use Rattle.step_actions.specs.StepTable.State.{StepStart}
 use Rattle.step_actions.specs.StepTable.Steps.{failed, reply_step, with_promoted}
-use Rattle.step_actions.specs.Decision.{CanFollow}
 use Rattle.client_decisions.proofs.Clients.{opened_row}
 use Rattle.step_actions.proofs.StepTable.CallerLemmas.{ask_by-some}
-use Rattle.step_actions.proofs.CallerLemmas.{first_follows, decides_by}
+use Rattle.step_actions.proofs.CallerLemmas.{decides_by}
 use Rattle.client_decisions.proofs.client.ask_anew.Goals as goal
 
 pub returns : goal.returns
@@ -42,33 +37,6 @@ returns-in-Some g c = record {
       c.if-len-config.false in omega (arith, count, test, limit))
       c.requires.on c.wanted.ensures (sym c.in-Some.is ∙ c.in_ok-ask.ensures) refl);
 }
-
-pub open-requires-clause-follows : goal.open-requires-clause-follows
-open-requires-clause-follows g c =
-    subst (λ (r : StepStart). CanFollow r.config r.moment r.state r.state.asks c.in-Some.ask) c.start.view_is
-    (first_follows c.start.inside.config.now c.start.inside.moment c.start.inside.words c.wanted.result.now c.args.route
-    (record {
-      cache = c.start.inside.kept.now.cache;
-      asks = c.start.inside.kept.now.inquiries.asks;
-      waiting = c.start.inside.kept.now.waiting.items;
-      preferred = c.start.inside.kept.now.preferred.items;
-      moment = c.start.inside.kept.now.moment;
-      tcp_asks = c.start.inside.kept.now.tcp_asks;
-    }) c.start.inside.kept.now.inquiries c.start.inside.kept.now.preferred.items c.in-Some.ask
-    c.start.invariant.0 refl
-    (subst (λ (q : Question). serving_route_of c.start.inside.config.now q.name ≡ Some c.args.route) (sym c.wanted.ensures)
-    (subst (λ (r : StepStart). serving_route_of r.config c.args.waiting.wanted.name ≡ Some c.args.route)
-    (sym c.start.view_is) c.requires.on))
-    c.start.invariant.1 c.start.invariant.2
-    (subst (λ (q : Question). of_question q c.start.inside.kept.now.inquiries.asks ≡ None) (sym c.wanted.ensures)
-    (subst (λ (r : StepStart). of_question c.args.waiting.wanted r.state.asks ≡ None) (sym c.start.view_is) c.requires.new))
-    (let count = c.len.ensures.count in let asks : length c.start.inside.kept.now.inquiries.asks
-    ≡ length c.args.start.now.state.asks = ap (λ (r : StepStart). length r.state.asks) c.start.view_is in let limit :
-    c.config.inside.limits.inquiries ≡ c.start.inside.config.now.limits.inquiries = λ i.
-    (c.config.view_is i).limits.inquiries in let test = c.if-len-config.false in omega
-    (arith, count, asks, test, limit))
-    (sym c.in-Some.is ∙ c.in_ok-ask.ensures ∙ ap (λ (r : StepStart). first_ask
-    (start r.config r.moment r.words r.state) c.wanted.result.now c.args.route) (sym c.start.view_is)))
 
 -- the ask is for the wanted question
 pub open-requires-clause-same : goal.open-requires-clause-same

@@ -4,6 +4,7 @@ use Rattle.std.proofs.lemmas.Result.{IfOk-weaker}
 use Rattle.step_actions.specs.StepTable.State.{StepStart, start}
 use Rattle.step_actions.specs.StepTable.Attempts.{ask_by, first_ask, peer_at}
 use Rattle.step_actions.specs.Attempts.{pair_of}
+use Rattle.step_actions.specs.Putting.{state_of}
 use Rattle.client_decisions.proofs.Clients.{asked_first}
 use Rattle.client_decisions.proofs.client.first_ask.Goals as goal
 
@@ -16,14 +17,7 @@ returns g c =
     subst (λ (r : StepStart). ask ≡ first_ask (start r.config r.moment r.words r.state) c.args.question.now c.args.route)
     c.start.view_is
     (asked_first c.start.inside.config.now c.start.inside.moment c.start.inside.words c.args.question.now c.args.route
-    (record {
-      cache = c.start.inside.kept.now.cache;
-      asks = c.start.inside.kept.now.inquiries.asks;
-      waiting = c.start.inside.kept.now.waiting.items;
-      preferred = c.start.inside.kept.now.preferred.items;
-      moment = c.start.inside.kept.now.moment;
-      tcp_asks = c.start.inside.kept.now.tcp_asks;
-    })
+    (state_of c.start.inside.kept.now)
     c.unwrap_or-server.result c.draw.result (pair_of c.by_udp-drawn.result) ask server c.draw.ensures.drawn
     c.by_udp-drawn.ensures
     (is ∙ (λ i. ask_by (sym c.start.view_is i).moment c.args.question.now c.args.route c.unwrap_or-server.result 1

@@ -1,11 +1,9 @@
-use Rattle.std.proofs.Common.{ap, sym, subst, refl, ◌∙◌}
+use Rattle.std.proofs.Common.{ap, refl, ◌∙◌}
 use Rattle.std.specs.Prelude.{map}
 use Rattle.record_cache.specs.Values.{Held}
-use Rattle.step_actions.specs.WaitingQuestions.Values.{Waiting}
 use Rattle.step_values.specs.Values.{actions_of}
 use Rattle.step_actions.specs.StepTable.Steps.{with_promoted}
 use Rattle.step_actions.specs.declared.decision.Change.TheVariants.{Join}
-use Rattle.step_actions.specs.Decision.{CanWait}
 use Rattle.step_actions.proofs.CallerLemmas.{carries_nothing, next_is}
 use Rattle.client_decisions.proofs.Clients.{joined_is}
 use Rattle.client_decisions.proofs.client.join.Goals as goal
@@ -24,10 +22,6 @@ returns g c = record {
         ∙ joined_is g.row.A.Denot c.args.start.now.moment (with_promoted c.args.used c.args.start.now.state)
         c.args.waiting c.in_ok-joined.joined _ (c.in_ok-joined.ensures.ok ∙ c.new.ensures)
         (ap (λ xs. actions_of {A = g.row.A.Denot} xs) c.new-3.ensures);
-    fits =
-        carries_nothing c.args.start.now.config c.args.start.now.moment c.args.start.now.state _
-        (ap (map (λ (h : Held). h.piece)) c.new-4.ensures.items)
-        (subst (λ (x : Waiting). CanWait c.args.start.now.config c.args.start.now.moment c.args.start.now.state x)
-        (sym (c.in_ok-joined.ensures.ok ∙ c.new.ensures)) c.requires.waits);
+    form = carries_nothing c.args.start.now.state _ (ap (map (λ (h : Held). h.piece)) c.new-4.ensures.items) tt;
   };
 }

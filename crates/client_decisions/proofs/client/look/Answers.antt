@@ -4,7 +4,7 @@ use Rattle.answer_builder.specs.Answers.{IsEarlier}
 use Rattle.plain_values.specs.Borrowed.{lent}
 use Rattle.step_actions.specs.AliasChains.LookingUp.{LookUp, goes_on}
 use Rattle.step_actions.specs.AliasChains.Looked.{chain_of}
-use Rattle.step_actions.proofs.AliasChains.CallerLemmas.{look_up_holds, held_holds}
+use Rattle.step_actions.proofs.AliasChains.CallerLemmas.{look_up_holds}
 use Rattle.step_actions.specs.WaitingQuestions.Values.{Waiting}
 use Rattle.step_actions.specs.StepTable.State.{StepStart}
 use Rattle.step_actions.specs.StepTable.Clients.{fate_of, waits_with}
@@ -26,7 +26,7 @@ fate_of-requires g c =
     (look_up_holds (IsEarlier t.moment) t.config.routes t.moment t.state.cache.entries
     (subst (λ (r : StepStart). AllByRecursion (IsEarlier r.moment) r.state.cache.entries) c.start.view_is
     (later_entries c.start.inside.kept.now.moment c.start.inside.moment c.start.inside.kept.now.cache.entries c.start.invariant.1
-    c.start.invariant.0.accepted))
+    c.start.invariant.0.state.accepted))
     [] c.args.request.now.wanted tt) in
     record { earlier = earlier }
 
@@ -51,22 +51,6 @@ wait-requires-clause-own g c =
     own_waits t.config.routes t.moment t.state.cache.entries c.args.request.now c.in_ok-looked.looked
     (sym (ap (λ (x : Waiting). x.held) c.request.view_is)) exact
 
-pub wait-requires-clause-aliases : goal.wait-requires-clause-aliases
-wait-requires-clause-aliases g c =
-    let t = c.args.start.now in
-    let exact : c.in_ok-looked.looked ≡ goes_on t.config.routes t.moment t.state.cache.entries [] c.args.request.now.wanted =
-    c.in_ok-looked.ensures.exact
-    ∙ (λ i. goes_on (c.cache_at.ensures i).config.routes (c.cache_at.ensures i).moment (c.cache_at.ensures i).cache.entries
-    (lent (c.new-none.ensures.items i)) (c.request.view_is i).wanted) in
-    let earlier : AllByRecursion (IsEarlier t.moment) (chain_of c.in_ok-looked.looked) =
-    subst (λ (l : LookUp). AllByRecursion (IsEarlier t.moment) (chain_of l)) (sym exact)
-    (look_up_holds (IsEarlier t.moment) t.config.routes t.moment t.state.cache.entries
-    (subst (λ (r : StepStart). AllByRecursion (IsEarlier r.moment) r.state.cache.entries) c.start.view_is
-    (later_entries c.start.inside.kept.now.moment c.start.inside.moment c.start.inside.kept.now.cache.entries c.start.invariant.1
-    c.start.invariant.0.accepted))
-    [] c.args.request.now.wanted tt) in
-    held_holds (IsEarlier t.moment) c.in_ok-looked.looked earlier
-
 pub returns-in-Reply : goal.returns-in-Reply
 returns-in-Reply g c = record {
   decides =
@@ -78,7 +62,7 @@ returns-in-Reply g c = record {
       decides_by c.reply.result _ _ _ c.reply.ensures.decides (λ rooms.
       fate_row t.config t.moment t.words c.args.request.now t.state _ _
       (subst (λ (r : StepStart). AllByRecursion (IsOnRoute r.config) r.state.cache.entries) c.start.view_is
-      c.start.invariant.0.cache.on_routes)
+      c.start.invariant.0.state.cache.on_routes)
       (c.into_slots.ensures ∙ ap (λ (l : LookUp). l.used) exact)
       (subst (IsFate t c.args.request.now c.in_ok-looked.looked) c.in-Reply.is c.in_ok-fate.ensures
       ∙ ap (λ (l : LookUp). fate_of t.config t.moment c.args.request.now l) exact));
@@ -95,7 +79,7 @@ returns-in-Waits g c = record {
       decides_by c.wait.result _ _ _ c.wait.ensures.decides (λ rooms.
       fate_row t.config t.moment t.words c.args.request.now t.state _ _
       (subst (λ (r : StepStart). AllByRecursion (IsOnRoute r.config) r.state.cache.entries) c.start.view_is
-      c.start.invariant.0.cache.on_routes)
+      c.start.invariant.0.state.cache.on_routes)
       (ap (λ (l : LookUp). l.used) exact)
       ((subst (IsFate t c.args.request.now c.in_ok-looked.looked) c.in-Waits.is c.in_ok-fate.ensures).0
       ∙ ap (λ (l : LookUp). fate_of t.config t.moment c.args.request.now l) exact));

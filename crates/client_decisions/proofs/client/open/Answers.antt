@@ -1,11 +1,10 @@
-use Rattle.std.proofs.Common.{ap, sym, subst, refl, ◌∙◌, ◌∷◌, []}
+use Rattle.std.proofs.Common.{ap, refl, ◌∙◌, ◌∷◌, []}
 use Rattle.std.specs.Prelude.{map}
 use Rattle.record_cache.specs.Values.{Held}
 use Rattle.step_values.specs.Values.{actions_of}
 use Rattle.step_actions.specs.StepTable.Steps.{with_promoted}
 use Rattle.step_actions.specs.declared.decision.Change.TheVariants.{Open}
 use Rattle.step_actions.specs.declared.decision.Opening.{Opening}
-use Rattle.step_actions.specs.Decision.{CanWait, CanFollow}
 use Rattle.step_actions.proofs.CallerLemmas.{carries_nothing, next_is}
 use Rattle.client_decisions.proofs.Clients.{opened_is}
 use Rattle.client_decisions.proofs.client.open.Goals as goal
@@ -27,17 +26,6 @@ returns g c = record {
         (ap (λ (o : Opening g.row.A.Denot). o.ask) c.in_ok-opening.ensures.ok ∙ c.new-2.ensures)
         (ap (λ xs. actions_of {A = g.row.A.Denot} xs) c.one.ensures
         ∙ (λ i. c.in_ok-action.ensures i ∷ []));
-    fits =
-        carries_nothing c.args.start.now.config c.args.start.now.moment c.args.start.now.state _
-        (ap (map (λ (h : Held). h.piece)) c.new-4.ensures.items)
-        (subst (λ (o : Opening g.row.A.Denot). CanWait c.args.start.now.config c.args.start.now.moment
-        c.args.start.now.state o.waiting × CanFollow c.args.start.now.config c.args.start.now.moment c.args.start.now.state
-        c.args.start.now.state.asks o.ask)
-        (sym c.in_ok-opening.ensures.ok) (
-          subst (CanWait c.args.start.now.config c.args.start.now.moment c.args.start.now.state) (sym c.new.ensures)
-              c.requires.waits,
-          subst (CanFollow c.args.start.now.config c.args.start.now.moment c.args.start.now.state
-              c.args.start.now.state.asks) (sym c.new-2.ensures) c.requires.follows,
-        ));
+    form = carries_nothing c.args.start.now.state _ (ap (map (λ (h : Held). h.piece)) c.new-4.ensures.items) tt;
   };
 }

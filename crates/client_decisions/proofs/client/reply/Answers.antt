@@ -9,8 +9,6 @@ pub returns : goal.returns
 returns g c = record {
   decides = record {
     row = λ rooms. grind (arith, common_steps);
-    fits =
-        carries_nothing c.args.start.now.config c.args.start.now.moment c.args.start.now.state _
-        (ap (map (λ (h : Held). h.piece)) c.new.ensures.items) tt;
+    form = carries_nothing c.args.start.now.state _ (ap (map (λ (h : Held). h.piece)) c.new.ensures.items) tt;
   };
 }

@@ -66,14 +66,14 @@ returns-in_ok-next-in-Delivery-clause-no_memory g c = λ quiet.
     (subst (λ (e : OwnedEvent g.row.A.Denot). TakesNoMemory c.args.start.now.config c.args.start.now.moment
     c.args.start.now.state (event_of e)) c.in-Delivery.is quiet))
 
-pub returns-in_ok-next-in-Client-clause-fits : goal.returns-in_ok-next-in-Client-clause-fits
-returns-in_ok-next-in-Client-clause-fits g c = c.in_ok-next-in-Client.ensures.decides.fits
+pub returns-in_ok-next-in-Client-clause-form : goal.returns-in_ok-next-in-Client-clause-form
+returns-in_ok-next-in-Client-clause-form g c = c.in_ok-next-in-Client.ensures.decides.form
 
-pub returns-in_ok-next-in-Delivery-clause-fits : goal.returns-in_ok-next-in-Delivery-clause-fits
-returns-in_ok-next-in-Delivery-clause-fits g c = c.in_ok-next-in-Delivery.ensures.decides.fits
+pub returns-in_ok-next-in-Delivery-clause-form : goal.returns-in_ok-next-in-Delivery-clause-form
+returns-in_ok-next-in-Delivery-clause-form g c = c.in_ok-next-in-Delivery.ensures.decides.form
 
-pub returns-in_ok-next-in-PathFailed-clause-fits : goal.returns-in_ok-next-in-PathFailed-clause-fits
-returns-in_ok-next-in-PathFailed-clause-fits g c = c.in_ok-next-in-PathFailed.ensures.decides.fits
+pub returns-in_ok-next-in-PathFailed-clause-form : goal.returns-in_ok-next-in-PathFailed-clause-form
+returns-in_ok-next-in-PathFailed-clause-form g c = c.in_ok-next-in-PathFailed.ensures.decides.form
 
-pub returns-in_ok-next-in-Tick-clause-fits : goal.returns-in_ok-next-in-Tick-clause-fits
-returns-in_ok-next-in-Tick-clause-fits g c = c.in_ok-next-in-Tick.ensures.decides.fits
+pub returns-in_ok-next-in-Tick-clause-form : goal.returns-in_ok-next-in-Tick-clause-form
+returns-in_ok-next-in-Tick-clause-form g c = c.in_ok-next-in-Tick.ensures.decides.form

@@ -1,12 +1,11 @@
-use Rattle.std.proofs.Common.{◌∙◌, ap, sym, subst, [], ◌∷◌, ◌++◌}
-use Rattle.outstanding.specs.Lists.{on_path as ask_on, without_path}
-use Rattle.step_actions.specs.Decision.{CanFollow}
+use Rattle.std.proofs.Common.{◌∙◌, ap, [], ◌∷◌, ◌++◌}
+use Rattle.outstanding.specs.Lists.{on_path as ask_on}
 use Rattle.step_values.specs.Values.{actions_of}
 use Rattle.step_table.specs.Steps.{closes}
 use Rattle.outstanding.specs.Values.{Ask}
 use Rattle.step_actions.specs.declared.decision.Change.TheVariants.{AskAgain}
 use Rattle.reply_decisions.proofs.Deciding.{listed_some, again_row}
-use Rattle.step_actions.proofs.CallerLemmas.{plain_next, fits_plain}
+use Rattle.step_actions.proofs.CallerLemmas.{plain_form, plain_next}
 use Rattle.reply_decisions.proofs.attempt.ask_again.Goals as goal
 
 pub returns : goal.returns
@@ -25,17 +24,8 @@ returns g c = record {
         (c.in_ok-push.ensures.ok ∙ ap (λ xs. xs ++ c.in_ok-action.action ∷ []) c.one-actions.ensures)
         ∙ (λ i. (c.close_path.ensures ∙ ap (λ (a : Ask). closes a.path) (c.asked.view_is ∙ c.ask-asked.ensures)) i ∷ c.in_ok-action.ensures i
         ∷ [])));
-    fits =
-        fits_plain c.args.start.now.config c.args.start.now.moment c.args.start.now.state c.without_cache.result
-        (AskAgain c.asked.inside.path c.in_ok-next.next) c.without_cache.ensures.change (
-          listed_some c.asked.inside.path c.args.start.now.state.asks c.args.ask.now
-              (ap (λ (a : Ask). ask_on a.path c.args.start.now.state.asks) (c.asked.view_is ∙ c.ask-asked.ensures)
-              ∙ c.requires.on),
-          subst (λ (a : Ask). CanFollow c.args.start.now.config c.args.start.now.moment c.args.start.now.state
-              (without_path c.asked.inside.path c.args.start.now.state.asks) a) (sym c.in_ok-next.ensures.ok)
-              (subst (λ (a : Ask). CanFollow c.args.start.now.config c.args.start.now.moment c.args.start.now.state
-              (without_path a.path c.args.start.now.state.asks) c.args.next)
-              (sym (c.asked.view_is ∙ c.ask-asked.ensures)) c.requires.follows),
-        ) c.without_cache.ensures.carried;
+    form = plain_form c.args.start.now.state c.without_cache.result (AskAgain c.asked.inside.path c.in_ok-next.next) c.without_cache.ensures.change
+        (listed_some c.asked.inside.path c.args.start.now.state.asks c.args.ask.now
+        (ap (λ (a : Ask). ask_on a.path c.args.start.now.state.asks) (c.asked.view_is ∙ c.ask-asked.ensures) ∙ c.requires.on)) c.without_cache.ensures.carried;
   };
 }

@@ -3,82 +3,44 @@ use Rattle.outstanding.specs.declared.ask.Path.{Path}
 use Rattle.outstanding.specs.Draws.{drawn_by_tcp, udp_draw}
 use Rattle.step_table.specs.Failures.{row_of_attempt, row_of_next}
 use Rattle.retry_failover.specs.declared.Plan.{Plan}
+use Rattle.retry_failover.specs.declared.Next.TheVariants.{AskUdp, AskTcp, GiveUp}
 use Rattle.retry_failover.specs.Table.{after_failure}
-use Rattle.outstanding.specs.Lists.{on_path as ask_on, without_path}
+use Rattle.outstanding.specs.Lists.{on_path as ask_on}
 use Rattle.outstanding.specs.Values.{Ask}
 use Rattle.step_table.specs.State.{StepStart}
 use Rattle.step_table.specs.Attempts.{ask_by, group_of, peer_at, servers_in, over_udp, over_tcp, freed_by, plan_of}
-use Rattle.step_actions.specs.Decision.{CanFollow}
-use Rattle.step_actions.proofs.CallerLemmas.{server_within, more_left, udp_goes_on, tcp_goes_on, next_by_udp, next_by_tcp, decides_by}
+use Rattle.step_actions.specs.Putting.{state_of}
+use Rattle.step_actions.proofs.CallerLemmas.{server_within, more_left, decides_by}
 use Rattle.reply_decisions.proofs.attempt.fail.Goals as goal
 
 pub plan-plan-requires-clause-server : goal.plan-plan-requires-clause-server
 plan-plan-requires-clause-server g c =
-    subst (λ (a : Ask). a.server < length (servers_in (group_of c.start.inside.config.now a.route)))
-    (sym c.ask-asked.ensures)
-    (server_within c.start.inside.config.now c.start.inside.kept.now.moment
-    c.start.inside.kept.now.tcp_asks c.args.ask.now.path c.start.inside.kept.now.inquiries.asks c.args.ask.now
-    (subst (λ (r : StepStart). ask_on c.args.ask.now.path r.state.asks ≡ Some c.args.ask.now) (sym c.start.view_is) c.requires.on)
-    c.start.invariant.0.asks)
+    subst (λ (a : Ask). a.server < length (servers_in (group_of c.start.inside.config.now a.route))) (sym c.ask-asked.ensures)
+    (server_within c.start.inside.config.now (state_of c.start.inside.kept.now) c.start.invariant.0.state c.args.ask.now
+    (subst (λ (r : StepStart). ask_on c.args.ask.now.path r.state.asks ≡ Some c.args.ask.now) (sym c.start.view_is) c.requires.on))
 
 pub after-requires : goal.after-requires
 after-requires g c = subst (λ (p : Plan). p.server < p.servers) (sym (c.plan-plan.ensures ∙ ap (plan_of c.start.inside.config.now) c.ask-asked.ensures))
-    (server_within c.start.inside.config.now c.start.inside.kept.now.moment c.start.inside.kept.now.tcp_asks c.args.ask.now.path
-    c.start.inside.kept.now.inquiries.asks c.args.ask.now (subst
-    (λ (r : StepStart). ask_on c.args.ask.now.path r.state.asks ≡ Some c.args.ask.now) (sym c.start.view_is) c.requires.on)
-    c.start.invariant.0.asks)
+    (server_within c.start.inside.config.now (state_of c.start.inside.kept.now) c.start.invariant.0.state c.args.ask.now
+    (subst (λ (r : StepStart). ask_on c.args.ask.now.path r.state.asks ≡ Some c.args.ask.now) (sym c.start.view_is) c.requires.on))
 
 pub retry-requires-clause-tries : goal.retry-requires-clause-tries
 retry-requires-clause-tries g c =
-    let more = more_left c.start.inside.config.now c.start.inside.kept.now.cache c.start.inside.kept.now.inquiries
-    c.start.inside.kept.now.waiting.items c.start.inside.kept.now.preferred.items c.start.inside.kept.now.moment c.start.inside.kept.now.tcp_asks
-    c.args.ask.now.path c.args.ask.now c.args.failure c.start.invariant.0
-    (subst (λ (r : StepStart). ask_on c.args.ask.now.path r.state.asks ≡ Some c.args.ask.now) (sym c.start.view_is) c.requires.on)
-    (udp_goes_on _ c.in-AskUdp.server (ap (λ (p : Plan). after_failure p c.args.failure) (sym (c.plan-plan.ensures ∙ ap (plan_of c.start.inside.config.now) c.ask-asked.ensures))
-    ∙ sym c.in-AskUdp.ensures)) in
-    let most = c.start.invariant.0.config.limits.tries.1 in omega (arith, more, most)
-
-pub retry-requires-clause-follows : goal.retry-requires-clause-follows
-retry-requires-clause-follows g c =
-    λ next is. subst (λ (r : StepStart). CanFollow r.config r.moment r.state (without_path c.args.ask.now.path r.state.asks) next)
-    c.start.view_is
-    (next_by_udp c.start.inside.config.now c.start.inside.kept.now.cache c.start.inside.kept.now.inquiries
-    c.start.inside.kept.now.waiting.items c.start.inside.kept.now.preferred.items c.start.inside.kept.now.moment c.start.inside.kept.now.tcp_asks
-    c.start.inside.moment c.start.inside.words c.args.ask.now.path c.args.ask.now c.args.failure c.start.invariant.0
-    c.start.invariant.1 c.start.invariant.2
-    (subst (λ (r : StepStart). ask_on c.args.ask.now.path r.state.asks ≡ Some c.args.ask.now) (sym c.start.view_is) c.requires.on)
-    c.in-AskUdp.server (ap (λ (p : Plan). after_failure p c.args.failure) (sym (c.plan-plan.ensures ∙ ap (plan_of c.start.inside.config.now) c.ask-asked.ensures))
-    ∙ sym c.in-AskUdp.ensures) next
-    ((λ i. ask_by (c.start.view_is i).moment c.args.ask.now.question c.args.ask.now.route c.in-AskUdp.server
-    (c.args.ask.now.used + 1) (peer_at (c.start.view_is i).config c.args.ask.now.route c.in-AskUdp.server)
-    (sym (c.by_udp.ensures ∙ ap over_udp (c.draw-drawn.ensures.drawn
-    ∙ ap (udp_draw c.start.inside.words c.start.inside.kept.now.inquiries.asks)
-    (c.freed_port.ensures ∙ ap (λ (a : Ask). freed_by a.path) (c.asked.view_is ∙ c.ask-asked.ensures)))) i)) ∙ is))
+    let is = c.start.invariant.0.state in
+    let goes : after_failure (plan_of c.start.inside.config.now c.args.ask.now) c.args.failure ≡ AskUdp c.in-AskUdp.server =
+    ap (λ (p : Plan). after_failure p c.args.failure) (sym (c.plan-plan.ensures ∙ ap (plan_of c.start.inside.config.now) c.ask-asked.ensures)) ∙ sym c.in-AskUdp.ensures in
+    let more = more_left c.start.inside.config.now (state_of c.start.inside.kept.now) is c.args.ask.now (subst (λ (r : StepStart). ask_on c.args.ask.now.path r.state.asks ≡ Some c.args.ask.now) (sym c.start.view_is) c.requires.on) c.args.failure
+    (λ gives. let bad : GiveUp ≡ AskUdp c.in-AskUdp.server = sym gives ∙ goes in absurd (cc)) in
+    let most = is.config.limits.tries.1 in omega (arith, more, most)
 
 pub retry-requires-in-AskTcp-clause-tries : goal.retry-requires-in-AskTcp-clause-tries
 retry-requires-in-AskTcp-clause-tries g c =
-    let more = more_left c.start.inside.config.now c.start.inside.kept.now.cache c.start.inside.kept.now.inquiries
-    c.start.inside.kept.now.waiting.items c.start.inside.kept.now.preferred.items c.start.inside.kept.now.moment c.start.inside.kept.now.tcp_asks
-    c.args.ask.now.path c.args.ask.now c.args.failure c.start.invariant.0
-    (subst (λ (r : StepStart). ask_on c.args.ask.now.path r.state.asks ≡ Some c.args.ask.now) (sym c.start.view_is) c.requires.on)
-    (tcp_goes_on _ c.in-AskTcp.server (ap (λ (p : Plan). after_failure p c.args.failure) (sym (c.plan-plan.ensures ∙ ap (plan_of c.start.inside.config.now) c.ask-asked.ensures))
-    ∙ sym c.in-AskTcp.ensures)) in
-    let most = c.start.invariant.0.config.limits.tries.1 in omega (arith, more, most)
-
-pub retry-requires-in-AskTcp-clause-follows : goal.retry-requires-in-AskTcp-clause-follows
-retry-requires-in-AskTcp-clause-follows g c =
-    λ next is. subst (λ (r : StepStart). CanFollow r.config r.moment r.state (without_path c.args.ask.now.path r.state.asks) next)
-    c.start.view_is
-    (next_by_tcp c.start.inside.config.now c.start.inside.kept.now.cache c.start.inside.kept.now.inquiries
-    c.start.inside.kept.now.waiting.items c.start.inside.kept.now.preferred.items c.start.inside.kept.now.moment c.start.inside.kept.now.tcp_asks
-    c.start.inside.moment c.start.inside.words c.args.ask.now.path c.args.ask.now c.args.failure c.start.invariant.0
-    c.start.invariant.1 c.start.invariant.2
-    (subst (λ (r : StepStart). ask_on c.args.ask.now.path r.state.asks ≡ Some c.args.ask.now) (sym c.start.view_is) c.requires.on)
-    c.in-AskTcp.server (ap (λ (p : Plan). after_failure p c.args.failure) (sym (c.plan-plan.ensures ∙ ap (plan_of c.start.inside.config.now) c.ask-asked.ensures))
-    ∙ sym c.in-AskTcp.ensures) next
-    ((λ i. ask_by (c.start.view_is i).moment c.args.ask.now.question c.args.ask.now.route c.in-AskTcp.server
-    (c.args.ask.now.used + 1) (peer_at (c.start.view_is i).config c.args.ask.now.route c.in-AskTcp.server)
-    (sym (c.draw_connection-drawn.ensures) i)) ∙ is))
+    let is = c.start.invariant.0.state in
+    let goes : after_failure (plan_of c.start.inside.config.now c.args.ask.now) c.args.failure ≡ AskTcp c.in-AskTcp.server =
+    ap (λ (p : Plan). after_failure p c.args.failure) (sym (c.plan-plan.ensures ∙ ap (plan_of c.start.inside.config.now) c.ask-asked.ensures)) ∙ sym c.in-AskTcp.ensures in
+    let more = more_left c.start.inside.config.now (state_of c.start.inside.kept.now) is c.args.ask.now (subst (λ (r : StepStart). ask_on c.args.ask.now.path r.state.asks ≡ Some c.args.ask.now) (sym c.start.view_is) c.requires.on) c.args.failure
+    (λ gives. let bad : GiveUp ≡ AskTcp c.in-AskTcp.server = sym gives ∙ goes in absurd (cc)) in
+    let most = is.config.limits.tries.1 in omega (arith, more, most)
 
 pub returns-in-GiveUp : goal.returns-in-GiveUp
 returns-in-GiveUp g c = record {

@@ -6,7 +6,7 @@ use Rattle.step_table.specs.Steps.{closes, fails}
 use Rattle.step_actions.specs.declared.decision.Change.TheVariants.{Close}
 use Rattle.step_actions.specs.Decision.{with_replies}
 use Rattle.reply_decisions.proofs.Deciding.{closed_is, fails_frees}
-use Rattle.step_actions.proofs.CallerLemmas.{plain_next, fits_plain}
+use Rattle.step_actions.proofs.CallerLemmas.{plain_form, plain_next}
 use Rattle.reply_decisions.proofs.attempt.give_up.Goals as goal
 
 pub returns : goal.returns
@@ -23,8 +23,6 @@ returns g c = record {
         ∙ ap (with_replies (fails c.args.why c.args.ask.now.question) (closes c.args.ask.now.path ∷ []))
         (ap (λ (r : StepStart). r.state.waiting) c.start.view_is))
         (fails_frees c.args.why c.args.ask.now.question));
-    fits =
-        fits_plain c.args.start.now.config c.args.start.now.moment c.args.start.now.state c.without_cache.result
-        (Close c.asked.inside.path None) c.without_cache.ensures.change tt c.without_cache.ensures.carried;
+    form = plain_form c.args.start.now.state c.without_cache.result (Close c.asked.inside.path None) c.without_cache.ensures.change tt c.without_cache.ensures.carried;
   };
 }

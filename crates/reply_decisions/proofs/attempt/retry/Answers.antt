@@ -5,14 +5,6 @@ use Rattle.step_actions.specs.Attempts.{pair_of}
 use Rattle.step_actions.proofs.CallerLemmas.{decides_by}
 use Rattle.reply_decisions.proofs.attempt.retry.Goals as goal
 
-pub ask_again-requires-clause-follows : goal.ask_again-requires-clause-follows
-ask_again-requires-clause-follows g c =
-    c.requires.follows c.in-Some.next
-    (sym (λ i. ask_by c.args.start.now.moment ((c.asked.view_is ∙ c.ask-asked.ensures) i).question ((c.asked.view_is ∙ c.ask-asked.ensures) i).route (c.from.ensures i)
-    (((c.asked.view_is ∙ c.ask-asked.ensures) i).used + 1) (peer_at c.args.start.now.config ((c.asked.view_is ∙ c.ask-asked.ensures) i).route (c.from.ensures i))
-    (pair_of c.args.drawn))
-    ∙ sym c.in_ok-next.ensures ∙ c.in-Some.is)
-
 pub returns-in-Some : goal.returns-in-Some
 returns-in-Some g c = record {
   decides =

@@ -4,7 +4,7 @@ use Rattle.outstanding.specs.Values.{Ask}
 use Rattle.step_table.specs.Failures.{runs_out}
 use Rattle.step_actions.specs.declared.decision.Change.TheVariants.{Close}
 use Rattle.reply_decisions.proofs.Deciding.{closed_is, lasts_frees}
-use Rattle.step_actions.proofs.CallerLemmas.{plain_next, fits_plain}
+use Rattle.step_actions.proofs.CallerLemmas.{plain_form, plain_next}
 use Rattle.reply_decisions.proofs.attempt.run_out.Goals as goal
 
 pub returns : goal.returns
@@ -21,8 +21,6 @@ returns g c = record {
         (c.without_cache.ensures.actions ∙ c.in_ok-actions.ensures)
         (lasts_frees c.args.start.now.config c.args.start.now.moment c.args.start.now.state.cache.entries
         c.args.ask.now.question));
-    fits =
-        fits_plain c.args.start.now.config c.args.start.now.moment c.args.start.now.state c.without_cache.result
-        (Close c.asked.inside.path None) c.without_cache.ensures.change tt c.without_cache.ensures.carried;
+    form = plain_form c.args.start.now.state c.without_cache.result (Close c.asked.inside.path None) c.without_cache.ensures.change tt c.without_cache.ensures.carried;
   };
 }

@@ -9,14 +9,14 @@ use Rattle.outstanding.specs.Values.{Ask}
 use Rattle.outstanding.specs.Lists.{on_path as ask_on}
 use Rattle.suffix_routes.specs.Serving.{serving_route_of}
 use Rattle.step_table.specs.State.{StepStart}
-use Rattle.step_table.specs.Attempts.{servers_in, group_of}
+use Rattle.step_table.specs.Progress.{IsState}
 use Rattle.step_table.specs.Steps.{closes}
 use Rattle.alias_chains.specs.Offering.{held_at}
-use Rattle.step_actions.specs.Decision.{with_replies, gives_from, IsRouted}
+use Rattle.step_actions.specs.Decision.{with_replies, gives_from}
 use Rattle.alias_chains.proofs.CallerLemmas.{walk_first, held_now}
 use Rattle.reply_decisions.specs.Walked.{walk_to}
-use Rattle.reply_decisions.proofs.Accepting.{accepted_is, carried_few, carried_routed, carried_is}
-use Rattle.step_actions.proofs.CallerLemmas.{later_held, server_within, kept_of}
+use Rattle.reply_decisions.proofs.Accepting.{accepted_is, carried_few, carried_is}
+use Rattle.step_actions.proofs.CallerLemmas.{later_held, kept_of}
 use Rattle.reply_decisions.proofs.delivery.accept.Goals as goal
 
 pub slice_bounds-answers_to-end : goal.slice_bounds-answers_to-end
@@ -38,12 +38,8 @@ pub returns : goal.returns
 returns g c = record {
   decides = λ e last carried.
       let w : Walk = walk_to c.args.pieces c.args.authority e in
-      let on : ask_on c.args.ask.now.path c.start.inside.kept.now.inquiries.asks ≡ Some c.args.ask.now = subst
-      (λ (r : StepStart). ask_on c.args.ask.now.path r.state.asks ≡ Some c.args.ask.now) (sym c.start.view_is) c.requires.on in
-      let routed : serving_route_of c.args.start.now.config c.args.ask.now.question.name ≡ Some c.args.ask.now.route = subst
-      (λ (r : StepStart). serving_route_of r.config c.args.ask.now.question.name ≡ Some c.args.ask.now.route) c.start.view_is
-      (kept_of c.start.inside.config.now c.start.inside.kept.now.moment c.start.inside.kept.now.tcp_asks c.args.ask.now.path
-      c.start.inside.kept.now.inquiries.asks c.args.ask.now on c.start.invariant.0.asks).on_route in
+      let routed : serving_route_of c.args.start.now.config c.args.ask.now.question.name ≡ Some c.args.ask.now.route =
+      (kept_of c.args.start.now.config c.args.start.now.state (subst (λ (r : StepStart). IsState r.config r.state) c.start.view_is c.start.invariant.0.state) c.args.ask.now c.requires.on).on_route in
       let pieces : map (λ h. h.piece) c.in_ok-held.held.items ≡ c.args.pieces ++ c.args.authority =
       carried_is c.args.start.now.config c.start.inside.moment c.args.ask.now w carried routed
       c.in_ok-held.held.items c.args.pieces c.args.authority c.in_ok-held.ensures.held
@@ -71,23 +67,15 @@ returns g c = record {
             (carried_is c.args.start.now.config c.start.inside.moment c.args.ask.now w carried routed
             c.in_ok-held.held.items c.args.pieces c.args.authority c.in_ok-held.ensures.held
             refl refl);
-        fits = record {
-          fits = subst (λ (a : Ask). a.server < length (servers_in (group_of c.args.start.now.config a.route)))
-              (sym (c.answered.view_is ∙ c.ask-answered.ensures))
-              (subst (λ (r : StepStart). c.args.ask.now.server < length
-              (servers_in (group_of r.config c.args.ask.now.route))) c.start.view_is
-              (server_within c.start.inside.config.now c.start.inside.kept.now.moment c.start.inside.kept.now.tcp_asks c.args.ask.now.path
-              c.start.inside.kept.now.inquiries.asks c.args.ask.now on c.start.invariant.0.asks));
+        form = record {
+          listed = tt;
           few = subst (λ (ps : List Piece). length ps < 2 ^ 32) (sym pieces)
               (carried_few c.args.start.now.config c.args.start.now.moment c.args.ask.now w carried
               routed);
-          routed = subst (AllByRecursion (IsRouted c.args.start.now.config)) (sym pieces)
-              (carried_routed c.args.start.now.config c.args.start.now.moment c.args.ask.now w
-              carried routed);
         };
       };
 }
 
 pub answers_to-requires-clause-aliases : goal.answers_to-requires-clause-aliases
 answers_to-requires-clause-aliases g c = later_held c.start.inside.kept.now.moment c.start.inside.moment
-    c.start.inside.kept.now.waiting.items c.start.invariant.1 c.start.invariant.0.aliases
+    c.start.inside.kept.now.waiting.items c.start.invariant.1 c.start.invariant.0.state.aliases

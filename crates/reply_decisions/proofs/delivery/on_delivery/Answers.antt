@@ -10,6 +10,7 @@ use Rattle.step_table.specs.State.{StepStart}
 use Rattle.step_table.specs.Replies.{row_of_verdict, timeout_of}
 use Rattle.outstanding.specs.Lists.{on_path as ask_on}
 use Rattle.outstanding.specs.Values.{Ask}
+use Rattle.step_actions.specs.Putting.{state_of}
 use Rattle.reply_decisions.specs.Walked.{ShowsOctets}
 use Rattle.reply_decisions.proofs.Deciding.{idle_unlisted, idle_late, judged_is, on_own, verdict_is}
 use Rattle.step_actions.proofs.CallerLemmas.{decides_as, decides_by, timeout_fits}
@@ -34,9 +35,7 @@ returns-in_default-clause-decides g c =
 pub is_live-requires : goal.is_live-requires
 is_live-requires g c =
     subst (λ (a : Ask). timeout_of c.start.inside.config.now a < 2 ^ 64) (sym c.ask-asked.ensures)
-    (timeout_fits c.start.inside.config.now c.start.inside.kept.now.cache c.start.inside.kept.now.inquiries
-    c.start.inside.kept.now.waiting.items c.start.inside.kept.now.preferred.items c.start.inside.kept.now.moment c.start.inside.kept.now.tcp_asks
-    c.args.path c.in-Some.ask.now c.start.invariant.0 c.in-Some.ensures.found)
+    (timeout_fits c.start.inside.config.now (state_of c.start.inside.kept.now) c.args.path c.in-Some.ask.now c.start.invariant.0.state c.in-Some.ensures.found)
 
 pub returns-then-not-is_live-clause-decides : goal.returns-then-not-is_live-clause-decides
 returns-then-not-is_live-clause-decides g c =

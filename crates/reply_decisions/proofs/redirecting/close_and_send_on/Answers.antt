@@ -1,23 +1,19 @@
-use Rattle.std.proofs.Common.{◌≡◌, ◌∙◌, ◌<◌, List, [], ◌∷◌, ◌++◌, length, Option, Some, sym, ap, subst}
+use Rattle.std.proofs.Common.{◌≡◌, ◌∙◌, List, [], ◌∷◌, ◌++◌, length, Option, Some, sym, ap, subst}
 use Rattle.std.specs.Prelude.{map}
-use Rattle.std.specs.List.{AllByRecursion}
 use Rattle.std.proofs.lemmas.List.{length-map}
 use Rattle.std.proofs.lemmas.Result.{err_from_is_err_and}
 use Rattle.trust_rank.specs.declared.slot.Slot.{Slot}
-use Rattle.outstanding.specs.Lists.{on_path as ask_on, without_path}
+use Rattle.outstanding.specs.Lists.{on_path as ask_on}
 use Rattle.outstanding.specs.Values.{Ask}
 use Rattle.step_values.specs.Values.{Action, actions_of}
 use Rattle.waiting_questions.specs.Onward.{Onward}
 use Rattle.step_table.specs.State.{StepStart}
-use Rattle.step_table.specs.Attempts.{servers_in, group_of}
 use Rattle.step_table.specs.Steps.{Fate, ask_list, asks, closes, closing_step, offering_step, replies, with_preferred_server, with_promoted}
 use Rattle.step_actions.specs.declared.decision.Redirect.{Redirect}
-use Rattle.step_actions.specs.Decision.{AreForThose, CanSendOn, IfFollows, IsSentEarlier}
+use Rattle.step_actions.specs.Decision.{AreForThose}
 use Rattle.alias_chains.specs.Offering.{pieces_of}
 use Rattle.reply_decisions.specs.Fates.{onward_of}
 use Rattle.reply_decisions.proofs.Deciding.{sending_row}
-use Rattle.step_actions.proofs.CallerLemmas.{server_within}
-use Rattle.reply_decisions.proofs.SendingOn.{sent_all}
 use Rattle.reply_decisions.proofs.redirecting.close_and_send_on.Goals as goal
 
 pub returns : goal.returns
@@ -26,9 +22,6 @@ returns g c = record {
       λ fate become.
       let on : ask_on c.ask.inside.path c.args.start.now.state.asks ≡ Some c.args.answered.now = ap
       (λ (a : Ask). ask_on a.path c.args.start.now.state.asks) (c.ask.view_is ∙ c.ask-ask.ensures) ∙ c.requires.on in
-      let on_inside : ask_on c.args.answered.now.path c.start.inside.kept.now.inquiries.asks
-      ≡ Some c.args.answered.now = subst (λ (r : StepStart). ask_on c.args.answered.now.path r.state.asks
-      ≡ Some c.args.answered.now) (sym c.start.view_is) c.requires.on in
       record {
         row = λ rooms.
             ap (offering_step c.args.start.now.moment rooms (pieces_of c.args.carried.items))
@@ -53,31 +46,13 @@ returns g c = record {
             ∙ ap (λ (slots : List Slot). closing_step c.args.start.now.moment c.args.answered.now fate c.args.next
             (with_promoted slots (with_preferred_server c.args.answered.now c.args.start.now.state)))
             c.in_ok-onward.ensures.used);
-        fits = record {
-          fits = subst (λ (v : Redirect g.row.A.Denot). CanSendOn c.args.start.now.config c.args.start.now.moment
-              c.args.start.now.state v.path v.preferred v.onward.items v.ask) (sym c.in_ok-redirect.ensures.ok) (record {
-                those = subst (λ (r : Option Ask). AreForThose r c.in_ok-onward.field-0.onward.items
-                    c.args.start.now.state.waiting)
-                    (sym on) (ap (λ (os : List (Option Onward)). length os) c.in_ok-onward.ensures.onward
-                    ∙ length-map c.args.fates.each onward_of
-                    ∙ ap (λ (fs : List Fate). length fs) become.are ∙ length-map _ fate);
-                earlier = subst (AllByRecursion (IsSentEarlier c.args.start.now.moment))
-                    (sym c.in_ok-onward.ensures.onward)
-                    (sent_all c.args.start.now.moment c.args.fates.each c.requires.earlier);
-                served = subst (λ (a : Ask). a.server < length (servers_in (group_of c.args.start.now.config a.route)))
-                    (sym (c.ask.view_is ∙ c.ask-ask.ensures))
-                    (subst (λ (r : StepStart). c.args.answered.now.server < length
-                    (servers_in (group_of r.config c.args.answered.now.route))) c.start.view_is
-                    (server_within c.start.inside.config.now c.start.inside.kept.now.moment c.start.inside.kept.now.tcp_asks
-                    c.args.answered.now.path c.start.inside.kept.now.inquiries.asks c.args.answered.now on_inside
-                    c.start.invariant.0.asks));
-                follows = subst (λ (a : Ask). IfFollows c.args.start.now.config c.args.start.now.moment
-                    c.args.start.now.state
-                    (without_path a.path c.args.start.now.state.asks) c.args.next)
-                    (sym (c.ask.view_is ∙ c.ask-ask.ensures)) c.requires.follows;
-              });
+        form = record {
+          listed = subst (λ (v : Redirect g.row.A.Denot). AreForThose (ask_on v.path c.args.start.now.state.asks) v.onward.items c.args.start.now.state.waiting) (sym c.in_ok-redirect.ensures.ok)
+              (subst (λ (r : Option Ask). AreForThose r c.in_ok-onward.field-0.onward.items c.args.start.now.state.waiting)
+              (sym on) (ap (λ (os : List (Option Onward)). length os) c.in_ok-onward.ensures.onward
+              ∙ length-map c.args.fates.each onward_of
+              ∙ ap (λ (fs : List Fate). length fs) become.are ∙ length-map _ fate));
           few = c.requires.few;
-          routed = c.requires.routed;
         };
       };
 }

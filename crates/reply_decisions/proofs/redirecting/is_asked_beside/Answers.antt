@@ -9,7 +9,7 @@ pub returns-in-Some : goal.returns-in-Some
 returns-in-Some g c =
     ap not (c.is_same.ensures ∙ (λ i. same_path (c.open.view_is i).path ((c.ask.view_is ∙ c.ask-ask.ensures) i).path))
     ∙ sym (asked_beside c.args.question.now c.args.answered.now.path c.start.inside.kept.now.inquiries.asks
-    (Some c.in-Some.open.now) c.start.invariant.0.listed.by_arrival
+    (Some c.in-Some.open.now) c.start.invariant.0.state.listed.by_arrival
     (c.in-Some.ensures.found c.args.question.now c.of-key.ensures))
     ∙ ap (λ (r : StepStart). is_some (of_question c.args.question.now
     (without_path c.args.answered.now.path r.state.asks))) c.start.view_is
@@ -17,6 +17,6 @@ returns-in-Some g c =
 pub returns-in-None : goal.returns-in-None
 returns-in-None g c =
     sym (asked_beside c.args.question.now c.args.answered.now.path c.start.inside.kept.now.inquiries.asks None
-    c.start.invariant.0.listed.by_arrival (c.in-None.ensures.found c.args.question.now c.of-key.ensures))
+    c.start.invariant.0.state.listed.by_arrival (c.in-None.ensures.found c.args.question.now c.of-key.ensures))
     ∙ ap (λ (r : StepStart). is_some (of_question c.args.question.now
     (without_path c.args.answered.now.path r.state.asks))) c.start.view_is

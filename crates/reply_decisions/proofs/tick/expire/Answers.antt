@@ -5,7 +5,7 @@ use Rattle.step_table.specs.Steps.{failed}
 use Rattle.step_table.specs.Ticks.{left_alone}
 use Rattle.step_actions.specs.declared.decision.Change.TheVariants.{Expire}
 use Rattle.reply_decisions.proofs.Deciding.{expired_row, pushed}
-use Rattle.step_actions.proofs.CallerLemmas.{plain_next, fits_plain, rest_is}
+use Rattle.step_actions.proofs.CallerLemmas.{plain_form, plain_next, rest_is}
 use Rattle.reply_decisions.proofs.tick.expire.Goals as goal
 
 pub returns : goal.returns
@@ -23,8 +23,6 @@ returns g c = record {
         ∙ pushed g.row.A.Denot _ c.in_ok-action.action _ _ c.close_paths-actions.ensures
         (c.in_ok-action.ensures
         ∙ (λ i. failed (c.request.ensures.client i) (c.request.ensures.asked i) Deadline))));
-    fits =
-        fits_plain c.args.start.now.config c.args.start.now.moment c.args.start.now.state c.without_cache.result
-        (Expire c.left_alone-closed.result) c.without_cache.ensures.change tt c.without_cache.ensures.carried;
+    form = plain_form c.args.start.now.state c.without_cache.result (Expire c.left_alone-closed.result) c.without_cache.ensures.change tt c.without_cache.ensures.carried;
   };
 }

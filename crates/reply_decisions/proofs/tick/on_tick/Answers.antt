@@ -6,15 +6,15 @@ use Rattle.step_actions.proofs.CallerLemmas.{decides_as, decides_by, later_taken
 use Rattle.reply_decisions.proofs.tick.on_tick.Goals as goal
 
 pub first_due-requires-clause-limits : goal.first_due-requires-clause-limits
-first_due-requires-clause-limits g c = c.start.invariant.0.config
+first_due-requires-clause-limits g c = c.start.invariant.0.state.config
 
 pub first_due-requires-clause-in_turn : goal.first_due-requires-clause-in_turn
-first_due-requires-clause-in_turn g c = c.start.invariant.0.by_arrival
+first_due-requires-clause-in_turn g c = c.start.invariant.0.state.by_arrival
 
 pub first_due-requires-clause-taken : goal.first_due-requires-clause-taken
 first_due-requires-clause-taken g c =
-    later_taken c.start.inside.kept.now.moment (2 ^ 62) c.start.inside.kept.now.waiting.items c.start.invariant.0.in_time
-    c.start.invariant.0.taken
+    later_taken c.start.inside.kept.now.moment (2 ^ 62) c.start.inside.kept.now.waiting.items c.start.invariant.0.state.in_time
+    c.start.invariant.0.state.taken
 
 pub returns-in_default-clause-decides : goal.returns-in_default-clause-decides
 returns-in_default-clause-decides g c =

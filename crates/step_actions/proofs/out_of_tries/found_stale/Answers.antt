@@ -15,7 +15,7 @@ use Rattle.step_actions.proofs.out_of_tries.found_stale.Goals as goal
 pub look_up_stale-requires : goal.look_up_stale-requires
 look_up_stale-requires g c =
     subst (λ (n : ℕ). n ≤ 86400) (sym c.from.ensures)
-    (subst (λ (k : Config). k.limits.stale_s ≤ 86400) (sym c.config.view_is) c.start.invariant.0.config.limits.stale_s.1)
+    (subst (λ (k : Config). k.limits.stale_s ≤ 86400) (sym c.config.view_is) c.start.invariant.0.state.config.limits.stale_s.1)
 
 pub returns-clause-exact : goal.returns-clause-exact
 returns-clause-exact g c =

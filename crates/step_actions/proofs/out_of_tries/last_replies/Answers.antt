@@ -8,9 +8,9 @@ use Rattle.step_texts.specs.StepTable.State.{StepStart}
 use Rattle.step_texts.specs.StepTable.Steps.{closes}
 use Rattle.step_texts.specs.StepTable.Failures.{runs_out}
 use Rattle.step_actions.specs.Decision.{with_replies}
-use Rattle.step_actions.specs.Kept.{HoldsEarlier}
+use Rattle.step_texts.specs.StepTable.Progress.{HoldsEarlier}
 use Rattle.step_actions.proofs.Folds.{lasts_filter, one_last, one_of_those}
-use Rattle.step_actions.proofs.Later.{later_held}
+use Rattle.step_texts.proofs.StepTable.CallerLemmas.{later_held}
 use Rattle.step_actions.proofs.out_of_tries.last_replies.Goals as goal
 
 pub loop-place-preserved : goal.loop-place-preserved
@@ -38,5 +38,5 @@ put_last-requires g c =
     let t = c.args.start.now in
     let those = c.for_ask-those.ensures ∙ ap (λ (r : StepStart). filter (waits_for c.args.ask.now.question) r.state.waiting) c.start.view_is in
     one_of_those (HoldsEarlier t.moment) c.args.ask.now.question t.state.waiting c.for_ask-those.result c.loop-place.place c.get.result.now
-    (subst (λ (r : StepStart). AllByRecursion (HoldsEarlier r.moment) r.state.waiting) c.start.view_is (later_held c.start.inside.kept.now.moment c.start.inside.moment c.start.inside.kept.now.waiting.items c.start.invariant.1 c.start.invariant.0.aliases))
+    (subst (λ (r : StepStart). AllByRecursion (HoldsEarlier r.moment) r.state.waiting) c.start.view_is (later_held c.start.inside.kept.now.moment c.start.inside.moment c.start.inside.kept.now.waiting.items c.start.invariant.1 c.start.invariant.0.state.aliases))
     those c.get.ensures

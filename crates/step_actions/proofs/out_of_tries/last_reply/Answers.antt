@@ -22,7 +22,7 @@ pub stale_answer-requires-clause-found : goal.stale_answer-requires-clause-found
 stale_answer-requires-clause-found g c =
     subst (AllByRecursion (IsEarlier c.start.inside.moment)) (sym (ap lent c.deref.ensures.value))
     (held_among (IsEarlier c.start.inside.moment) c.start.inside.kept.now.cache.entries (lent c.in-Some.found.items)
-    (later_entries c.start.inside.kept.now.moment c.start.inside.moment c.start.inside.kept.now.cache.entries c.start.invariant.1 c.start.invariant.0.accepted)
+    (later_entries c.start.inside.kept.now.moment c.start.inside.moment c.start.inside.kept.now.cache.entries c.start.invariant.1 c.start.invariant.0.state.accepted)
     (subst (λ (r : StepStart). AllByRecursion (λ h. Among h r.state.cache.entries) (lent c.in-Some.found.items)) (sym c.start.view_is)
     (rw c.in-Some.is at c.in_ok-found.ensures.from_cache)))
 

@@ -3,7 +3,7 @@ use Rattle.std.proofs.lemmas.List.{at_drop_all}
 use Rattle.step_texts.specs.Spelling.{Source}
 use Rattle.step_values.specs.Values.{Action, actions_of}
 use Rattle.step_actions.specs.Decision.{with_replies, gives_from, reply_from}
-use Rattle.step_actions.specs.Kept.{HoldsEarlier}
+use Rattle.step_texts.specs.StepTable.Progress.{HoldsEarlier}
 use Rattle.step_actions.proofs.Folds.{answers_filter, one_answered, one_of_those}
 use Rattle.step_actions.proofs.replies.put_answers.Goals as goal
 

@@ -6,15 +6,15 @@ use Rattle.client_decisions.proofs.StepActions.CallerLemmas.{later_taken}
 use Rattle.forwarder_core.proofs.forwarder.Forwarder.first_due.Goals as goal
 
 pub first_due-requires-clause-limits : goal.first_due-requires-clause-limits
-first_due-requires-clause-limits g c = c.self.invariant.config
+first_due-requires-clause-limits g c = c.self.invariant.state.config
 
 pub first_due-requires-clause-in_turn : goal.first_due-requires-clause-in_turn
-first_due-requires-clause-in_turn g c = c.self.invariant.by_arrival
+first_due-requires-clause-in_turn g c = c.self.invariant.state.by_arrival
 
 pub first_due-requires-clause-taken : goal.first_due-requires-clause-taken
 first_due-requires-clause-taken g c =
-    later_taken c.self.inside.kept.moment (2 ^ 62) c.self.inside.kept.waiting.items c.self.invariant.in_time
-    c.self.invariant.taken
+    later_taken c.self.inside.kept.moment (2 ^ 62) c.self.inside.kept.waiting.items c.self.invariant.state.in_time
+    c.self.invariant.state.taken
 
 pub returns : goal.returns
 returns g c =

@@ -13,11 +13,13 @@ use Rattle.forwarder_core.proofs.forwarder.Forwarder.new.Goals as goal
 
 pub invariant_of-result : goal.invariant_of-result
 invariant_of-result g c =
+    let kept =
     kept_first c.args.config c.in_ok-cache.cache c.new-2.result c.new-3.result.items c.in_ok-preferred.preferred.items c.routes.ensures.accepted
     (cache_is c.in_ok-cache.cache c.config.inside.limits.cache c.args.config.limits.cache c.in_ok-cache.ensures (ap (λ (k : Config). k.limits.cache) c.config.view_is))
     (room_is c.new-2.result c.config.inside.limits.inquiries c.args.config.limits.inquiries c.new-2.ensures.new (ap (λ (k : Config). k.limits.inquiries) c.config.view_is))
     c.new-3.ensures
-    (c.in_ok-preferred.ensures ∙ ap (λ (routes : List Route). map {B = ℕ} (λ (r : Route). 0) routes) c.routes.ensures.routes)
+    (c.in_ok-preferred.ensures ∙ ap (λ (routes : List Route). map {B = ℕ} (λ (r : Route). 0) routes) c.routes.ensures.routes) in
+    record { state = kept.0; capacity = kept.1 }
 
 pub returns-clause-new : goal.returns-clause-new
 returns-clause-new g c = λ i. record {

@@ -15,7 +15,7 @@ pub returns-clause-truly : goal.returns-clause-truly
 returns-clause-truly g c = IfOk-weaker c.take.result _ _ (λ o row. row_serves_on _ _ _ o _ row) c.take.ensures.acts.row
 
 pub returns-clause-bounded : goal.returns-clause-bounded
-returns-clause-bounded g c = left_is_bounded _ _ c.take.ensures.in_order
+returns-clause-bounded g c = left_is_bounded _ _ c.take.ensures.state
 
 pub returns-clause-less : goal.returns-clause-less
-returns-clause-less g c = λ serves. IfOk-weaker c.take.result _ _ (λ o row. less_is_left _ _ _ o _ c.take.ensures.in_order row serves) c.take.ensures.acts.row
+returns-clause-less g c = λ serves. IfOk-weaker c.take.result _ _ (λ o row. less_is_left _ _ _ o _ c.take.ensures.state row serves) c.take.ensures.acts.row

@@ -15,3 +15,6 @@ returns-then-is_idle_tick-clause-acts g c =
       no_memory = λ none. refl;
       err = tt;
     }
+
+pub returns-clause-acts : goal.returns-clause-acts
+returns-clause-acts g c = c.act_on.ensures c.args.now c.effective-moment.ensures.value

@@ -25,7 +25,7 @@ fate_after-requires g c =
     (c.in_ok-held.ensures i) (c.question-question.ensures i)) in
     let earlier : AllByRecursion (IsEarlier t.moment) t.state.cache.entries =
     subst (λ (r : StepStart). AllByRecursion (IsEarlier r.moment) r.state.cache.entries) c.start.view_is
-    (later_entries c.start.inside.kept.now.moment c.start.inside.moment c.start.inside.kept.now.cache.entries c.start.invariant.1 c.start.invariant.0.accepted) in
+    (later_entries c.start.inside.kept.now.moment c.start.inside.moment c.start.inside.kept.now.cache.entries c.start.invariant.1 c.start.invariant.0.state.accepted) in
     subst (λ (l : LookUp). AllByRecursion (IsEarlier t.moment) (chain_of l)) (sym exact)
     (looked_holds (IsEarlier t.moment) t aliases name x earlier c.requires.aliases c.requires.own)
 
