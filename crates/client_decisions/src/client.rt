@@ -9,7 +9,7 @@
 //! 6. `admit`: `join` if an ask is listed; `ask_anew`: `first_ask`, then `open` or `refuse`.
 //! 7. `reply`, also the end of `refuse`: one reply, and the promotion of the used entries.
 
-ghost use Rattle.std.specs.Prelude.{◌≡◌, ◌<◌, [], false, length, IfOk, Some, None};
+ghost use Rattle.std.specs.Prelude.{◌≡◌, ◌<◌, [], false, IfOk, Some, None};
 ghost use Rattle.dns_message.specs.Messages.{first_question};
 ghost use Rattle.dns_message.specs.Questions.{question_read};
 ghost use Rattle.outstanding.specs.Lists.{of_question};

@@ -17,7 +17,8 @@ use Rattle.client_decisions.specs.StepActions.declared.decision.Change.{Change}
 use Rattle.client_decisions.specs.StepActions.declared.decision.Change.TheVariants.{Nothing, Join, Open, Close, SendOn, AskAgain, Expire}
 use Rattle.client_decisions.specs.StepActions.declared.decision.Decision.{Decision}
 use Rattle.client_decisions.specs.StepActions.Decision.{changed, next_of, HasForm, IsDecided, IsDecidedQuietly, IsOutcome}
-use Rattle.client_decisions.proofs.StepActions.CallerLemmas.{change_leads}
+use Rattle.client_decisions.specs.StepActions.Putting.{FitsLists}
+use Rattle.client_decisions.proofs.StepActions.CallerLemmas.{change_leads, fits_lists}
 
 -- ---- the cache
 
@@ -91,6 +92,10 @@ module _ {A : Type 0} (t : StepStart) (c : Config) (n : ℕ) (words : List ℕ) 
   -- and so does its change
   pub leads : IsState c s → s.moment ≤ n → n ≤ 2 ^ 62 → IsState c (changed n s next.change)
   leads state later small = change_leads c n s next state later (acted state later small [])
+
+  -- which fits the lists
+  pub fits : IsState c s → s.moment ≤ n → n ≤ 2 ^ 62 → HasForm s next → FitsLists c s next.change
+  fits state later small form = fits_lists c n s next.change (leads state later small) form.listed
 
   -- an outcome as decided is the row's
   pub row_is : (now : ℕ) (s' : State) (o : Outcome) → n ≡ effective now s → HandsOctets e → ((rooms : List Bool) × IsOutcome c (next_of n rooms s next) o s') → Row c s (record { now = now; words = words; event = e }) o s'

@@ -1,5 +1,5 @@
 -- A change that leads to a state can be put in place, and what is kept stays so.
-use Rattle.std.proofs.Common.{Vec, ◌≡◌, ℕ, ◌+◌, ◌^◌, ◌<◌, ◌≤◌, List, [], ◌∷◌, ◌++◌, length, refl, sym, ap, ◌∙◌, subst, arith, Option, Some, None}
+use Rattle.std.proofs.Common.{Vec, ◌≡◌, ℕ, ◌+◌, ◌<◌, ◌≤◌, List, [], ◌∷◌, ◌++◌, length, refl, sym, ap, ◌∙◌, subst, arith, Option, Some, None}
 use Rattle.std.specs.Prelude.{Result, Ok, Err}
 use Rattle.std.specs.declared.alloc.AllocError.{AllocError}
 use Rattle.std.specs.List.{AllByRecursion}
@@ -12,7 +12,7 @@ use Rattle.suffix_routes.specs.Values.{Config}
 use Rattle.outstanding.specs.Lists.{same_path, on_path as ask_on, of_question, without_path, Follows, AreInTurn, AreListed, MayBegin, IsInTime}
 use Rattle.outstanding.specs.Values.{Ask}
 use Rattle.step_texts.specs.StepTable.State.{State}
-use Rattle.step_texts.specs.StepTable.Steps.{ask_list, tcp_count}
+use Rattle.step_texts.specs.StepTable.Steps.{ask_list}
 use Rattle.step_texts.specs.StepTable.Progress.{AreTakenInTurn, IsState}
 use Rattle.step_texts.proofs.StepTable.CallerLemmas.{All-first, later_entries}
 use Rattle.step_texts.specs.WaitingQuestions.Values.{Waiting}
@@ -21,8 +21,8 @@ use Rattle.step_actions.specs.declared.decision.Change.{Change}
 use Rattle.step_actions.specs.declared.decision.Change.TheVariants.{Nothing, Join, Open, Close, SendOn, AskAgain, Expire}
 use Rattle.step_actions.specs.declared.decision.Decision.{Decision}
 use Rattle.step_actions.specs.declared.kept.Kept.{Kept}
-use Rattle.step_actions.specs.Decision.{with_preferred, tcp_count_of, changed, next_of}
-use Rattle.step_actions.specs.Putting.{state_of, IsKept, IsPut}
+use Rattle.step_actions.specs.Decision.{with_preferred, changed, next_of, IsOfListed}
+use Rattle.step_actions.specs.Putting.{state_of, FitsLists, IsKept, IsPut}
 
 -- ---- the last of each list
 
@@ -52,35 +52,25 @@ last_begins room xs a are = record {
   in_time = (All-first IsInTime xs (a ∷ []) are.in_time).1.0;
 }
 
--- ---- what a change needs of the lists
-
-abbrev pub Needs : {A : Type 0} → Config → State → Change A → Type 0
-Needs c s Nothing = Unit {0}
-Needs c s (Join b) = AllByRecursion (λ x. x.taken ≤ b.value.taken) s.waiting
-Needs c s (Open b) = AllByRecursion (λ x. x.taken ≤ b.value.waiting.taken) s.waiting × MayBegin b.value.ask s.asks
-    × (length s.asks < c.limits.inquiries) × (s.tcp_asks + tcp_count_of b.value.ask.path < 2 ^ 64)
-Needs c s (Close path preferred) = Unit {0}
-Needs c s (SendOn b) = IfSome b.value.ask (λ a. MayBegin a (without_path b.value.path s.asks)) × (s.tcp_asks + tcp_count b.value.ask < 2 ^ 64)
-Needs c s (AskAgain path b) = MayBegin b.value (without_path path s.asks) × (s.tcp_asks + tcp_count_of b.value.path < 2 ^ 64)
-Needs c s (Expire closed) = Unit {0}
+-- ---- a change that leads to a state fits the lists
 
 next_begins : (room : ℕ) (xs : List Ask) (next : Option Ask) → AreListed (record { capacity = room; asks = xs ++ ask_list next }) → IfSome next (λ a. MayBegin a xs)
 next_begins room xs None are = tt
 next_begins room xs (Some a) are = last_begins room xs a are
 
-pub needs : {A : Type 0} (c : Config) (n : ℕ) (s : State) (change : Change A) → IsState c (changed n s change) → Needs c s change
-needs c n s Nothing is = tt
-needs c n s (Join b) is = last_taken s.waiting b.value is.by_arrival
-needs c n s (Open b) is = (
+pub fits_lists : {A : Type 0} (c : Config) (n : ℕ) (s : State) (change : Change A) → IsState c (changed n s change) → IsOfListed s change → FitsLists c s change
+fits_lists c n s Nothing is listed = tt
+fits_lists c n s (Join b) is listed = last_taken s.waiting b.value is.by_arrival
+fits_lists c n s (Open b) is listed = (
   last_taken s.waiting b.value.waiting is.by_arrival,
   last_begins c.limits.inquiries s.asks b.value.ask is.listed,
   (let longer = length-append s.asks (b.value.ask ∷ []) in let few = is.listed.few in omega (arith, longer, few)),
   is.counted,
 )
-needs c n s (Close path preferred) is = tt
-needs c n s (SendOn b) is = (next_begins c.limits.inquiries (without_path b.value.path s.asks) b.value.ask is.listed, is.counted)
-needs c n s (AskAgain path b) is = (last_begins c.limits.inquiries (without_path path s.asks) b.value is.listed, is.counted)
-needs c n s (Expire closed) is = tt
+fits_lists c n s (Close path preferred) is listed = tt
+fits_lists c n s (SendOn b) is listed = (listed, next_begins c.limits.inquiries (without_path b.value.path s.asks) b.value.ask is.listed, is.counted)
+fits_lists c n s (AskAgain path b) is listed = (listed, last_begins c.limits.inquiries (without_path path s.asks) b.value is.listed, is.counted)
+fits_lists c n s (Expire closed) is listed = tt
 
 -- ---- places
 

@@ -33,7 +33,7 @@ impl<H: BuildHasher + Drop, A: Allocator + Copy> Kept<H, A> {
     /// anything changes, so an `Err` changes nothing. A change of no list skips the stack frame of
     /// list entries, which would be cleared.
     pub fn put(&mut self, moment: u64, change: Change<A>) -> Result<(), AllocError>
-        requires { CanBePut moment self.old change }
+        requires { CanBePut self.old change }
         ensures { IsPut moment self.old change result self.new }
     {
         match change {
@@ -48,7 +48,7 @@ impl<H: BuildHasher + Drop, A: Allocator + Copy> Kept<H, A> {
     /// Puts any change in place, out of line.
     #[inline(never)]
     fn put_lists(&mut self, moment: u64, change: Change<A>) -> Result<(), AllocError>
-        requires { CanBePut moment self.old change }
+        requires { CanBePut self.old change }
         ensures { IsPut moment self.old change result self.new }
     {
         match change {

@@ -3,8 +3,8 @@
 ghost use Rattle.std.specs.Prelude.{ℕ, ◌^◌, ◌≤◌};
 ghost use Rattle.step_table.specs.State.{State};
 ghost use Rattle.step_table.specs.Row.{effective};
-ghost use Rattle.step_table.specs.Laws.{RowsKeepStates, LessIsLeft, LeftIsBounded, MoreIsServed, NextDueTells};
-ghost use Rattle.step_table.specs.Laws.{RedirectedQuestionsWantOne};
+ghost use Rattle.step_table.specs.Laws.{RowsKeepStates, LessIsLeft, LeftIsBounded, MoreIsServed};
+ghost use Rattle.step_table.specs.Laws.{NextDueTells, RedirectedQuestionsWantOne};
 
 /// The effective moment of a step is not below that of the state, and at most 2^62 milliseconds
 /// where that is.

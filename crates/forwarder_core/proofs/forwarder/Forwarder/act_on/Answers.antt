@@ -7,10 +7,10 @@ use Rattle.step_table.specs.Row.{TakesNoMemory, is_due_at}
 use Rattle.step_table.specs.State.{Running, StepStart, start}
 use Rattle.step_table.specs.Steps.{Done}
 use Rattle.step_table.specs.Progress.{IsState}
-use Rattle.client_decisions.specs.StepActions.Decision.{changed, IsOfListed}
-use Rattle.client_decisions.specs.StepActions.Putting.{state_of}
+use Rattle.client_decisions.specs.StepActions.Decision.{changed}
+use Rattle.client_decisions.specs.StepActions.Putting.{state_of, FitsLists}
 use Rattle.client_decisions.proofs.StepActions.CallerLemmas.{kept_put}
-use Rattle.forwarder_core.proofs.CarryingOut.{acted, carried_out, form_at, leads, quiet_at, row_is}
+use Rattle.forwarder_core.proofs.CarryingOut.{acted, carried_out, fits, form_at, leads, quiet_at, row_is}
 use Rattle.forwarder_core.proofs.forwarder.Forwarder.act_on.Goals as goal
 
 pub start-requires : goal.start-requires
@@ -20,12 +20,10 @@ pub put-requires : goal.put-requires
 put-requires g c = record {
   config = c.self.inside.config;
   kept = c.self.invariant;
-  later = subst (λ (r : Running). r.state.moment ≤ c.args.moment) (sym c.self.view_is) c.requires.later;
-  leads = subst (λ (r : Running). IsState r.config (changed c.args.moment r.state c.in-Some.field-0.change)) (sym c.self.view_is)
-      (leads c.start.result c.args.self.now.config c.args.moment c.args.words c.args.self.now.state (event_of c.args.event.now) c.in_ok-actions.field-0 c.in-Some.field-0 c.start.ensures c.in-Some.is c.in_ok-actions.ensures.row
-      (subst (λ (r : Running). IsState r.config r.state) c.self.view_is c.self.invariant.state) c.requires.later c.requires.in_time);
-  listed = subst (λ (r : Running). IsOfListed r.state c.in-Some.field-0.change) (sym c.self.view_is)
-      (form_at c.start.result c.args.self.now.state c.in_ok-actions.field-0 c.in-Some.field-0 (ap (λ (t : StepStart). t.state) c.start.ensures) c.in-Some.is c.in_ok-actions.ensures.form).listed;
+  fits = subst (λ (r : Running). FitsLists r.config r.state c.in-Some.field-0.change) (sym c.self.view_is)
+      (fits c.start.result c.args.self.now.config c.args.moment c.args.words c.args.self.now.state (event_of c.args.event.now) c.in_ok-actions.field-0 c.in-Some.field-0 c.start.ensures c.in-Some.is c.in_ok-actions.ensures.row
+      (subst (λ (r : Running). IsState r.config r.state) c.self.view_is c.self.invariant.state) c.requires.later c.requires.in_time
+      (form_at c.start.result c.args.self.now.state c.in_ok-actions.field-0 c.in-Some.field-0 (ap (λ (t : StepStart). t.state) c.start.ensures) c.in-Some.is c.in_ok-actions.ensures.form));
 }
 
 -- memory ran out
