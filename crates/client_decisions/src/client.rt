@@ -302,16 +302,9 @@ fn first_ask<H: BuildHasher + Drop, A: Allocator + Copy>(
 ) -> Result<Option<Ask<A>>, AllocError>
     ensures { IfOk result (λ ask. ask ≡ first_ask start.now question.now route) }
 {
-    let server = start
-        .kept
-        .preferred
-        .as_slice()
-        .get(route.place)
-        .copied()
-        .unwrap_or(0);
     let attempt = Attempt {
         route,
-        server,
+        server: start.preferred_on(route),
         used: 1,
     };
     let drawn = by_udp(draw(start.words, &start.kept.inquiries, None));

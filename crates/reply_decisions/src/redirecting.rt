@@ -147,17 +147,10 @@ fn preferred_then<H: BuildHasher + Drop, A: Allocator + Copy>(
 {
     let ask = answered.ask();
     let own = ask.route;
-    let before = start
-        .kept
-        .preferred
-        .as_slice()
-        .get(route.place)
-        .copied()
-        .unwrap_or(0);
     if route.place == own.place {
         ask.server
     } else {
-        before
+        start.preferred_on(route)
     }
 }
 

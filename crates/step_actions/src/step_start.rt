@@ -1,6 +1,7 @@
 //! A step's view of the forwarder.
 
 ghost use Rattle.std.specs.Prelude.{◌≡◌, List, Bool, []};
+ghost use Rattle.step_texts.specs.StepTable.Attempts.{preferred_on};
 ghost use Rattle.step_texts.specs.StepTable.Steps.{idle_step};
 ghost use Rattle.step_actions.specs.Decision.{next_of, MeetsStep};
 ghost use Rattle.step_actions.specs.LookUps.{cache_at};
@@ -12,7 +13,7 @@ use std::hash::BuildHasher;
 use std::marker::Model;
 use step_texts::chains::CacheAt;
 use step_values::Actions;
-use suffix_routes::Config;
+use suffix_routes::{Config, RouteId};
 
 /// A forwarder at the start of a step, borrowed, with the moment and the random words of the step.
 /// The decision depends on nothing else.
@@ -57,6 +58,18 @@ impl<'a, H: BuildHasher + Drop, A: Allocator + Copy> StepStartRef<'a, H, A> {
             config: self.config,
             moment: self.moment,
         }
+    }
+
+    /// The place of the first server to ask on a route.
+    pub fn preferred_on(&self, route: RouteId) -> usize
+        ensures { result ≡ preferred_on self.now.state route }
+    {
+        self.kept
+            .preferred
+            .as_slice()
+            .get(route.place)
+            .copied()
+            .unwrap_or(0)
     }
 }
 
