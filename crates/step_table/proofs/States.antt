@@ -38,10 +38,10 @@ use Rattle.step_table.proofs.Attempts.{peer_within, preferred_first, preferred_p
 pub later_entries : (m n : ℕ) (es : List Held) → m ≤ n → AllByRecursion (IsEarlier m) es → AllByRecursion (IsEarlier n) es
 later_entries m n es le all = All-weaker (IsEarlier m) (IsEarlier n) (λ h was. let at : h.accepted ≤ m = was in omega (arith, at, le)) es all
 
-later_held : (m n : ℕ) (xs : List Waiting) → m ≤ n → AllByRecursion (HoldsEarlier m) xs → AllByRecursion (HoldsEarlier n) xs
+pub later_held : (m n : ℕ) (xs : List Waiting) → m ≤ n → AllByRecursion (HoldsEarlier m) xs → AllByRecursion (HoldsEarlier n) xs
 later_held m n xs le all = All-weaker (HoldsEarlier m) (HoldsEarlier n) (λ x h. later_entries m n x.held le h) xs all
 
-later_taken : (m n : ℕ) (xs : List Waiting) → m ≤ n → AllByRecursion (λ x. x.taken ≤ m) xs → AllByRecursion (λ x. x.taken ≤ n) xs
+pub later_taken : (m n : ℕ) (xs : List Waiting) → m ≤ n → AllByRecursion (λ x. x.taken ≤ m) xs → AllByRecursion (λ x. x.taken ≤ n) xs
 later_taken m n xs le all = All-weaker (λ (x : Waiting). x.taken ≤ m) (λ (x : Waiting). x.taken ≤ n) (λ x h. let at : x.taken ≤ m = h in omega (arith, at, le)) xs all
 
 below_more : (k j : ℕ) (p : Path) → IsBelow k p → IsBelow (k + j) p
