@@ -6,7 +6,7 @@ use crate::limits::hint_for_limit;
 use crate::names::hint_for_name;
 use crate::peers::hint_for_peer;
 use std::str;
-use suffix_routes::{ConfigFault, Kind, Place};
+use suffix_routes::{ConfigFault, Kind, LIMITS, Place};
 
 /// The hint for a fault of a readable TOML text. `None` if the fault's own text is enough.
 pub fn hint_for_fault(fault: &ConfigFault) -> Option<Hint> {
@@ -27,10 +27,9 @@ fn hint_for_kind(place: Place, kind: Kind) -> Option<Hint> {
     match (place, kind) {
         (Place::Routes, Kind::Table) => Some(Hint::RouteHeader),
         (Place::Servers(_), Kind::String) => Some(Hint::Array),
-        (Place::Limit(limit), Kind::String) => Some(hint_for_limit(
-            limit.key().as_bytes(),
-            Hint::NoQuotes,
-        )),
+        (Place::Limit(limit), Kind::String) => LIMITS
+            .get(limit)
+            .map(|limit| hint_for_limit(limit.key.as_bytes(), Hint::NoQuotes)),
         (Place::Version | Place::Deny(_), Kind::String) => Some(Hint::NoQuotes),
         _ => None,
     }

@@ -1,52 +1,45 @@
 -- Configurations of the first version.
-use Rattle.std.proofs.Common.{◌≡◌, ℕ, false, List, Option, Some, None, Result, Ok, Err, refl, ap, sym, subst, ◌∙◌}
-use Rattle.std.specs.Prelude.{codes}
+use Rattle.std.proofs.Common.{◌≡◌, ℕ, false, List, [], Option, Some, None, Result, Ok, Err, refl, ap, sym, subst, ◌∙◌}
+use Rattle.std.specs.Prelude.{codes, slice_index}
 use Rattle.std.specs.List.{AllByRecursion}
 use Rattle.toml.specs.Data.{Data, Members, get_member}
 use Rattle.toml.specs.Parse.{parse_document}
 use Rattle.suffix_routes.specs.declared.version.Version.{Version}
-use Rattle.suffix_routes.specs.declared.version.Version.TheVariants.{One}
-use Rattle.suffix_routes.specs.declared.place.Limit.TheVariants as limit
+use Rattle.suffix_routes.specs.declared.version.Version.TheVariants.{One, Two}
 use Rattle.suffix_routes.specs.declared.place.Place.TheVariants as place
 use Rattle.suffix_routes.specs.declared.fault.ConfigFault.{ConfigFault}
 use Rattle.suffix_routes.specs.declared.peer.Peer.{Peer}
 use Rattle.suffix_routes.specs.declared.limits.Limits.{Limits}
-use Rattle.suffix_routes.specs.Values.{Route, Config, HasNeither, default_limits}
-use Rattle.suffix_routes.specs.Reading.{◌>>=◌, HasVersion, IsAnswerFor, table_in, known_keys, version_in, listen_in, limit_in, all_limits_in, limits_of, limits_in, routes_in, config_in}
+use Rattle.suffix_routes.specs.Limits.{Row, row, limits_table, limits_with, default_limits}
+use Rattle.suffix_routes.specs.Values.{Route, Config, HasNeither}
+use Rattle.suffix_routes.specs.Reading.{◌>>=◌, HasVersion, IsAnswerFor, table_in, known_keys, version_in, listen_in, limit_in, values_after, all_limits_in, limits_of, limits_in, routes_in, config_in}
 use Rattle.suffix_routes.specs.Laws.{FirstVersionHasNeither}
 use Rattle.suffix_routes.proofs.VersionLaws.{stale_s_is_strange}
+use Rattle.suffix_routes.proofs.LimitLaws.{Gives, values_read, at_place}
 use Rattle.suffix_routes.proofs.ReadRoutes.{bind_ok, routes_accepted}
 
 -- ---- the limits
 
+abbrev window : Row
+window = row (codes "stale_s") 0 86400 0 Two
+
 -- a limit without a key has its default
-no_window : (ms : Members) (n : ℕ) → get_member (codes "stale_s") ms ≡ None → limit_in limit.StaleS ms ≡ Ok n → n ≡ 0
+no_window : (at : ℕ) (ms : Members) (n : ℕ) → get_member (codes "stale_s") ms ≡ None → limit_in at window ms ≡ Ok n → n ≡ 0
 unfolding limit_in
-no_window ms n none is = let one : Ok 0 ≡ Ok n = rw none at is in cc
+no_window at ms n none is = let one : Ok 0 ≡ Ok n = rw none at is in cc
 
 all_limits_window : (ms : Members) (limits : Limits) → all_limits_in One ms ≡ Ok limits → limits.stale_s ≡ 0
 unfolding all_limits_in
 all_limits_window ms limits is =
-    let seven : ℕ → ℕ → ℕ → ℕ → ℕ → ℕ → ℕ → Result Limits ConfigFault = λ q i c t a d s. Ok (record { questions = q; inquiries = i; cache = c; tries = t; ask_ms = a; deadline_ms = d; stale_s = s }) in
-    let six : ℕ → ℕ → ℕ → ℕ → ℕ → ℕ → Result Limits ConfigFault = λ q i c t a d. limit_in limit.StaleS ms >>= seven q i c t a d in
-    let five : ℕ → ℕ → ℕ → ℕ → ℕ → Result Limits ConfigFault = λ q i c t a. limit_in limit.DeadlineMs ms >>= six q i c t a in
-    let four : ℕ → ℕ → ℕ → ℕ → Result Limits ConfigFault = λ q i c t. limit_in limit.AskMs ms >>= five q i c t in
-    let three : ℕ → ℕ → ℕ → Result Limits ConfigFault = λ q i c. limit_in limit.Tries ms >>= four q i c in
-    let two : ℕ → ℕ → Result Limits ConfigFault = λ q i. limit_in limit.Cache ms >>= three q i in
-    let one : ℕ → Result Limits ConfigFault = λ q. limit_in limit.Inquiries ms >>= two q in
-    let keys = bind_ok (known_keys One place.Limits ms) (λ _. limit_in limit.Questions ms >>= one) limits is in
-    let q = bind_ok (limit_in limit.Questions ms) one limits keys.next in
-    let i = bind_ok (limit_in limit.Inquiries ms) (two q.value) limits q.next in
-    let c = bind_ok (limit_in limit.Cache ms) (three q.value i.value) limits i.next in
-    let t = bind_ok (limit_in limit.Tries ms) (four q.value i.value c.value) limits c.next in
-    let a = bind_ok (limit_in limit.AskMs ms) (five q.value i.value c.value t.value) limits t.next in
-    let d = bind_ok (limit_in limit.DeadlineMs ms) (six q.value i.value c.value t.value a.value) limits a.next in
-    let s = bind_ok (limit_in limit.StaleS ms) (seven q.value i.value c.value t.value a.value d.value) limits d.next in
-    let none : s.value ≡ 0 = no_window ms s.value (stale_s_is_strange ms keys.value keys.there) s.there in
-    let made : Limits = record { questions = q.value; inquiries = i.value; cache = c.value; tries = t.value; ask_ms = a.value; deadline_ms = d.value; stale_s = s.value } in
-    let whole : Ok made ≡ Ok limits = s.next in
-    let same : made ≡ limits = cc in
-    sym (ap (λ (l : Limits). l.stale_s) {x = made} same) ∙ none
+    let made : List ℕ → Result Limits ConfigFault = λ values. Ok (limits_with values) in
+    let keys = bind_ok (known_keys One place.Limits ms) (λ _. values_after [] limits_table ms >>= made) limits is in
+    let values = bind_ok (values_after [] limits_table ms) made limits keys.next in
+    let read = values_read [] limits_table ms values.value values.there in
+    let last = at_place (Gives ms) limits_table read.own 6 window read.each refl in
+    let none : slice_index read.own 6 ≡ 0 = no_window last.0 ms (slice_index read.own 6) (stale_s_is_strange ms keys.value keys.there) last.1 in
+    let whole : Ok (limits_with values.value) ≡ Ok limits = values.next in
+    let same : limits_with values.value ≡ limits = cc in
+    sym (ap (λ (l : Limits). l.stale_s) same) ∙ (ap (λ (ns : List ℕ). slice_index ns 6) read.are ∙ none)
 
 limits_window : (stands : Option Data) (limits : Limits) → limits_of One stands ≡ Ok limits → limits.stale_s ≡ 0
 limits_window None limits is = let same : default_limits ≡ limits = cc in sym (ap (λ (l : Limits). l.stale_s) same)

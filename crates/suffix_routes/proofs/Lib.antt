@@ -4,6 +4,7 @@ pub mod ExcerptOf
 pub mod ReadLaws
 pub mod VersionLaws
 pub mod ReadRoutes
+pub mod LimitLaws
 pub mod FirstVersion
 pub mod Worked
 pub mod PeerLaws

@@ -15,8 +15,6 @@ use Rattle.suffix_routes.specs.declared.peer.Peer.{Peer}
 use Rattle.suffix_routes.specs.declared.limits.Limits.{Limits}
 use Rattle.suffix_routes.specs.declared.version.Version.{Version}
 use Rattle.suffix_routes.specs.declared.version.Version.TheVariants.{One, Two}
-use Rattle.suffix_routes.specs.declared.place.Limit.{Limit}
-use Rattle.suffix_routes.specs.declared.place.Limit.TheVariants as limit
 use Rattle.suffix_routes.specs.declared.place.Place.{Place}
 use Rattle.suffix_routes.specs.declared.place.Place.TheVariants as place
 use Rattle.suffix_routes.specs.declared.fault.ConfigFault.{ConfigFault}
@@ -25,8 +23,9 @@ use Rattle.suffix_routes.specs.declared.fault.ConfigFault.TheVariants.{Toml, Mis
 use Rattle.suffix_routes.specs.declared.fault.ConfigFault.TheVariants.{Range, TooManyServers, TwiceSuffix}
 use Rattle.suffix_routes.specs.declared.fault.ConfigFault.TheVariants.{TooManyRoutes, NoServers, UnknownKey}
 use Rattle.suffix_routes.specs.declared.fault.ConfigFault.TheVariants.{DenyWithServers, Memory}
-use Rattle.suffix_routes.specs.Values.{Route, Config, default_limits}
-use Rattle.suffix_routes.specs.Places.{limit_key, lowest, highest, default_of, knows}
+use Rattle.suffix_routes.specs.Limits.{Row, limits_table, limits_with, default_limits}
+use Rattle.suffix_routes.specs.Values.{Route, Config}
+use Rattle.suffix_routes.specs.Places.{knows}
 use Rattle.suffix_routes.specs.Positions.{position_of}
 use Rattle.suffix_routes.specs.Peers.{peer_of}
 use Rattle.suffix_routes.specs.Excerpts.{excerpt}
@@ -113,19 +112,19 @@ peer_in place d =
     text_in place d >>= λ text.
     ok_or (peer_of text) (BadPeer place (excerpt text))
 
--- a limit: its default if the key is absent, otherwise an integer in its range
-abbrev pub in_range : Limit → ℤ → Result ℕ ConfigFault
-in_range limit z =
-    if int_le (pos (lowest limit)) z && int_le z (pos (highest limit)) then Ok (unsigned_abs z) else Err (Range limit z)
+-- an integer in the range of the limit at this place of the table
+abbrev pub in_range : ℕ → Row → ℤ → Result ℕ ConfigFault
+in_range at limit z =
+    if int_le limit.least z && int_le z limit.most then Ok (unsigned_abs z) else Err (Range at z)
 
 -- a limit by its value, if any; otherwise its default
-abbrev pub limit_of : Limit → Option Data → Result ℕ ConfigFault
-limit_of limit None = Ok (default_of limit)
-limit_of limit (Some d) = integer_in (place.Limit limit) d >>= in_range limit
+abbrev pub limit_of : ℕ → Row → Option Data → Result ℕ ConfigFault
+limit_of at limit None = Ok limit.default
+limit_of at limit (Some d) = integer_in (place.Limit at) d >>= in_range at limit
 
 -- a limit in the table `limits`
-unfoldable pub limit_in : Limit → Members → Result ℕ ConfigFault
-limit_in limit ms = limit_of limit (get_member (limit_key limit) ms)
+unfoldable pub limit_in : ℕ → Row → Members → Result ℕ ConfigFault
+limit_in at limit ms = limit_of at limit (get_member limit.key ms)
 
 -- ---- the keys of the document
 
@@ -152,26 +151,18 @@ listen_of (Some d) = peer_in place.Listen d
 unfoldable pub listen_in : Members → Result Peer ConfigFault
 listen_in ms = listen_of (get_member (codes "listen") ms)
 
--- the limits in their order
+-- the values before, and the values of the remaining limits
+abbrev pub values_after : List ℕ → List Row → Members → Result (List ℕ) ConfigFault
+values_after earlier [] ms = Ok earlier
+values_after earlier (limit ∷ limits) ms = limit_in (length earlier) limit ms
+    >>= λ value. values_after (earlier ++ value ∷ []) limits ms
+
+-- the limits in the order of their table
 unfoldable pub all_limits_in : Version → Members → Result Limits ConfigFault
 all_limits_in version ms =
     known_keys version place.Limits ms >>= λ _.
-    limit_in limit.Questions ms >>= λ questions.
-    limit_in limit.Inquiries ms >>= λ inquiries.
-    limit_in limit.Cache ms >>= λ cache.
-    limit_in limit.Tries ms >>= λ tries.
-    limit_in limit.AskMs ms >>= λ ask_ms.
-    limit_in limit.DeadlineMs ms >>= λ deadline_ms.
-    limit_in limit.StaleS ms >>= λ stale_s.
-    Ok (record {
-      questions = questions;
-      inquiries = inquiries;
-      cache = cache;
-      tries = tries;
-      ask_ms = ask_ms;
-      deadline_ms = deadline_ms;
-      stale_s = stale_s;
-    })
+    values_after [] limits_table ms >>= λ values.
+    Ok (limits_with values)
 
 -- the limits of a table `limits`, or all defaults
 abbrev pub limits_of : Version → Option Data → Result Limits ConfigFault

@@ -6,7 +6,7 @@ ghost use Rattle.suffix_routes.specs.declared.fault.ConfigFault.TheVariants.{Mem
 
 use crate::excerpt::Excerpt;
 use crate::kind::Kind;
-use crate::place::{Limit, Place};
+use crate::place::{Place, Range, Remedy};
 use crate::position::Position;
 use crate::version::Version;
 use dns_name::NameFault;
@@ -35,9 +35,9 @@ pub enum ConfigFault {
     /// The value at this place is this text, which is no peer.
     #[error("{0} is {1}, and has to be four numbers from 0 to 255 with dots between, a colon, and a port from 1 to 65535")]
     BadPeer(Place, Excerpt),
-    /// A limit has this value, out of its range.
-    #[error("{} is {}, and has to be {} to {}", Place::Limit(*.0), .1, .0.lowest(), .0.highest())]
-    Range(Limit, i64),
+    /// The limit at this place of their table has this value, out of its range.
+    #[error("{} is {}, and has to be {}", Place::Limit(*.0), .1, Range(*.0))]
+    Range(usize, i64),
     /// The number of servers of the route at this place, more than 8.
     #[error("{} are {}, and have to be 1 to 8", Place::Servers(*.0), .1)]
     TooManyServers(usize, usize),
@@ -52,7 +52,7 @@ pub enum ConfigFault {
     NoServers(usize),
     /// In a text of this version the table at this place has this unknown key: of several the least
     /// by octets.
-    #[error("{} has the key {}, which {} {}", .1, .2, .1.refusal(*.0, .2), .1.remedy(*.0, .2))]
+    #[error("{} has the key {}, which {}", .1, .2, Remedy(*.0, *.1, *.2))]
     UnknownKey(Version, Place, Excerpt),
     /// The route at this place denies, and has the key `servers`.
     #[error("{} is there, and has to be missing where `deny` is true", Place::Servers(*.0))]

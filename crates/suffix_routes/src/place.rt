@@ -1,91 +1,13 @@
-//! Places in a configuration, and the limits by their keys.
+//! Places in a configuration.
 
-ghost use Rattle.std.specs.Prelude.{◌≡◌, pos};
+ghost use Rattle.std.specs.Prelude.{◌≡◌};
 ghost use Rattle.suffix_routes.specs.declared.version.Version.TheVariants.{One};
-ghost use Rattle.suffix_routes.specs.Places.{limit_key, limit_keys, route_keys, is_among, lowest, highest, default_of};
-ghost use Rattle.suffix_routes.specs.Places.{knows};
+ghost use Rattle.suffix_routes.specs.Places.{route_keys, is_among, knows};
 
 use crate::excerpt::Excerpt;
+use crate::limits::{LIMITS, is_limit_key};
 use crate::version::Version;
 use std::fmt;
-
-/// A limit, by its key in the table `limits`.
-#[derive(Clone, Copy, Debug, PartialEq, Eq)]
-pub enum Limit {
-    /// `questions`
-    Questions,
-    /// `inquiries`
-    Inquiries,
-    /// `cache`
-    Cache,
-    /// `tries`
-    Tries,
-    /// `ask_ms`
-    AskMs,
-    /// `deadline_ms`
-    DeadlineMs,
-    /// `stale_s`
-    StaleS,
-}
-
-impl Limit {
-    /// The key in the table `limits`.
-    pub fn key(self) -> &'static str
-        ensures { result.now ≡ limit_key self }
-    {
-        match self {
-            Limit::Questions => "questions",
-            Limit::Inquiries => "inquiries",
-            Limit::Cache => "cache",
-            Limit::Tries => "tries",
-            Limit::AskMs => "ask_ms",
-            Limit::DeadlineMs => "deadline_ms",
-            Limit::StaleS => "stale_s",
-        }
-    }
-
-    /// The lowest allowed value.
-    pub fn lowest(self) -> i64
-        ensures { result ≡ pos (lowest self) }
-    {
-        match self {
-            Limit::Questions | Limit::Inquiries | Limit::Cache | Limit::Tries => 1,
-            Limit::AskMs => 100,
-            Limit::DeadlineMs => 500,
-            Limit::StaleS => 0,
-        }
-    }
-
-    /// The highest allowed value.
-    pub fn highest(self) -> i64
-        ensures { result ≡ pos (highest self) }
-    {
-        match self {
-            Limit::Questions => 4096,
-            Limit::Inquiries => 1024,
-            Limit::Cache => 65_536,
-            Limit::Tries => 16,
-            Limit::AskMs => 10_000,
-            Limit::DeadlineMs => 30_000,
-            Limit::StaleS => 86_400,
-        }
-    }
-
-    /// The value without a key.
-    pub fn default_value(self) -> u64
-        ensures { result ≡ default_of self }
-    {
-        match self {
-            Limit::Questions => 1024,
-            Limit::Inquiries => 256,
-            Limit::Cache => 4096,
-            Limit::Tries => 4,
-            Limit::AskMs => 1500,
-            Limit::DeadlineMs => 8000,
-            Limit::StaleS => 0,
-        }
-    }
-}
 
 /// A place in a configuration. Routes and servers are counted from 0 here, and from 1 in text.
 #[derive(Clone, Copy, Debug, PartialEq, Eq)]
@@ -98,8 +20,8 @@ pub enum Place {
     Listen,
     /// The table `limits`.
     Limits,
-    /// A key of `limits`.
-    Limit(Limit),
+    /// A key of `limits`, by the limit's place in their table.
+    Limit(usize),
     /// The array `route`.
     Routes,
     /// A table of the array `route`.
@@ -136,45 +58,23 @@ impl Place {
         }
     }
 
-    /// The known keys of a table at this place in this version.
+    /// The known keys of a table at this place in this version, but for the table `limits`: those
+    /// are in `LIMITS`.
     pub fn keys(&self, version: Version) -> &'static str {
         match (self, version) {
             (Place::Document, _) => "`version`, `listen`, `limits`, `route`",
-            (Place::Limits, Version::One) => {
-                "`questions`, `inquiries`, `cache`, `tries`, `ask_ms`, `deadline_ms`"
-            }
-            (Place::Limits, Version::Two) => {
-                "`questions`, `inquiries`, `cache`, `tries`, `ask_ms`, `deadline_ms`, `stale_s`"
-            }
             (Place::Route(_), Version::One) => "`suffix`, `servers`",
             (Place::Route(_), Version::Two) => "`suffix`, `deny`, `servers`",
             _ => "none",
         }
     }
 
-    /// The reason why a key is refused that is unknown in this version for a table at this place;
-    /// `remedy` follows.
-    pub(crate) fn refusal(&self, version: Version, key: &Excerpt) -> &'static str {
-        if self.needs_second(version, key) {
-            "needs"
-        } else {
-            "is none of"
-        }
-    }
-
-    /// The text to write in place of such a key, or next to it.
-    pub(crate) fn remedy(&self, version: Version, key: &Excerpt) -> &'static str {
-        if self.needs_second(version, key) {
-            "`version = 2`"
-        } else {
-            self.keys(version)
-        }
-    }
-
     /// Whether only the second version has this key at this place, and the text is of the first.
     fn needs_second(&self, version: Version, key: &Excerpt) -> bool {
         match (self, version) {
-            (Place::Limits, Version::One) => key.octets() == b"stale_s".as_slice(),
+            (Place::Limits, Version::One) => LIMITS
+                .iter()
+                .any(|limit| !limit.is_in(version) && key.octets() == limit.key.as_bytes()),
             (Place::Route(_), Version::One) => key.octets() == b"deny".as_slice(),
             _ => false,
         }
@@ -194,26 +94,6 @@ impl Place {
             _ => false,
         }
     }
-}
-
-fn is_limit_key(version: Version, key: &str) -> bool
-    ensures { result ≡ is_among (limit_keys version) key.now }
-{
-    match version {
-        Version::One => is_first_limit_key(key),
-        Version::Two => key == "stale_s" || is_first_limit_key(key),
-    }
-}
-
-fn is_first_limit_key(key: &str) -> bool
-    ensures { result ≡ is_among (limit_keys One) key.now }
-{
-    key == "questions"
-        || key == "inquiries"
-        || key == "cache"
-        || key == "tries"
-        || key == "ask_ms"
-        || key == "deadline_ms"
 }
 
 fn is_route_key(version: Version, key: &str) -> bool
@@ -238,7 +118,10 @@ impl fmt::Display for Place {
             Place::Version => write!(f, "`version`"),
             Place::Listen => write!(f, "`listen`"),
             Place::Limits => write!(f, "`limits`"),
-            Place::Limit(limit) => write!(f, "`{}` in `limits`", limit.key()),
+            Place::Limit(limit) => match LIMITS.get(*limit) {
+                Some(limit) => write!(f, "`{}` in `limits`", limit.key),
+                None => write!(f, "a key of `limits`"),
+            },
             Place::Routes => write!(f, "`route`"),
             Place::Route(route) => write!(f, "route {}", route.saturating_add(1)),
             Place::Suffix(route) => write!(f, "`suffix` of route {}", route.saturating_add(1)),
@@ -248,6 +131,51 @@ impl fmt::Display for Place {
                 let (server, route) = (server.saturating_add(1), route.saturating_add(1));
                 write!(f, "server {server} of route {route}")
             }
+        }
+    }
+}
+
+/// The reason why a key is refused that is unknown in this version for a table at this place, and
+/// the text to write in its place, or next to it.
+#[derive(Clone, Copy)]
+pub(crate) struct Remedy(pub Version, pub Place, pub Excerpt);
+
+impl fmt::Display for Remedy {
+    fn fmt<W: fmt::Write>(&self, f: &mut fmt::Formatter<W>) -> fmt::Result {
+        let Remedy(version, place, key) = self;
+        if place.needs_second(*version, key) {
+            return f.write_str("needs `version = 2`");
+        }
+        f.write_str("is none of ")?;
+        match place {
+            Place::Limits => write_limits(f, *version),
+            _ => f.write_str(place.keys(*version)),
+        }
+    }
+}
+
+/// Writes the keys of the limits of this version.
+fn write_limits<W: fmt::Write>(f: &mut fmt::Formatter<W>, version: Version) -> fmt::Result {
+    let mut is_first = true;
+    for limit in LIMITS.iter() {
+        if limit.is_in(version) {
+            f.write_str(if is_first { "" } else { ", " })?;
+            write!(f, "`{}`", limit.key)?;
+            is_first = false;
+        }
+    }
+    Ok(())
+}
+
+/// The range of a limit, by its place in their table.
+#[derive(Clone, Copy)]
+pub(crate) struct Range(pub usize);
+
+impl fmt::Display for Range {
+    fn fmt<W: fmt::Write>(&self, f: &mut fmt::Formatter<W>) -> fmt::Result {
+        match LIMITS.get(self.0) {
+            Some(limit) => write!(f, "{} to {}", limit.least, limit.most),
+            None => Ok(()),
         }
     }
 }

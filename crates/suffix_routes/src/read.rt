@@ -1,18 +1,19 @@
 //! A configuration, read from text.
 
-ghost use Rattle.std.specs.Prelude.{◌≡◌, ◌≤◌, IfOk, length, take};
+ghost use Rattle.std.specs.Prelude.{◌≡◌, ◌≤◌, [], IfOk, length, map, take};
 ghost use Rattle.suffix_routes.specs.Positions.{position_of};
+ghost use Rattle.suffix_routes.specs.Limits.{row_of};
 ghost use Rattle.suffix_routes.specs.Values.{AreLimits};
 ghost use Rattle.suffix_routes.specs.declared.fault.ConfigFault.TheVariants.{Toml};
 ghost use Rattle.toml.specs.View.{table_view};
 ghost use Rattle.suffix_routes.specs.Reading.{Gives, IsReadIn, version_in, listen_in, limits_in, all_limits_in};
-ghost use Rattle.suffix_routes.specs.Reading.{config_in};
+ghost use Rattle.suffix_routes.specs.Reading.{values_after, config_in};
 
 use crate::config::Config;
 use crate::fault::ConfigFault;
-use crate::limits::Limits;
+use crate::limits::{LIMITS, Limit, Limits};
 use crate::peer::Peer;
-use crate::place::{Limit, Place};
+use crate::place::Place;
 use crate::position::Position;
 use crate::read_route::read_routes;
 use crate::table::{check_keys, integer_at, limit_at, peer_at, require, table_at, value_of};
@@ -111,27 +112,24 @@ fn read_limits(table: &Table, version: Version) -> Result<Limits, ConfigFault>
     }
 }
 
-/// Each limit in its order.
-#[tactic(auto, unfolding(crate::specs::Reading::all_limits_in))]
+/// The limits of a table `limits`.
+#[tactic(auto, unfolding(crate::specs::Reading::all_limits_in), using(crate::proofs::LimitLaws::table_is_in))]
 fn read_all_limits(table: &Table, version: Version) -> Result<Limits, ConfigFault>
     ensures given { result ≡ all_limits_in version (table_view table.now) }
     ensures accepted { IfOk result AreLimits }
 {
     check_keys(table, version, Place::Limits)?;
-    let questions = limit_at(table, Limit::Questions)?;
-    let inquiries = limit_at(table, Limit::Inquiries)?;
-    let cache = limit_at(table, Limit::Cache)?;
-    let tries = limit_at(table, Limit::Tries)?;
-    let ask_ms = limit_at(table, Limit::AskMs)?;
-    let deadline_ms = limit_at(table, Limit::DeadlineMs)?;
-    let stale_s = limit_at(table, Limit::StaleS)?;
-    Ok(Limits {
-        questions: questions as usize,
-        inquiries: inquiries as usize,
-        cache: cache as usize,
-        tries: tries as u8,
-        ask_ms,
-        deadline_ms,
-        stale_s: stale_s as u32,
-    })
+    let values = read_values(table, &LIMITS)?;
+    Ok(Limits::with(&values))
+}
+
+/// The value of each of these limits, in their order.
+fn read_values(table: &Table, limits: &[Limit; 7]) -> Result<[u64; 7], ConfigFault>
+    ensures { result ≡ values_after [] (map row_of limits.now) (table_view table.now) }
+{
+    let mut values = [0; 7];
+    for (place, limit) in limits.iter().enumerate() {
+        values[place] = limit_at(table, place, limit)?;
+    }
+    Ok(values)
 }

@@ -1,11 +1,12 @@
 //! The values at places of a TOML table.
 
-ghost use Rattle.std.specs.Prelude.{◌≡◌, ◌≤◌, IfOk, not, map, option_map, option_copied, string_bytes};
+ghost use Rattle.std.specs.Prelude.{◌≡◌, not, map, option_map, option_copied, string_bytes};
 ghost use Rattle.std.specs.BTreeMap.{keys};
 ghost use Rattle.std.specs.List.{find};
 ghost use Rattle.toml.specs.Data.{get_member};
 ghost use Rattle.toml.specs.View.{view, table_view};
-ghost use Rattle.suffix_routes.specs.Places.{knows, limit_key, lowest, highest};
+ghost use Rattle.suffix_routes.specs.Limits.{row_of};
+ghost use Rattle.suffix_routes.specs.Places.{knows};
 ghost use Rattle.suffix_routes.specs.Reading.{Shows, known_keys, required, peer_in, limit_in, in_range, text_in};
 ghost use Rattle.suffix_routes.specs.Reading.{array_in, table_in, integer_in, boolean_in};
 
@@ -13,7 +14,8 @@ use crate::excerpt::Excerpt;
 use crate::fault::ConfigFault;
 use crate::kind::Kind;
 use crate::peer::Peer;
-use crate::place::{Limit, Place};
+use crate::limits::Limit;
+use crate::place::Place;
 use crate::version::Version;
 use toml::{Table, Value};
 
@@ -117,25 +119,24 @@ pub(crate) fn peer_at(value: &Value, place: Place) -> Result<Peer, ConfigFault>
     }
 }
 
-/// A limit: its default where its key is absent, otherwise an integer in its range.
+/// The limit at this place of the table of limits: its default where its key is absent, otherwise an
+/// integer in its range.
 #[tactic(auto, unfolding(crate::specs::Reading::limit_in))]
-pub(crate) fn limit_at(table: &Table, limit: Limit) -> Result<u64, ConfigFault>
-    ensures value { result ≡ limit_in limit (table_view table.now) }
-    ensures range { IfOk result (λ n. (lowest limit ≤ n) × (n ≤ highest limit)) }
+pub(crate) fn limit_at(table: &Table, place: usize, limit: &Limit) -> Result<u64, ConfigFault>
+    ensures { result ≡ limit_in place (row_of limit.now) (table_view table.now) }
 {
-    match value_of(table, limit.key()) {
-        None => Ok(limit.default_value()),
-        Some(value) => in_range(limit, integer_at(value, Place::Limit(limit))?),
+    match value_of(table, limit.key) {
+        None => Ok(limit.default),
+        Some(value) => in_range(place, limit, integer_at(value, Place::Limit(place))?),
     }
 }
 
-fn in_range(limit: Limit, value: i64) -> Result<u64, ConfigFault>
-    ensures value { result ≡ in_range limit value }
-    ensures range { IfOk result (λ n. (lowest limit ≤ n) × (n ≤ highest limit)) }
+fn in_range(place: usize, limit: &Limit, value: i64) -> Result<u64, ConfigFault>
+    ensures { result ≡ in_range place (row_of limit.now) value }
 {
-    if limit.lowest() <= value && value <= limit.highest() {
+    if limit.least <= value && value <= limit.most {
         Ok(value.unsigned_abs())
     } else {
-        Err(ConfigFault::Range(limit, value))
+        Err(ConfigFault::Range(place, value))
     }
 }
