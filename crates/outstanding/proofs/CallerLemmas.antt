@@ -11,6 +11,7 @@ use Rattle.outstanding.specs.Values.{Ask}
 use Rattle.outstanding.specs.Lists.{same_path, on_path, of_question, without_path, IsInTime, AreInTurn, AreListed, MayBegin}
 use Rattle.outstanding.specs.Laws.{NextMayBegin, EndedIsUnlisted, UnlistedStaysSo}
 use Rattle.outstanding.specs.Orders.{key_cmp, question_key}
+use Rattle.outstanding.specs.OrderLaws as laws
 use Rattle.outstanding.proofs.Listed as listed
 use Rattle.outstanding.proofs.SameOrders as orders
 use Rattle.outstanding.proofs.Retries as retries
@@ -61,10 +62,10 @@ next_may_begin = retries.next_begins
 
 -- different numbers decide the order of keys
 pub question_numbers_tell : (a b : QuestionKey) → ordering_then (nat_cmp a.number b.number) (key_cmp a b) ≡ key_cmp a b
-question_numbers_tell = orders.key_numbers_tell
+question_numbers_tell = laws.key_numbers_tell
 
 pub question_keys_are_ordered : IsTotalOrder key_cmp
-question_keys_are_ordered = orders.key_total
+question_keys_are_ordered = laws.key_total
 
 -- questions are equal exactly if their keys are
 pub same_question_by_keys : (q r : Question) → same_question q r ≡ is_eq (key_cmp (question_key q) (question_key r))

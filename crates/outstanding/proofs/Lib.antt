@@ -1,10 +1,7 @@
 pub mod Listed
 pub mod Dues
 pub mod Retries
-pub mod Searches
-pub mod KeyEdits
-pub mod KeyNumbers
-pub mod AsksUnder
 pub mod SameOrders
-pub mod Indexed
+pub mod Unique
+pub mod Tables
 pub mod CallerLemmas

@@ -23,7 +23,7 @@ same_question-join a b q one other =
     (same_question_decides a b).1 (same_question_transitive a q b first (same_question_symmetric b q second))
 
 -- if a equals q and b differs from a, b differs from q
-differs : (a b q : Question) → same_question a q ≡ true → same_question a b ≡ false → same_question b q ≡ false
+pub differs : (a b q : Question) → same_question a q ≡ true → same_question a b ≡ false → same_question b q ≡ false
 differs a b q one other = by (same_question b q) refl
   where
     by : (v : Bool) → same_question b q ≡ v → v ≡ false

@@ -1,11 +1,9 @@
 -- The search orders of paths and questions: equal in the order exactly if equal by the test.
-use Rattle.std.proofs.Common.{◌≡◌, ℕ, ◌<◌, Bool, true, false, ◌&&◌, ◌==◌, List, is_eq, nat_cmp, Ordering, Less, Equal, Greater, refl, sym, ap, ◌∙◌, ap₂, inl, inr, arith}
-use Rattle.std.specs.Prelude.{min}
+use Rattle.std.proofs.Common.{◌≡◌, ℕ, Bool, true, false, ◌&&◌, ◌==◌, List, is_eq, nat_cmp, Ordering, Less, Equal, Greater, refl, sym, ap, ◌∙◌, ap₂, arith}
 use Rattle.std.specs.Bool.{Decides}
 use Rattle.std.specs.Ordering.{ordering_then}
-use Rattle.std.specs.Cmp.{IsTotalOrder, nat_cmp_is}
 use Rattle.std.specs.Cmp.Lexicographic.{slice_cmp, bytes_decides}
-use Rattle.std.proofs.lemmas.Bool.{and_parts, cases_order, eqb-true, eq-eqb, false≢true}
+use Rattle.std.proofs.lemmas.Bool.{and_parts, eqb-true, eq-eqb, false≢true}
 use Rattle.std.proofs.lemmas.Bool.Decides.{nat_tests, same_from_decides}
 use Rattle.std.proofs.lemmas.Cmp.{tied_itself}
 use Rattle.std.proofs.lemmas.Map.Text.{is_eq-slice_cmp}
@@ -18,17 +16,8 @@ use Rattle.dns_message.specs.Values.{Question}
 use Rattle.dns_message.specs.Questions.{same_question}
 use Rattle.outstanding.specs.declared.ask.Path.{Path}
 use Rattle.outstanding.specs.declared.ask.Path.TheVariants.{Udp, Tcp}
-use Rattle.outstanding.specs.declared.keyed.QuestionKey.{QuestionKey}
-use Rattle.outstanding.specs.contracts.ask.PathOrd.TheImpl.Laws as path_laws
-use Rattle.outstanding.specs.contracts.keyed.QuestionKeyOrd.TheImpl.Laws as key_laws
-use Rattle.outstanding.specs.Orders.{path_cmp, path_number, key_cmp, name_number, question_key}
+use Rattle.outstanding.specs.Orders.{path_cmp, key_cmp, name_number, question_key}
 use Rattle.outstanding.specs.Lists.{same_path}
-
-pub path_total : IsTotalOrder path_cmp
-path_total = path_laws.total-law
-
-pub key_total : IsTotalOrder key_cmp
-key_total = key_laws.total-law
 
 pub equal_from : (o : Ordering) → is_eq o ≡ true → o ≡ Equal
 equal_from Less e = absurd (false≢true e)
@@ -46,29 +35,7 @@ same_path_is (Tcp a) (Tcp b) = numbers a b
 same_path_is (Udp a) (Tcp b) = refl
 same_path_is (Tcp a) (Udp b) = refl
 
--- numbers that agree with an order, unless equal, may be compared first
-numbers_first : (m n : ℕ) (o : Ordering) → (m < n → Less ≡ o) → (n < m → Greater ≡ o) → ordering_then (nat_cmp m n) o ≡ o
-numbers_first m n o less greater = elim (cases_order m n) [
-  | inl same ↦ ap (λ c. ordering_then c o) (sym (nat_cmp_is m n Equal same))
-  | inr (inl lt) ↦ ap (λ c. ordering_then c o) (sym (nat_cmp_is m n Less lt)) ∙ less lt
-  | inr (inr gt) ↦ ap (λ c. ordering_then c o) (sym (nat_cmp_is m n Greater gt)) ∙ greater gt
-]
-
-pub path_numbers_tell : (a b : Path) → ordering_then (nat_cmp (path_number a) (path_number b)) (path_cmp a b) ≡ path_cmp a b
-path_numbers_tell (Udp a) (Udp b) = numbers_first (min a 65536) (min b 65536) (nat_cmp a b) (λ lt. nat_cmp_is a b Less (omega arith)) (λ gt. nat_cmp_is a b Greater (omega arith))
-path_numbers_tell (Udp a) (Tcp b) = numbers_first (min a 65536) 65536 Less (λ lt. refl) (λ gt. absurd (omega arith))
-path_numbers_tell (Tcp a) (Udp b) = numbers_first 65536 (min b 65536) Greater (λ lt. absurd (omega arith)) (λ gt. refl)
-path_numbers_tell (Tcp a) (Tcp b) = refl
-
 -- ---- questions
-
-twice : (x y : Ordering) → ordering_then x (ordering_then x y) ≡ ordering_then x y
-twice Less y = refl
-twice Equal y = refl
-twice Greater y = refl
-
-pub key_numbers_tell : (a b : QuestionKey) → ordering_then (nat_cmp a.number b.number) (key_cmp a b) ≡ key_cmp a b
-key_numbers_tell a b = twice (nat_cmp a.number b.number) _
 
 both_equal : (x y : Ordering) → is_eq (ordering_then x y) ≡ is_eq x && is_eq y
 both_equal Less y = refl

@@ -4,6 +4,7 @@ pub mod Due
 pub mod Draws
 pub mod Laws
 pub mod Orders
+pub mod OrderLaws
 pub mod Tables
 pub use Rattle.suffix_routes.specs as SuffixRoutes
 pub use Rattle.dns_message.specs as DnsMessage

@@ -4,6 +4,8 @@ use Rattle.std.specs.List.{fold}
 use Rattle.std.specs.declared.cmp.Ordering.{Ordering}
 use Rattle.dns_message.specs.DnsName.Labels.{lowered, octets_of}
 use Rattle.dns_message.specs.Values.{Question}
+use Rattle.ordered_keys.specs.Orders.{Order}
+use Rattle.outstanding.specs.Values.{Ask}
 use Rattle.outstanding.specs.declared.ask.Path.{Path}
 use Rattle.outstanding.specs.declared.ask.Path.TheVariants.{Udp, Tcp}
 use Rattle.outstanding.specs.declared.keyed.QuestionKey.{QuestionKey}
@@ -36,3 +38,10 @@ question_key q = record { number = name_number (lowered q.name); name = lowered 
 abbrev pub path_number : Path → ℕ
 path_number (Udp port) = min port 65536
 path_number (Tcp connection) = 65536
+
+-- the order of asks by path, and by question
+abbrev pub by_path : Order Ask Path
+by_path = record { part_of = λ a. a.path; cmp = path_cmp; number = path_number }
+
+abbrev pub by_question : Order Ask QuestionKey
+by_question = record { part_of = λ a. question_key a.question; cmp = key_cmp; number = λ k. k.number }

@@ -98,9 +98,7 @@ impl<A: Allocator> Inquiries<A> {
         ensures list { self.new ≡ record self.old { asks = without_path path self.old.asks ++ ask ∷ [] } }
         ensures listed { AreListed self.new }
     {
-        let Some(ended) = self.table.take(path) else {
-            unreachable!();
-        };
+        let ended = self.table.take(self.table.listed_on(path));
         self.table.put(KeyedAsk::of(ask));
         ended
     }
@@ -112,7 +110,10 @@ impl<A: Allocator> Inquiries<A> {
         ensures list { self.new ≡ record self.old { asks = without_path path self.old.asks } }
         ensures listed { AreListed self.new }
     {
-        self.table.take(path)
+        let Ok(place) = self.table.place_on(path) else {
+            return None;
+        };
+        Some(self.table.take(place))
     }
 
     /// The ask on a path, with the key of its question. `None` exactly if no ask is listed on the

@@ -1,18 +1,17 @@
 //! An ask with the key of its question.
 
 ghost use Rattle.std.specs.Prelude.{◌≡◌};
-ghost use Rattle.outstanding.specs.Orders.{key_cmp, name_number, octets_number, path_cmp, question_key};
+ghost use Rattle.outstanding.specs.Orders.{key_cmp, name_number, octets_number, question_key};
 
-use crate::ask::{Ask, Path};
+use crate::ask::Ask;
 use dns_message::{NameKey, Question, QuestionRef};
 use std::alloc::{Allocator, Global};
 use std::cmp::Ordering;
 use std::marker::Model;
 
 /// A question for comparing: keys are equal exactly if questions are, letter case aside. The number
-/// of the name is compared first. A searched list has the number next to each key of a slab
-/// (`NumberedKey`), so most questions are distinguished without a look at their names, which are
-/// far apart in memory. The number is no hash against strangers: names chosen for equal numbers are
+/// of the name is compared first. An index has the number next to each key of a slab, so most
+/// questions are distinguished without a look at their names, which are far apart in memory. The number is no hash against strangers: names chosen for equal numbers are
 /// distinguished by their octets, at the cost of a search without numbers.
 #[derive(Clone, Copy, PartialEq, Eq, PartialOrd, Ord)]
 pub struct QuestionKey {
@@ -143,19 +142,5 @@ impl<A: Allocator> KeyedAsk<A> {
         ensures { result.now ≡ question_key self.now.question }
     {
         &self.key
-    }
-
-    /// The order of the ask's path and `path`.
-    pub(crate) fn cmp_path(&self, path: Path) -> Ordering
-        ensures { result ≡ path_cmp self.now.path path }
-    {
-        self.ask.path.cmp(&path)
-    }
-
-    /// The order of the ask's question and `key`.
-    pub(crate) fn cmp_question(&self, key: &QuestionKey) -> Ordering
-        ensures { result ≡ key_cmp (question_key self.now.question) key.now }
-    {
-        self.key.compare(key)
     }
 }

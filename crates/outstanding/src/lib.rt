@@ -7,8 +7,7 @@ mod draws;
 mod inquiries;
 mod keyed;
 mod laws;
-mod numbered;
-mod places;
+mod orders;
 mod table;
 
 pub use ask::{Ask, Path};
@@ -17,5 +16,4 @@ pub use draws::draw;
 pub use inquiries::{Inquiries, Refusal};
 pub use keyed::{KeyedAsk, QuestionKey};
 pub use laws::{ended_is_unlisted, next_may_begin, unlisted_stays_so};
-pub use numbered::NumberedKey;
 pub use suffix_routes::Peer;

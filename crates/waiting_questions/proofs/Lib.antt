@@ -1,10 +1,4 @@
-pub mod Lists
-pub mod Counts
 pub mod Settled
-pub mod Keys
-pub mod Ranges
-pub mod Numbered
-pub mod Indexed
-pub mod SendingOn
-pub mod Fates
+pub mod Tables
+pub mod Ended
 pub mod CallerLemmas

@@ -1,13 +1,14 @@
 -- A list of questions after their fates.
-use Rattle.std.proofs.Common.{◌≡◌, ℕ, zero, suc, List, [], ◌∷◌, ◌++◌, length, take, slice_get, Bool, true, false, cond, Option, Some, refl, sym, ap, ◌∙◌, arith}
+use Rattle.std.proofs.Common.{◌≡◌, ℕ, zero, suc, ◌≤◌, List, [], ◌∷◌, ◌++◌, length, take, drop, slice_get, Bool, true, false, cond, Option, Some, refl, sym, ap, ◌∙◌, arith, length-append}
 use Rattle.std.specs.Prelude.{filter, map}
 use Rattle.std.specs.List.{cons_option}
 use Rattle.std.proofs.lemmas.Bool.{cond-true, cond-false}
 use Rattle.std.proofs.lemmas.Option.{none-some, same_Some}
+use Rattle.std.proofs.lemmas.List.Elements.{filter-append}
 use Rattle.dns_message.specs.Values.{Question}
 use Rattle.waiting_questions.specs.Values.{Waiting, waits_for}
 use Rattle.waiting_questions.specs.Onward.{Onward}
-use Rattle.waiting_questions.specs.Settling.{left_by, settled, settled_by, with_at}
+use Rattle.waiting_questions.specs.Settling.{left_by, settled, settled_by, with_at, IsSettledAt}
 
 -- without fates all stay
 pub all_stay : (q : Question) (xs : List Waiting) → settled q [] xs ≡ xs
@@ -57,3 +58,29 @@ settled_each q f (x ∷ xs) = by (waits_for q x) refl (settled_each q f xs)
         → settled q (map f (cond b (x ∷ filter (waits_for q) xs) (filter (waits_for q) xs))) (x ∷ xs) ≡ cons_option (cond b (left_by (f x) x) (Some x)) (settled_by q f xs)
     by true e rest = gets_first q (f x) (map f (filter (waits_for q) xs)) x xs e ∙ ap (cons_option (left_by (f x) x)) rest
     by false e rest = passed_over q (map f (filter (waits_for q) xs)) x xs e ∙ ap (λ (ys : List Waiting). x ∷ ys) rest
+
+-- ---- the last fate
+
+-- no fate is left
+pub none_left : (q : Question) (fates : List (Option Onward)) (xs : List Waiting) → length fates ≡ 0 → settled q fates xs ≡ xs
+none_left q [] xs none = all_stay q xs
+none_left q (fate ∷ fates) xs none = absurd (omega (arith, none))
+
+module _ (q : Question) (fates left : List (Option Onward)) (fate : Option Onward) (n : ℕ) (xs ys : List Waiting) (are : fates ≡ left ++ fate ∷ []) (long : n ≡ length left) (at : IsSettledAt q n fate xs ys) where
+  pub next_settled : settled q left ys ≡ settled q fates xs
+  next_settled =
+      ap (settled q left) at.left
+      ∙ sym (last_fate q left fate xs at.place at.waiting at.stands at.waits (at.others ∙ long))
+      ∙ ap (λ (fs : List (Option Onward)). settled q fs xs) (sym are)
+
+  pub next_enough : length left ≤ length (filter (waits_for q) ys)
+  next_enough =
+      let rest : List Waiting = cons_option (left_by fate at.waiting) (drop (suc at.place) xs) in
+      omega (
+        arith,
+        long,
+        at.others,
+        ap (λ (zs : List Waiting). length (filter (waits_for q) zs)) at.left,
+        ap (λ (zs : List Waiting). length zs) (filter-append (waits_for q) (take at.place xs) rest),
+        length-append (filter (waits_for q) (take at.place xs)) (filter (waits_for q) rest),
+      )

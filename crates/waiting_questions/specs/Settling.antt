@@ -1,5 +1,5 @@
 -- The fates of questions that wait for a reply: gone, or redirected.
-use Rattle.std.specs.Prelude.{ℕ, suc, if◌then◌else◌, Bool, List, [], ◌∷◌, ◌++◌, length, filter, take, drop, option_map}
+use Rattle.std.specs.Prelude.{◌≡◌, ℕ, suc, if◌then◌else◌, true, List, [], ◌∷◌, ◌++◌, length, filter, take, drop, option_map, slice_get}
 use Rattle.std.specs.Prelude.{Option, Some}
 use Rattle.std.specs.List.{cons_option, filter_map}
 use Rattle.dns_message.specs.Values.{Question}
@@ -26,6 +26,11 @@ settled_by q f xs = filter_map (λ x. if waits_for q x then left_by (f x) x else
 abbrev pub with_at : {X : Type 0} → List X → ℕ → Option X → List X
 with_at xs place o = take place xs ++ cons_option o (drop (suc place) xs)
 
--- the number of passing keys before a place
-abbrev pub earlier : (ℕ → Bool) → List ℕ → ℕ → ℕ
-earlier p keys place = length (filter p (take place keys))
+-- the question with n others waiting for q before it has got this fate
+pub record IsSettledAt (q : Question) (n : ℕ) (fate : Option Onward) (xs ys : List Waiting) : Type 0 where
+  pub place : ℕ
+  pub waiting : Waiting
+  pub stands : slice_get xs place ≡ Some waiting
+  pub waits : waits_for q waiting ≡ true
+  pub others : length (filter (waits_for q) (take place xs)) ≡ n
+  pub left : ys ≡ with_at xs place (left_by fate waiting)

@@ -3,12 +3,10 @@
 ghost use Rattle.std.specs.Prelude.{◌≡◌};
 ghost use Rattle.outstanding.specs.Orders.{question_key};
 ghost use Rattle.waiting_questions.specs.Onward.{redirected};
-ghost use Rattle.waiting_questions.specs.Indexes.{to_question};
 
 use crate::waiting::{Onward, Waiting};
 use outstanding::QuestionKey;
 use std::alloc::{Allocator, Global};
-use std::cmp::Ordering;
 use std::marker::Model;
 
 /// A `Waiting` with the precomputed key of its wanted question. Contracts see the `Waiting` alone.
@@ -60,12 +58,5 @@ impl<A: Allocator> KeyedWaiting<A> {
         ensures { result.now ≡ question_key self.now.wanted }
     {
         &self.key
-    }
-
-    /// The order of the wanted question and `key`.
-    pub(crate) fn cmp_question(&self, key: &QuestionKey) -> Ordering
-        ensures { result ≡ to_question key.now self.now }
-    {
-        self.key.compare(key)
     }
 }

@@ -3,7 +3,7 @@
 #![tactic(auto)]
 
 mod keyed;
-mod places;
+mod orders;
 mod table;
 mod waiting;
 mod waiting_questions;

@@ -1,21 +1,20 @@
 //! The waiting questions.
 
-ghost use Rattle.std.specs.Prelude.{◌≡◌, ◌<◌, ◌≤◌, ◌∷◌, ◌++◌, [], true, not, drop, filter, length, None, Some, IsSome};
-ghost use Rattle.std.specs.Prelude.{MatchOption, OnErr, OnOk, slice_get, slice_index};
+ghost use Rattle.std.specs.Prelude.{◌≡◌, ◌<◌, ◌≤◌, ◌∷◌, ◌++◌, [], true, not, drop, filter, length, None, Some};
+ghost use Rattle.std.specs.Prelude.{MatchOption, OnErr, OnOk, slice_get};
 ghost use Rattle.std.specs.List.{between, list_any, AllByRecursion};
-ghost use Rattle.slab.specs.Slab.{get};
+ghost use Rattle.ordered_keys.specs.Indexes.{keys_of, under};
 ghost use Rattle.waiting_questions.specs.Values.{waits_for};
-ghost use Rattle.waiting_questions.specs.Indexes.{keys_of, waiting_under, ArePlaces};
+ghost use Rattle.waiting_questions.specs.Indexes.{ArePlaces};
 ghost use Rattle.waiting_questions.specs.Settling.{settled};
 
 use crate::keyed::KeyedWaiting;
 use crate::table::Table;
 use crate::waiting::{Onward, Waiting};
 use dns_message::Question;
-use outstanding::{KeyedAsk, NumberedKey, QuestionKey};
-use slab::Slab;
+use ordered_keys::{Entries, Index};
+use outstanding::{KeyedAsk, QuestionKey};
 use std::alloc::{AllocError, Allocator, Global};
-use std::collections::VecDeque;
 use std::marker::Model;
 
 /// The waiting questions, in the order of arrival.
@@ -25,12 +24,12 @@ pub struct WaitingQuestions<A: Allocator = Global> {
 }
 
 impl<A: Allocator> Model for WaitingQuestions<A> {
-    ghost use Rattle.waiting_questions.specs.Indexes.{has_room, items_of, IsIndexed};
+    ghost use Rattle.waiting_questions.specs.Indexes.{has_room, questions_of, IsIndexed};
     ghost use Rattle.waiting_questions.specs.Values.{WaitingList};
 
     ghost Value = { WaitingList };
 
-    ghost view = { λ w. record { items = items_of w.table; has_room = has_room w.table } };
+    ghost view = { λ w. record { items = questions_of w.table; has_room = has_room w.table } };
 
     ghost invariant = { λ w. IsIndexed w.table };
 }
@@ -136,7 +135,7 @@ impl<A: Allocator> WaitingQuestions<A> {
         let (start, end) = self.table.range(&key);
         let waits = end - start;
         match self.table.first() {
-            Some(first) => waits > usize::from(first.cmp_question(&key).is_eq()),
+            Some(first) => waits > usize::from(first.key().compare(&key).is_eq()),
             None => false,
         }
     }
@@ -152,8 +151,8 @@ impl<A: Allocator> WaitingQuestions<A> {
 /// The questions that wait for one question, in the order of arrival.
 #[derive(Drop)]
 pub struct WaitingFor<'a, A: Allocator = Global> {
-    waiting: &'a Slab<KeyedWaiting<A>, A>,
-    keys: &'a VecDeque<NumberedKey, A>,
+    waiting: &'a Entries<KeyedWaiting<A>, A>,
+    keys: &'a Index<A>,
     /// The place of the first of their keys.
     start: usize,
     /// The place after the last of their keys.
@@ -163,26 +162,27 @@ pub struct WaitingFor<'a, A: Allocator = Global> {
 impl<'a, A: Allocator> Model for WaitingFor<'a, A> {
     ghost use Rattle.std.specs.Prelude.{List};
     ghost use Rattle.std.specs.List.{between};
+    ghost use Rattle.ordered_keys.specs.Indexes.{keys_of, under};
     ghost use Rattle.waiting_questions.specs.Values.{Waiting};
-    ghost use Rattle.waiting_questions.specs.Indexes.{keys_of, waiting_under, ArePlaces};
+    ghost use Rattle.waiting_questions.specs.Indexes.{ArePlaces};
 
     ghost Value = { List Waiting };
 
-    ghost view = { λ t. waiting_under t.waiting.now (between t.start t.end (keys_of t.keys.now.items)) };
+    ghost view = { λ t. under t.waiting.now.slab (between t.start t.end (keys_of t.keys.now.keys.items)) };
 
-    ghost invariant = { λ t. ArePlaces t.waiting.now t.keys.now.items t.start t.end };
+    ghost invariant = { λ t. ArePlaces t.waiting.now.slab t.keys.now.keys.items t.start t.end };
 }
 
 impl<'a, A: Allocator> WaitingFor<'a, A> {
     /// The questions under the keys from one place up to another.
     fn new(
-        waiting: &'a Slab<KeyedWaiting<A>, A>,
-        keys: &'a VecDeque<NumberedKey, A>,
+        waiting: &'a Entries<KeyedWaiting<A>, A>,
+        keys: &'a Index<A>,
         start: usize,
         end: usize,
     ) -> WaitingFor<'a, A>
-        requires { ArePlaces waiting.now keys.now.items start end }
-        ensures { result ≡ waiting_under waiting.now (between start end (keys_of keys.now.items)) }
+        requires { ArePlaces waiting.now.slab keys.now.keys.items start end }
+        ensures { result ≡ under waiting.now.slab (between start end (keys_of keys.now.keys.items)) }
     {
         WaitingFor {
             waiting,
@@ -204,19 +204,6 @@ impl<'a, A: Allocator> WaitingFor<'a, A> {
         requires { place < length self.now }
         ensures { slice_get self.now place ≡ Some result.now }
     {
-        question_at(self.waiting, self.keys, self.start + place)
+        self.waiting.at(self.keys.key(self.start + place)).waiting()
     }
-}
-
-/// The question under the key at a place.
-fn question_at<'a, A: Allocator>(
-    waiting: &'a Slab<KeyedWaiting<A>, A>,
-    keys: &VecDeque<NumberedKey, A>,
-    place: usize,
-) -> &'a Waiting<A>
-    requires within { place < length keys.now.items }
-    requires present { IsSome (get waiting.now (slice_index (keys_of keys.now.items) place)) }
-    ensures { get waiting.now (slice_index (keys_of keys.now.items) place) ≡ Some result.now }
-{
-    waiting[keys[place].key()].waiting()
 }

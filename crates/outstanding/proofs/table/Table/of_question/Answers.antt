@@ -1,24 +1,37 @@
 use Rattle.std.proofs.Common.{Some, sym, ap, subst, ◌∙◌}
-use Rattle.slab.specs.Slab.{get}
-use Rattle.outstanding.specs.declared.keyed.QuestionKey.{QuestionKey}
-use Rattle.outstanding.specs.Tables.{IsAt, IsGap, keys_of, to_question}
-use Rattle.outstanding.proofs.KeyNumbers.{read_at, present_at}
-use Rattle.outstanding.proofs.Indexed.{question_found, question_absent}
+use Rattle.dns_message.specs.Questions.{same_question}
+use Rattle.ordered_keys.specs.Indexes.{IsFound, IsRange}
+use Rattle.ordered_keys.proofs.Found.{listed_key, passed_key, present_at}
+use Rattle.ordered_keys.proofs.Indexed.{none_for}
+use Rattle.outstanding.specs.OrderLaws.{question_is_order}
+use Rattle.outstanding.specs.Orders.{by_question, question_key}
+use Rattle.outstanding.specs.Tables.{asks_of}
+use Rattle.outstanding.proofs.Tables.{few_of, questions_agree}
+use Rattle.outstanding.proofs.Unique.{found, none_found}
 use Rattle.outstanding.proofs.table.Table.of_question.Goals as goal
 
-pub index-requires-in-Ok : goal.index-requires-in-Ok
-index-requires-in-Ok g c =
-    present_at c.args.self.now.asks c.args.self.now.by_question.items c.in-Ok.place c.key.result c.index.result.now c.requires.keys.questions c.in-Ok.ensures.found.in_range c.index.ensures c.key.ensures.key
+pub at-requires : goal.at-requires
+at-requires g c =
+    let t = c.args.self.now in
+    present_at by_question question_is_order t.asks.slab t.by_question.keys.items t.asks.arrivals.keys c.requires.indexed.questions c.in-Ok.place c.key.result c.in-Ok.ensures.found.within c.key.ensures.key
 
 pub returns-in-Ok : goal.returns-in-Ok
 returns-in-Ok g c question same =
-    let is = read_at c.args.self.now.by_question.items c.in-Ok.place c.key.result c.index.result.now c.in-Ok.ensures.found.in_range c.index.ensures c.key.ensures.key in
-    question_found c.args.self.now.asks (keys_of c.args.self.now.by_path.items) (keys_of c.args.self.now.by_question.items) c.args.self.now.by_arrival.keys c.requires.keys question c.in-Ok.place
-    (subst (λ (k : QuestionKey). IsAt (to_question k) c.args.self.now.asks (keys_of c.args.self.now.by_question.items) c.in-Ok.place) same c.in-Ok.ensures.found)
-    c.index-in-Ok.result.now (ap (get c.args.self.now.asks) is ∙ c.index-in-Ok.ensures)
+    let t = c.args.self.now in
+    let items = t.by_question.keys.items in
+    let keys = t.asks.arrivals.keys in
+    let index = c.requires.indexed.questions in
+    let at = c.in-Ok.ensures.found in
+    found by_question t.asks.slab keys c.requires.indexed.asks (λ a. same_question a.question question) (question_key question) (questions_agree question) (few_of question (asks_of t) c.requires.apart) c.key.result
+    (listed_key by_question question_is_order t.asks.slab items keys index c.in-Ok.place c.key.result at.within c.key.ensures.key)
+    (passed_key by_question question_is_order t.asks.slab items keys index c.in-Ok.place c.key.result at.within c.key.ensures.key (question_key question) (subst (λ k. IsFound by_question t.asks.slab k items c.in-Ok.place) same at))
+    c.at.result.now c.at.ensures
     ∙ ap Some (sym c.ask.ensures)
 
 pub returns-in-Err : goal.returns-in-Err
 returns-in-Err g c question same =
-    question_absent c.args.self.now.asks (keys_of c.args.self.now.by_path.items) (keys_of c.args.self.now.by_question.items) c.args.self.now.by_arrival.keys c.requires.keys question c.in-Err.field-0
-    (subst (λ (k : QuestionKey). IsGap (to_question k) c.args.self.now.asks (keys_of c.args.self.now.by_question.items) c.in-Err.field-0) same c.in-Err.ensures.absent)
+    let t = c.args.self.now in
+    let items = t.by_question.keys.items in
+    none_found _ _ (questions_agree question) (asks_of t)
+    (none_for by_question question_is_order t.asks.slab items t.asks.arrivals.keys c.requires.indexed.questions (question_key question) c.in-Err.field-0
+    (subst (λ k. IsRange by_question t.asks.slab k items c.in-Err.field-0 c.in-Err.field-0) same c.in-Err.ensures.absent))
