@@ -421,7 +421,7 @@ module _ {T K : Type 0} (o : Order T K) (lawful : IsOrder o) where
     front = take_at (take rank keys) (drop (suc rank) keys) rank (length-take-le rank keys (omega (arith, within)))
 
     -- the others of its part
-    other_those : ℕ → Bool
+    abbrev other_those : ℕ → Bool
     other_those k = if k == item.key then false else those k
 
     other_same : All (λ k. other_those k ≡ those k) (remove keys rank)

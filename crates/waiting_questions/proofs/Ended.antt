@@ -74,7 +74,7 @@ module _ (s : Slab Waiting) (items : List NumberedKey) (keys : List ℕ) (index 
         (subst (Contains keys) (its none) (listed by_wanted wanted_is_order s items keys index (place - 1) none within))
         (ap not (ap ending.gone (sym (its none)) ∙ ending.before (place - 1) none (omega arith) (omega (arith, some)))))
 
-    now_gone : ℕ → Bool
+    abbrev now_gone : ℕ → Bool
     now_gone k = if k == key then true else ending.gone k
 
     other : (k : ℕ) → k ≢ key → now_gone k ≡ ending.gone k
@@ -133,7 +133,7 @@ module _ (s : Slab Waiting) (items : List NumberedKey) (keys : List ℕ) (index 
     first : IsEnding s items keys s' keys' start end
     first = subst (λ (n : ℕ). IsEnding s items keys s' keys' n end) at_start ending
 
-    left : List NumberedKey
+    abbrev left : List NumberedKey
     left = filter (λ n. not (first.gone n.key)) items
 
     left_items : left ≡ remove_range items start end
