@@ -1,4 +1,4 @@
-use Rattle.std.proofs.Common.{◌≡◌, ◌<◌, Less, Equal, Greater, sym, ◌∙◌, inl, inr}
+use Rattle.std.proofs.Common.{◌≡◌, ◌<◌, Less, Equal, Greater, sym, ◌∙◌, inl, inr, arith}
 use Rattle.std.proofs.lemmas.Bool.{cases_lt}
 use Rattle.ordered_keys.specs.declared.numbered.NumberedKey.{NumberedKey}
 use Rattle.ordered_keys.proofs.index.Index.place_of.Goals as goal
