@@ -1,7 +1,7 @@
 //! The orders by which asks are found.
 
 ghost use Rattle.outstanding.specs.OrderLaws.{path_is_order, question_is_order};
-ghost use Rattle.outstanding.specs.Tables.{by_path, by_question};
+ghost use Rattle.outstanding.specs.Orders.{by_path, by_question};
 
 use crate::ask::Path;
 use crate::keyed::{KeyedAsk, QuestionKey};
