@@ -34,8 +34,10 @@ class NameServer:
         self.tcp = socket.create_server((address, self.port), backlog=64)
         self.udp = socket.socket(type=socket.SOCK_DGRAM)
         self.udp.bind((address, self.port))
-        for serve in (self.serve_udp, self.serve_tcp):
-            threading.Thread(target=serve, daemon=True).start()
+        self.serving = [threading.Thread(target=serve, daemon=True)
+                        for serve in (self.serve_udp, self.serve_tcp)]
+        for each in self.serving:
+            each.start()
 
     @staticmethod
     def framing(reply_to):
@@ -43,11 +45,15 @@ class NameServer:
         return lambda stream, query: stream.sendall(framed(reply_to(query)))
 
     def stop(self, *sockets):
-        """Closes these sockets, or both. A shutdown wakes a waiting thread."""
+        """Closes these sockets, or both. A shutdown wakes a waiting thread; after both, the address
+        is free for another server."""
         for each in sockets or (self.udp, self.tcp):
             with contextlib.suppress(OSError):
                 each.shutdown(socket.SHUT_RDWR)
             each.close()
+        if not sockets and threading.current_thread() not in self.serving:
+            for each in self.serving:
+                each.join(timeout=1)
 
     def serve_udp(self):
         while True:

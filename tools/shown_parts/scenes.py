@@ -1,6 +1,7 @@
 """What has to be there before a page's first command, or before a single command."""
 import datetime
 import pathlib
+import signal
 import struct
 import subprocess
 
@@ -48,13 +49,20 @@ def captured(_office):
     """A capture with a question, as seen.pcap and in the ring."""
     RING.mkdir(parents=True, exist_ok=True)
     if not (RING / "seen.pcap3").exists():
-        capture = "timeout -s INT 2.5 tcpdump -U -i any -w /tmp/seen.pcap 'port 53 or icmp'"
-        shell(f"{capture} & sleep 1; {ASKED}; wait")
+        for older in RING.iterdir():
+            older.unlink()
+        words = ["tcpdump", "-U", "-i", "any", "-w", "/tmp/seen.pcap", "port 53 or icmp"]
+        with subprocess.Popen(words, stderr=subprocess.PIPE, text=True) as capture:
+            next(line for line in capture.stderr if "listening on" in line)
+            shell(ASKED)
+            shell("for _ in {1..50}; do tcpdump -r /tmp/seen.pcap dst port 53 | grep -q . && break; "
+                  "sleep 0.1; done")
+            capture.send_signal(signal.SIGINT)
         shell(f"cp /tmp/seen.pcap {RING}/seen.pcap3; cp /tmp/seen.pcap seen.pcap")
 
 
 def morning(office):
-    """The ring's capture is from ten o'clock."""
+    """The ring's only capture is from ten o'clock."""
     captured(office)
     capture = RING / "seen.pcap3"
     octets = bytearray(capture.read_bytes())
@@ -64,7 +72,8 @@ def morning(office):
         seconds, _, size = struct.unpack_from("<3I", octets, at)
         struct.pack_into("<I", octets, at, ten + seconds - first)
         at += 16 + size
-    capture.write_bytes(octets)
+    (RING / "seen.pcap4").write_bytes(octets)
+    capture.unlink()
 
 
 def company_down(office):
