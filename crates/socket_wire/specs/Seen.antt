@@ -15,10 +15,10 @@ use Rattle.socket_wire.specs.Asks.{SeenAsks}
 use Rattle.socket_wire.specs.declared.numbers.Numbers.{Numbers}
 use Rattle.socket_wire.specs.declared.words.Words.{Words}
 
--- The system's calls so far, in order; the allocator; what may be ready; the sockets of datagrams and for new connections; the
--- connections and the numbers given to them; the sockets of asks; what was read last; the words;
--- the time, in ms, for which a question may wait; the moment of the last sweep and the number of
--- sweeps; and where the turns of clients, asks and servers go on.
+-- The system's calls so far, in order; the allocator; what may be ready; the sockets of datagrams
+-- and for new connections; the connections and the numbers given to them; the sockets of asks; what
+-- was read last; the words; the time, in ms, for which a question may wait; the moment of the last
+-- sweep and the number of sweeps; and where the turns of clients, asks and servers go on.
 pub record SeenSockets (A : Type 0) : Type 0 where
   pub calls : List Call
   pub alloc : A
